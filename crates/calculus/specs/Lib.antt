@@ -1,0 +1,20 @@
+-- Theorems about the calculus: confluence, equality, comparison and categories.
+pub mod Star
+pub mod Renaming
+pub mod Cutoffs
+pub mod Reductions
+pub mod Parallel
+pub mod Equality
+pub mod Shapes
+pub mod HeadForms
+pub mod Comparison
+pub mod Scoped
+pub mod Resolved
+pub mod CategoryScoped
+pub mod CategoryUnique
+pub mod Functions
+pub mod CategoryFound
+pub mod LineChecks
+pub mod MeansResolved
+pub mod CategoryContext
+pub mod CellSizes

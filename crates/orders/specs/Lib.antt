@@ -1,0 +1,18 @@
+-- Larger limits and new orders: what document 01's demand 3 claims, proved.
+pub mod LimitsOfRuns
+-- The renumbering lemma: steps, categories, names and derivations over lines with new numbers.
+pub mod Renumbering
+pub mod RenumberedSteps
+pub mod RenumberedCategories
+pub mod RenumberedNames
+-- Its instances: appending lines, joining books, and any selection or order of a book's lines.
+pub mod Appending
+pub mod Joining
+pub mod Standing
+pub mod Mentioning
+pub mod Rearranging
+pub mod Selecting
+-- New orders.
+pub mod Deciding
+pub mod Walking
+pub mod NewOrders
