@@ -1,0 +1,60 @@
+use mathlib.Core.Path.{sym, ap, _∙_}
+use Prim.Native.Nat.{ℕ, _+_, _*_, _-_}
+use native.Mathlib.Omega.{arith}
+use lib.ListN.{getD}
+use borrow.Author.Needs.{needs}
+use Rattle.cells.specs.RowLaws.{row-cell-of-none, row-cell-is, row-cell-past}
+use Rattle.cells.proofs.rows.field.Statement.{statement}
+use Rattle.cells.proofs.rows.field.Tie as tie
+
+returns : tie.Need-returns
+returns c = (sym (row-cell-of-none _ _ _ (c .if1 .taken)), omega arith)
+
+sub-before : tie.Need-sub-before
+sub-before c = search needs
+
+returns-2 : tie.Need-returns-2
+returns-2 c = (sym (row-cell-past _ _ _ (c .before .if1 .left) (omega arith)), omega arith)
+
+mul-row : tie.Need-mul-row
+mul-row c = search needs
+
+sub-if3 : tie.Need-sub-if3
+sub-if3 c = search needs
+
+returns-3 : tie.Need-returns-3
+returns-3 c = (sym (row-cell-past _ _ _ (c .before .before .if1 .left) (omega arith)), omega arith)
+
+add-result : tie.Need-add-result
+add-result c = search needs
+
+mul-result : tie.Need-mul-result
+mul-result c = search needs
+
+shared-slice-read-result : tie.Need-shared-slice-read-result
+shared-slice-read-result c = search needs
+
+cast-result : tie.Need-cast-result
+cast-result c = omega (arith, c .shared-slice-known .given (8 * (c .before .before .before .before .args .v - 1) + c .before .before .before .before .args .k))
+
+returns-4 : tie.Need-returns-4
+returns-4 c = (
+  ap (λ (i : ℕ). getD (c .before .before .before .before .args .table .now) i 0) {y = 8 * c .before .before .before .before .args .v + c .before .before .before .before .args .k - 8} (omega arith) ∙ sym (row-cell-is _ _ _ (c .before .before .before .if1 .left)),
+  omega (arith, c .shared-slice-known .given (8 * (c .before .before .before .before .args .v - 1) + c .before .before .before .before .args .k)),
+)
+
+pub field-spec : {M : Type 1} → statement M
+field-spec =
+    tie.close
+    (tie.spec
+    returns
+    sub-before
+    returns-2
+    mul-row
+    sub-if3
+    returns-3
+    add-result
+    mul-result
+    shared-slice-read-result
+    cast-result
+    returns-4)

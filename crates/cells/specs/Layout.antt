@@ -1,0 +1,58 @@
+-- The working store of 128 × limit cells, in units of `limit` cells:
+--     0    2  the line's cells before storage; then the term cells that they displaced
+--     2   24  free
+--    26   36  categories, one unit a level
+--    62   64  comparison: left and right side at each depth 1 to 32
+--   126    1  scratch: an expression copied from the term store
+--   127    1  result: what a substitution, an instantiation or a lift makes, before it is moved in place
+-- Whatever works at a unit writes in it and above it alone; so every frame is a unit and all that lies above it.
+use mathlib.Core.Path.{_≡_}
+use Prim.Native.Nat.{ℕ, _+_, _*_, _-_, _≤_, _<_}
+use native.Mathlib.Omega.{arith}
+use native.Mathlib.Nat.{add-mul, mul-le-mul-right}
+
+-- where unit k starts
+unfoldable pub unitAt : ℕ → ℕ → ℕ
+unitAt limit k = k * limit
+
+abbrev pub levelUnit : ℕ → ℕ
+levelUnit level = 26 + level
+
+-- the left side of a pair with `levels` levels left; its right side is the unit behind it
+abbrev pub sideUnit : ℕ → ℕ
+sideUnit levels = 126 - 2 * levels
+
+abbrev pub scratchUnit : ℕ
+scratchUnit = 126
+
+abbrev pub resultUnit : ℕ
+resultUnit = 127
+
+-- ---- laws: units follow each other without gaps
+
+pub unit-next : (limit k : ℕ) → unitAt limit (k + 1) ≡ unitAt limit k + limit
+unfolding unitAt
+unit-next limit k = omega (arith, add-mul k 1 limit)
+
+-- a unit lies below every later one
+pub unit-below : (limit : ℕ) {j k : ℕ} → j < k → unitAt limit j + limit ≤ unitAt limit k
+unfolding unitAt
+unit-below limit {j} {k} l =
+    let h : (j + 1) * limit ≤ k * limit = mul-le-mul-right limit (omega arith) in
+    omega (arith, h, add-mul j 1 limit)
+
+-- every unit of the store lies inside its 128 × limit cells
+pub unit-inside : (limit : ℕ) {k : ℕ} → k < 128 → unitAt limit k + limit ≤ 128 * limit
+unfolding unitAt
+unit-inside limit l = unit-below limit l
+
+-- the last unit's end is the store's
+pub result-ends : (limit : ℕ) → unitAt limit resultUnit + limit ≡ 128 * limit
+unfolding unitAt
+result-ends limit = omega arith
+
+-- no unit starts past 128 × 4,096
+pub unit-small : (limit k : ℕ) → limit ≤ 4096 → k < 128 → k * limit ≤ 524288
+unit-small limit k h l =
+    let a : k * limit ≤ 128 * limit = mul-le-mul-right limit (omega arith) in
+    omega (arith, a)

@@ -1,0 +1,11 @@
+-- What the code says of cells and rows.
+pub mod Cells
+pub mod Rows
+pub mod Layout
+pub mod Results
+pub mod Forests
+pub mod RowLaws
+pub mod Stores
+pub mod Posts
+pub mod CopyLaws
+pub mod SameCells

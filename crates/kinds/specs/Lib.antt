@@ -1,0 +1,2 @@
+-- The kind of a byte.
+pub mod Kinds

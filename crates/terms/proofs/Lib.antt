@@ -1,0 +1,5 @@
+pub mod Writes
+pub mod Walk
+pub mod Turns
+pub mod Leaves
+pub mod Whole

@@ -1,0 +1,129 @@
+-- Lifting, substitution and instantiation as one walk over an expression: they differ at its leaves alone (`type`, a variable,
+-- a bound variable). What the walk says of a forest of expressions and of a leaf.
+use mathlib.Core.Path.{_≡_, refl}
+use mathlib.Core.List.{List, []}
+use Prim.Native.Nat.{ℕ, _+_, _-_, _≤_, _<_}
+use lib.ListN.{length, take}
+use lib.Seq.{sets}
+use native.Mathlib.Numerals.{add-one}
+use Rattle.aut68.specs.Expr.{Expr, Exprs, const, app, abs, nil, cons, firstCell, cells, cellss, countExprs}
+use Rattle.aut68.specs.Substitution.{lift, lifts, substitute, substitutes, instantiate, instantiates}
+use Rattle.cells.specs.Cells.{Formed, AllFormed, AnyVariable, RightCount, Wf, Wfs, At, Below, Wrote}
+use Rattle.terms.specs.Made.{Numbered, Confined, Made}
+
+-- by how many bindings; what for the bound variable; the context's variables and their arguments
+pub data Choice : Type 0 where
+  lifting : ℕ → Choice
+  substituting : Expr → Choice
+  instantiating : List ℕ → Exprs → Choice
+
+-- the walk, from under c bindings
+unfoldable pub graft : Choice → ℕ → Expr → Expr
+graft (lifting d) c e = lift d c e
+graft (substituting a) c e = substitute a c e
+graft (instantiating vs xs) c e = instantiate vs xs c e
+
+unfoldable pub grafts : Choice → ℕ → Exprs → Exprs
+grafts (lifting d) c es = lifts d c es
+grafts (substituting a) c es = substitutes a c es
+grafts (instantiating vs xs) c es = instantiates vs xs c es
+
+-- the variables for which the code finds what the choice puts in
+abbrev pub Allowed : List ℕ → Choice → ℕ → Type 0
+Allowed tb (lifting d) = AnyVariable
+Allowed tb (substituting a) = AnyVariable
+Allowed tb (instantiating vs xs) = Numbered tb vs xs
+
+abbrev pub Fit : List ℕ → Choice → Expr → Type 0
+Fit tb k = Formed (Allowed tb k) (RightCount tb)
+
+abbrev pub Fits : List ℕ → Choice → Exprs → Type 0
+Fits tb k = AllFormed (Allowed tb k) (RightCount tb)
+
+-- ---- which choice the code's arguments stand for
+
+pub data Raises (d : ℕ) (s : List ℕ) : Choice → Type 0 where
+  raises : Raises d s (lifting d)
+
+pub data Puts (tb : List ℕ) (way args count : ℕ) (s : List ℕ) : Choice → Type 0 where
+  puts-bound : {y : Expr} {ry : List ℕ} → way ≡ 1 → Wf tb y → At s args (cells y) ry → Puts tb way args count s (substituting y)
+  puts-variables : {vs : List ℕ} {xs : Exprs} {ra : List ℕ} → way ≡ 2 → Wfs tb xs → countExprs xs ≡ count → At s args (cellss xs) ra
+      → Puts tb way args count s (instantiating vs xs)
+
+-- ---- what a walk writes
+
+-- nothing below `to` is changed
+pub record Kept (w w′ : List ℕ) (to : ℕ) : Type 0 where
+  pub long : length w′ ≡ length w
+  pub below : take to w′ ≡ take to w
+
+-- the cells vs from index `to` on, as far as the store goes, which ends before they do
+pub record Full (w w′ : List ℕ) (to : ℕ) (vs : List ℕ) : Type 0 where
+  pub over : length w < to + length vs
+  pub is : w′ ≡ sets w to (take (length w - to) vs)
+
+-- the cells vs from index `to` on: all of them up to index `at`, or as far as the store goes, where `at` is past its end
+pub record Written (w w′ : List ℕ) (to at : ℕ) (vs : List ℕ) : Type 0 where
+  pub whole : at ≤ length w → Wrote w w′ to at vs
+  pub full : length w < at → Full w w′ to vs
+
+-- Here and below every cell of a result is below top, which is 2 to the width of a cell.
+
+-- what stands for the leaf whose cell is x
+pub record LeafPost (top : ℕ) (Q : Choice → Type 0) (tb w w′ : List ℕ) (x to cut at : ℕ) : Type 0 where
+  pub ahead : to ≤ at
+  pub kept : Kept w w′ to
+  pub means : (k : Choice) → Q k → (e : Expr) → firstCell e ≡ x → Fit tb k e → Below top (cells (graft k cut e))
+      → Written w w′ to at (cells (graft k cut e))
+
+-- a forest is written, and where all of it is, the reading stops behind it
+pub record Grafted (s w w′ rest vs : List ℕ) (to i at : ℕ) : Type 0 where
+  pub written : Written w w′ to at vs
+  pub read : at ≤ length w → At s i [] rest
+
+-- n expressions of s from index `from` on
+pub record GraftPost (top : ℕ) (P : List ℕ → Choice → Type 0) (tb s w w′ : List ℕ) (from n to cut i at : ℕ) : Type 0 where
+  pub past : from ≤ i
+  pub ahead : to ≤ at
+  pub kept : Kept w w′ to
+  pub means : (k : Choice) → P s k → (es : Exprs) (rest : List ℕ) → countExprs es ≡ n → Fits tb k es → At s from (cellss es) rest
+      → Below top (cellss (grafts k cut es)) → Grafted s w w′ rest (cellss (grafts k cut es)) to i at
+
+-- the one expression at e, made in at most `room` cells
+pub record WholePost (top : ℕ) (P : List ℕ → Choice → Type 0) (tb w w′ : List ℕ) (e to room r : ℕ) : Type 0 where
+  pub confined : Confined w w′ to room r
+  pub made : (k : Choice) → P (take to w) k → (x : Expr) (rest : List ℕ) → to + room ≤ length w → Fit tb k x → At (take to w) e (cells x) rest
+      → Below top (cells (graft k 0 x)) → Made room (graft k 0 x) r to w w′
+
+-- ---- laws: the walk goes through constants, applications and abstractions
+
+module _ (c : ℕ) where
+  pub graft-const : (k : Choice) (v : ℕ) (xs : Exprs) → graft k c (const v xs) ≡ const v (grafts k c xs)
+  unfolding graft grafts lift substitute instantiate
+  graft-const (lifting d) v xs = refl
+  graft-const (substituting a) v xs = refl
+  graft-const (instantiating vs ys) v xs = refl
+
+  pub graft-app : (k : Choice) (a b : Expr) → graft k c (app a b) ≡ app (graft k c a) (graft k c b)
+  unfolding graft lift substitute instantiate
+  graft-app (lifting d) a b = refl
+  graft-app (substituting y) a b = refl
+  graft-app (instantiating vs ys) a b = refl
+
+  pub graft-abs : (k : Choice) (p t : Expr) → graft k c (abs p t) ≡ abs (graft k c p) (graft k (c + 1) t)
+  unfolding graft lift substitute instantiate
+  graft-abs (lifting d) p t = rw add-one
+  graft-abs (substituting y) p t = rw add-one
+  graft-abs (instantiating vs ys) p t = rw add-one
+
+  pub grafts-nil : (k : Choice) → grafts k c nil ≡ nil
+  unfolding grafts lift substitute instantiate
+  grafts-nil (lifting d) = refl
+  grafts-nil (substituting y) = refl
+  grafts-nil (instantiating vs ys) = refl
+
+  pub grafts-cons : (k : Choice) (e : Expr) (es : Exprs) → grafts k c (cons e es) ≡ cons (graft k c e) (grafts k c es)
+  unfolding graft grafts lift substitute instantiate
+  grafts-cons (lifting d) e es = refl
+  grafts-cons (substituting y) e es = refl
+  grafts-cons (instantiating vs ys) e es = refl
