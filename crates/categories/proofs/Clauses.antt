@@ -1,0 +1,149 @@
+-- The procedure's answers as the code finds them: small actions, and the clauses of `category`, `arguments` and the checks.
+use mathlib.Core.Path.{_≡_, refl, ap, _∙_}
+use mathlib.Core.Bool.{Bool, true, false, false≢true, true≢false}
+use mathlib.Core.List.{List, [], _∷_}
+use Prim.Native.Nat.{ℕ, zero, suc, _≤_, _<_}
+use native.Mathlib.Omega.{arith}
+use lib.Dec.{leb}
+use lib.ListN.{length}
+use borrow.Author.Tests.{le-leb, lt-leb}
+use Rattle.aut68.specs.Procedure.Answer.{Act, Answer, done, stop, andThen, _>>=_, give, ensure, codeOf, notType, tooLarge}
+use Rattle.aut68.specs.Expr.{Expr, Exprs, var, bound, const, app, abs, nil, cons, snoc, size, isType}
+use Rattle.aut68.specs.Substitution.{lift, instantiate}
+use Rattle.aut68.specs.Lines.{Line, Lines}
+use Rattle.aut68.specs.Rules.Names.{IsLine}
+use Rattle.aut68.specs.Rules.Categories.{DomainAt, innermost, outside}
+use Rattle.aut68.specs.Procedure.Compare.{compare}
+use Rattle.aut68.specs.Procedure.Category.{nth, theLine, made, toFunction, overBinding, category, arguments}
+use Rattle.aut68.specs.Procedure.CheckLine.{checkWritten}
+use Rattle.calculus.specs.Functions.{the-line}
+use Rattle.cells.specs.Results.{Result, passed, refused}
+use Rattle.categories.specs.Posts.{wantedFits, applying}
+
+-- ---- answers
+
+-- what follows from the value's being the answer may be said of it too
+pub result-and : {A : Type 0} {R Q : A → Type 0} {code left : ℕ} {m : Answer ℕ A} → Result R code left m → ((a : A) → m ≡ done a left → Q a)
+    → Result (λ a. R a × Q a) code left m
+result-and (passed {a} e h) q = passed e (h, q a refl)
+result-and (refused e) q = refused e
+
+-- one action after another, in either grouping
+pub then-assoc : {A B C : Type 0} (f : A → Act ℕ B) (g : B → Act ℕ C) (m : Answer ℕ A) → andThen (λ a s. andThen g (f a s)) m ≡ andThen g (andThen f m)
+unfolding andThen
+then-assoc f g (done a s) = refl
+then-assoc f g (stop r s) = refl
+
+module _ {R : Expr → Type 0} {code left L budget : ℕ} (e : Expr) where
+  pub made-passed : size e ≤ L → code ≡ 0 → left ≡ budget → R e → Result R code left (made L e budget)
+  unfolding made andThen ensure
+  made-passed h z q r = rw q (go (leb (size e) L) (le-leb _ _ h))
+    where
+      go : (t : Bool) → t ≡ true → Result R code budget (andThen (λ _ s. done e s) (ensure t tooLarge budget))
+      go true x = passed z r
+      go false x = absurd (false≢true x)
+
+  pub made-refused : L < size e → code ≡ 10 → left ≡ budget → Result R code left (made L e budget)
+  unfolding made andThen ensure codeOf
+  made-refused h z q = rw q (go (leb (size e) L) (lt-leb _ _ h))
+    where
+      go : (t : Bool) → t ≡ false → Result R code budget (andThen (λ _ s. done e s) (ensure t tooLarge budget))
+      go true x = absurd (true≢false x)
+      go false x = refused z
+
+-- with the line of a name at hand
+pub at-line : {B : Type 0} {Q : B → Type 0} {code left : ℕ} {ls : Lines} {v : ℕ} {l : Line} (f : Line → Act ℕ B) (b : ℕ) → IsLine ls v l
+    → Result Q code left (f l b) → Result Q code left (andThen f (theLine ls v b))
+unfolding andThen
+at-line f b i h = rw (the-line i b) h
+
+-- ---- bindings
+
+pub domain-of : (sc : List Expr) (i : ℕ) → i < length sc → (p : Expr) × DomainAt p sc i
+domain-of [] i h = absurd (omega arith)
+domain-of (p ∷ sc) zero h = (p, innermost)
+domain-of (p ∷ sc) (suc i) h = let (q, d) = domain-of sc i (omega arith) in (q, outside d)
+
+pub domain-inside : {p : Expr} {sc : List Expr} {i : ℕ} → DomainAt p sc i → i < length sc
+domain-inside innermost = omega arith
+domain-inside (outside d) = let h = domain-inside d in omega arith
+
+pub nth-is : {p : Expr} {sc : List Expr} {i : ℕ} → DomainAt p sc i → (b : ℕ) → nth sc i b ≡ done p b
+unfolding nth
+nth-is innermost b = refl
+nth-is (outside d) b = nth-is d b
+
+-- ---- the clauses of `category`
+
+module _ (ls : Lines) (L : ℕ) {R : Expr → Type 0} {code left : ℕ} (sc : List Expr) (n : ℕ) where
+  pub variable-clause : {v : ℕ} {l : Line} → IsLine ls v l → Result R code left (made L (l .category) n) → Result R code left (category ls L sc (var v) n)
+  unfolding category
+  variable-clause i h = at-line _ n i h
+
+  pub bound-clause : {i : ℕ} {p : Expr} → DomainAt p sc i → Result R code left (made L (lift (suc i) 0 p) n) → Result R code left (category ls L sc (bound i) n)
+  unfolding category andThen
+  bound-clause {i} {p} d h = rw (nth-is d n) h
+
+  pub constant-clause : {v : ℕ} {l : Line} (xs : Exprs) → IsLine ls v l
+      → Result R code left (andThen (λ _. made L (instantiate (l .context) xs 0 (l .category))) (arguments ls L sc xs (l .context) (l .context) nil n))
+      → Result R code left (category ls L sc (const v xs) n)
+  unfolding category
+  constant-clause xs i h = at-line _ n i h
+
+module _ (ls : Lines) (L : ℕ) (sc : List Expr) (n : ℕ) where
+  pub application-clause : (a b : Expr) → category ls L sc (app a b) n
+      ≡ andThen (λ f. category ls L sc a >>= applying ls L a f) (andThen (toFunction ls L) (category ls L sc b n))
+  unfolding category applying
+  application-clause a b = then-assoc (toFunction ls L) (λ f. category ls L sc a >>= applying ls L a f) (category ls L sc b n)
+
+  pub abstraction-clause : (p t : Expr) → category ls L sc (abs p t) n
+      ≡ andThen (λ _. category ls L (p ∷ sc) t >>= λ c. made L (overBinding p c)) (andThen (λ k. ensure (isType k) notType) (category ls L sc p n))
+  unfolding category
+  abstraction-clause p t =
+      then-assoc (λ k. ensure (isType k) notType) (λ _. category ls L (p ∷ sc) t >>= λ c. made L (overBinding p c)) (category ls L sc p n)
+
+  -- one argument, and then the others
+  pub argument-clause : (a : Expr) (xs : Exprs) (v : ℕ) (vs context : List ℕ) (earlier : Exprs) → arguments ls L sc (cons a xs) (v ∷ vs) context earlier n
+      ≡ andThen (λ _. arguments ls L sc xs vs context (snoc earlier a)) (andThen (wantedFits ls L context earlier v) (category ls L sc a n))
+  unfolding category wantedFits
+  argument-clause a xs v vs context earlier =
+      ap (λ (f : Expr → Act ℕ (Unit {0})). andThen f (category ls L sc a n)) (λ i c s. inner c s i)
+      ∙ then-assoc (wantedFits ls L context earlier v) others (category ls L sc a n)
+    where
+      others : Unit {0} → Act ℕ (Unit {0})
+      others _ = arguments ls L sc xs vs context (snoc earlier a)
+
+      wanted : Expr → Line → Act ℕ (Unit {0})
+      wanted c l = made L (instantiate context earlier 0 (l .category)) >>= λ k. compare ls L c k
+
+      last : (c : Expr) (l : Line) (s : ℕ)
+          → andThen (λ k s. andThen others (compare ls L c k s)) (made L (instantiate context earlier 0 (l .category)) s) ≡ andThen others (wanted c l s)
+      last c l s = then-assoc (compare ls L c) others (made L (instantiate context earlier 0 (l .category)) s)
+
+      inner : (c : Expr) (s : ℕ)
+          → andThen (λ l s. andThen (λ k s. andThen others (compare ls L c k s)) (made L (instantiate context earlier 0 (l .category)) s)) (theLine ls v s)
+          ≡ andThen others (wantedFits ls L context earlier v c s)
+      inner c s =
+          ap (λ (f : Line → Act ℕ (Unit {0})). andThen f (theLine ls v s)) (λ i l t. last c l t i)
+          ∙ then-assoc (wanted c) others (theLine ls v s)
+
+-- ---- the checks of a line
+
+pub written-type : (ls : Lines) (L : ℕ) {code left n : ℕ} (c : Expr) → isType c ≡ true → code ≡ 0 → left ≡ n → Result (λ _. Unit {0}) code left (checkWritten ls L c n)
+unfolding checkWritten
+written-type ls L {code} {left} {n} c t z q = rw q (go (isType c) t)
+  where
+    go : (b : Bool) → b ≡ true
+        → Result (λ _. Unit {0}) code n ((elim b as (λ _. Act ℕ (Unit {0})) [ true ↦ give tt | false ↦ (category ls L [] c >>= λ k. ensure (isType k) notType) ]) n)
+    go true e = passed z tt
+    go false e = absurd (false≢true e)
+
+pub written-other : (ls : Lines) (L n : ℕ) {code left : ℕ} (c : Expr) → isType c ≡ false
+    → Result (λ _. Unit {0}) code left (andThen (λ k. ensure (isType k) notType) (category ls L [] c n)) → Result (λ _. Unit {0}) code left (checkWritten ls L c n)
+unfolding checkWritten
+written-other ls L n {code} {left} c t h = go (isType c) t
+  where
+    go : (b : Bool) → b ≡ false
+        → Result (λ _. Unit {0}) code left ((elim b as (λ _. Act ℕ (Unit {0})) [ true ↦ give tt | false ↦ (category ls L [] c >>= λ k. ensure (isType k) notType) ]) n)
+    go true e = absurd (true≢false e)
+    go false e = h

@@ -1,0 +1,174 @@
+-- What was found must be `type`; what is found over a binding; comparison of what was found at two levels.
+use mathlib.Core.Path.{_≡_, refl, sym, ap, _∙_}
+use mathlib.Core.Logic.{_≢_, inl, inr}
+use mathlib.Core.Bool.{Bool, true, false, true≢false, false≢true}
+use mathlib.Core.List.{List, _∷_, _++_, append-assoc}
+use Prim.Native.Nat.{ℕ, _+_, _*_, _-_, _≤_, _<_}
+use native.Mathlib.Omega.{arith}
+use lib.ListN.{length, drop}
+use Rattle.aut68.specs.Procedure.Answer.{ensure, codeOf, notType}
+use Rattle.aut68.specs.Expr.{Expr, type, abs, size, cells, isType}
+use Rattle.aut68.specs.Expr as Expr
+use Rattle.aut68.specs.Procedure.Category.{overBinding}
+use Rattle.aut68.specs.Procedure.Compare.{compare}
+use Rattle.calculus.specs.Functions.{isType-true}
+use Rattle.cells.specs.Cells.{At, Outside, copyCells, moveCells}
+use Rattle.cells.specs.Layout.{unitAt, levelUnit, sideUnit, resultUnit, result-ends}
+use Rattle.cells.specs.Forests.{size-is-length}
+use Rattle.cells.specs.Results.{passed, refused, then-refused, then-passed}
+use Rattle.cells.specs.Stores.{outside-same, at-kept, at-before, at-rest}
+use Rattle.cells.specs.CopyLaws.{copy-at, copy-outside, move-at, move-outside}
+use Rattle.comparison.specs.Posts.{Compares}
+use Rattle.categories.specs.Places.{FoundAt, Held}
+use Rattle.categories.specs.Posts.{Passes, MadePost, IsTypePost, FoundTypePost, ComparePost, OverBindingPost}
+use Rattle.categories.proofs.Clauses.{made-passed, made-refused}
+use Rattle.categories.proofs.Spots.{frame-of, frames, level-below, level-inside, level-result}
+
+-- ---- `type`
+
+ensured : (k : Expr) (b : ℕ) → isType k ≡ true → Passes 0 b (ensure (isType k) notType b)
+unfolding ensure
+ensured k b e = go (isType k) e
+  where
+    go : (t : Bool) → t ≡ true → Passes 0 b (ensure t notType b)
+    go true q = passed refl tt
+    go false q = absurd (false≢true q)
+
+not-ensured : (k : Expr) (b : ℕ) → isType k ≡ false → Passes 8 b (ensure (isType k) notType b)
+unfolding ensure codeOf
+not-ensured k b e = go (isType k) e
+  where
+    go : (t : Bool) → t ≡ false → Passes 8 b (ensure t notType b)
+    go true q = absurd (true≢false q)
+    go false q = refused refl
+
+module _ {w : List ℕ} {limit level found size budget : ℕ} where
+  pub type-refused : found ≢ 0 → FoundTypePost w limit level found size budget found budget
+  type-refused n = record { means = λ small x. then-refused _ n x }
+
+  pub type-passed : {r : Bool} → found ≡ 0 → IsTypePost w limit level r → r ≡ true → FoundTypePost w limit level found size budget 0 budget
+  type-passed z t e = record { means = λ small x. then-passed _ z x (λ k f. ensured k budget (sym (t .means small (f .lies)) ∙ e)) }
+
+  pub type-missed : {r : Bool} → found ≡ 0 → IsTypePost w limit level r → r ≡ false → FoundTypePost w limit level found size budget 8 budget
+  type-missed z t e = record { means = λ small x. then-passed _ z x (λ k f. not-ensured k budget (sym (t .means small (f .lies)) ∙ e)) }
+
+-- ---- comparison
+
+pub units-compared : {tb ts w : List ℕ} {limit budget l r a b : ℕ} {w′ : List ℕ} {code left : ℕ} → l < 36 → r < 36
+    → (limit ≤ 4096 → a ≡ unitAt limit (levelUnit l)) → (limit ≤ 4096 → b ≡ unitAt limit (levelUnit r))
+    → Compares tb ts w limit budget a b 32 w′ code left → ComparePost tb ts w limit budget l r w′ code left
+unfolding compare
+units-compared {w = w} {limit} l36 r36 pa pb c = record {
+  frame = λ small. c .frame small (omega arith);
+  means = λ {ls} {k} {x} {y} B room kk kx ky lx ly.
+      c .means ls k x y _ _ B kx ky (omega arith) (omega arith) (lx .small) (ly .small) room
+      (rw (sym (pa (B .limit))) at (at-before {n = unitAt limit (sideUnit 32)} (omega (arith, level-below limit l36, size-is-length x, lx .small)) (lx .at)))
+      (rw (sym (pb (B .limit))) at (at-before {n = unitAt limit (sideUnit 32)} (omega (arith, level-below limit r36, size-is-length y, ly .small)) (ly .at)));
+}
+
+-- ---- over a binding
+
+over-type : (p c : Expr) → isType c ≡ true → overBinding p c ≡ c
+unfolding overBinding
+over-type p c e = go (isType c) e ∙ sym (isType-true c e)
+  where
+    go : (t : Bool) → t ≡ true → elim t as (λ _. Expr) [ true ↦ type | false ↦ abs p c ] ≡ type
+    go true q = refl
+    go false q = absurd (false≢true q)
+
+over-other : (p c : Expr) → isType c ≡ false → overBinding p c ≡ abs p c
+unfolding overBinding
+over-other p c e = go (isType c) e
+  where
+    go : (t : Bool) → t ≡ false → elim t as (λ _. Expr) [ true ↦ type | false ↦ abs p c ] ≡ abs p c
+    go true q = absurd (true≢false q)
+    go false q = refl
+
+-- two runs, one behind the other
+pub at-join : {w : List ℕ} {i j : ℕ} {xs ys rx ry : List ℕ} → j ≡ i + length xs → At w i xs rx → At w j ys ry → At w i (xs ++ ys) ry
+at-join {w} {xs = xs} {ys} {rx} {ry} e p q =
+    record { is = p .is ∙ ap (λ (l : List ℕ). xs ++ l) (at-rest p ∙ ap (λ (k : ℕ). drop k w) (sym e) ∙ q .is) ∙ sym (append-assoc xs ys ry) }
+
+module _ {e : List ℕ} {t : ℕ} {w : List ℕ} {limit level found size budget : ℕ} where
+  pub over-refused : {code left n : ℕ} → found ≢ 0 → code ≡ found → left ≡ budget → OverBindingPost e t w limit level found size budget w code n left
+  over-refused n z q = record { frame = λ small. outside-same; means = λ p small room a k x. rw (z, q) (then-refused _ n x) }
+
+  pub over-types : {r : Bool} → found ≡ 0 → IsTypePost w limit level r → r ≡ true → OverBindingPost e t w limit level found size budget w 0 size budget
+  over-types z y g = record {
+    frame = λ small. outside-same;
+    means = λ p small room a k x. then-passed _ z x (λ c f.
+        let h : isType c ≡ true = sym (y .means small (f .lies)) ∙ g in
+        let o = over-type p c h in
+        made-passed (overBinding p c) (rw o (f .lies .small)) refl refl (rw o f));
+  }
+
+  pub over-large : {r : Bool} {code left n : ℕ} → found ≡ 0 → IsTypePost w limit level r → r ≡ false → (limit < t + size) → code ≡ 10 → left ≡ budget
+      → OverBindingPost e t w limit level found size budget w code n left
+  unfolding Expr.size
+  over-large z y g h u v = record {
+    frame = λ small. outside-same;
+    means = λ p small room a k x. then-passed _ z x (λ c f.
+        let o = over-other p c (sym (y .means small (f .lies)) ∙ g) in
+        made-refused (overBinding p c) (rw o (omega (arith, f .sized))) u v);
+  }
+
+-- `[x,P]` and what was found behind it
+over-placed : (e : List ℕ) (t : ℕ) (w : List ℕ) (limit level size : ℕ) (p c : Expr) {behind : List ℕ} → level < 36 → 128 * limit ≤ length w → t + size ≤ limit
+    → t ≡ 1 + Expr.size p → At e 0 (5 ∷ cells p) behind → FoundAt w limit level size c
+    → (rest : List ℕ) × At (moveCells (copyCells e 0 t w (unitAt limit resultUnit)) (unitAt limit (levelUnit level)) size (unitAt limit resultUnit + t)) (unitAt limit resultUnit) (cells (abs p c)) rest
+unfolding cells
+over-placed e t w limit level size p c {behind} l room fits k a f =
+    let R = unitAt limit resultUnit in
+    let U = unitAt limit (levelUnit level) in
+    let w₁ = copyCells e 0 t w R in
+    let kt : t ≡ length (5 ∷ cells p) = omega (arith, size-is-length p) in
+    let kc : size ≡ length (cells c) = f .sized ∙ size-is-length c in
+    let o₁ : Outside R (R + t) w w₁ = copy-outside e 0 t w R in
+    let a₁ : At w₁ R (5 ∷ cells p) (drop (R + t) w) =
+    rw (sym kt) at (copy-at e 0 w R a (omega arith) (omega (arith, result-ends limit)))
+    in
+    let c₁ : At w₁ U (cells c) (drop (U + length (cells c)) w₁) = at-kept o₁ (inl (omega (arith, level-result limit l))) (f .lies .at) in
+    let c₂ : At (moveCells w₁ U (length (cells c)) (R + t)) (R + t) (cells c) (drop (R + t + length (cells c)) w₁) =
+    move-at w₁ U (R + t) c₁ (omega (arith, level-inside limit l, o₁ .long)) (omega (arith, result-ends limit, o₁ .long)) (inr (omega (arith, level-result limit l)))
+    in
+    let o₂ : Outside (R + t) (R + t + length (cells c)) w₁ (moveCells w₁ U (length (cells c)) (R + t)) = move-outside w₁ U (length (cells c)) (R + t) in
+    let a₂ = at-kept o₂ (inl (omega (arith, kt))) a₁ in
+    (drop (R + t + length (cells c)) w₁, rw kc (at-join (omega (arith, kt)) a₂ c₂))
+
+module _ {e : List ℕ} {t : ℕ} {w : List ℕ} {limit level found size budget : ℕ} where
+  pub over-made : {r : Bool} {from to : ℕ} {w₁ w₂ w₃ : List ℕ} {code n left : ℕ} → level < 36 → found ≡ 0 → IsTypePost w limit level r → r ≡ false
+      → t ≤ limit → size ≤ limit - t → (limit ≤ 4096 → to ≡ unitAt limit resultUnit) → (limit ≤ 4096 → from ≡ unitAt limit (levelUnit level))
+      → w₁ ≡ copyCells e 0 t w to → w₂ ≡ moveCells w₁ from size (to + t) → MadePost w₂ limit budget level (t + size) w₃ code n left
+      → OverBindingPost e t w limit level found size budget w₃ code n left
+  unfolding Expr.size
+  over-made {r} {from} {to} {w₁} {w₂} {w₃} {code} {n} {left} l z y g h₁ h₂ pt pf e₁ e₂ M = record {
+    frame = λ small.
+        let U = unitAt limit (levelUnit level) in
+        let o₁ : Outside U (length w) w w₁ = rw e₁ (frame-of (copy-outside e 0 t w to) (omega (arith, pt small, level-result limit l))) in
+        let o₂ : Outside U (length w₁) w₁ w₂ = rw e₂ (frame-of (move-outside w₁ from size (to + t)) (omega (arith, pt small, level-result limit l))) in
+        frames (omega arith) (frames (omega arith) o₁ o₂) (M .frame small);
+    means = λ p {m} {behind} small room a k x. then-passed _ z x (λ c f.
+        let o = over-other p c (sym (y .means small (f .lies)) ∙ g) in
+        rw o (M .means small (long small room) (held p c small room k a f)));
+  }
+    where
+      long : limit ≤ 4096 → 128 * limit ≤ length w → 128 * limit ≤ length w₂
+      long small room =
+          let q₁ : length w₁ ≡ length w = rw e₁ (copy-outside e 0 t w to .long) in
+          let q₂ : length w₂ ≡ length w₁ = rw e₂ (move-outside w₁ from size (to + t) .long) in
+          omega arith
+
+      held : (p c : Expr) {behind : List ℕ} → limit ≤ 4096 → 128 * limit ≤ length w → t ≡ 1 + Expr.size p → At e 0 (5 ∷ cells p) behind → FoundAt w limit level size c
+          → Held w₂ limit (t + size) (abs p c)
+      held p c small room k a f =
+          let q : w₂ ≡ moveCells (copyCells e 0 t w (unitAt limit resultUnit)) (unitAt limit (levelUnit level)) size (unitAt limit resultUnit + t) =
+          e₂ ∙ ap (λ (v : List ℕ). moveCells v from size (to + t)) e₁
+          ∙ ap (λ (i : ℕ). moveCells (copyCells e 0 t w i) from size (i + t)) (pt small)
+          ∙ ap (λ (i : ℕ). moveCells (copyCells e 0 t w (unitAt limit resultUnit)) i size (unitAt limit resultUnit + t)) (pf small)
+          in
+          let P = over-placed e t w limit level size p c l room (omega arith) k a f in
+          record { fits = λ h. omega (arith, f .sized); large = λ h. omega (arith, f .sized); behind = P .0; at = λ h. rw q (P .1) }
+
+  -- no such limit is met
+  pub over-unlimited : {code n left : ℕ} → 4096 < limit → OverBindingPost e t w limit level found size budget w code n left
+  over-unlimited h = record { frame = λ small. outside-same; means = λ p small room a k x. absurd (omega arith) }

@@ -1,0 +1,220 @@
+-- Expressions inside an expression: where they lie, and what is known of them.
+use mathlib.Core.Path.{_≡_, refl, sym, ap, _∙_}
+use mathlib.Core.List.{List, [], _∷_, _++_, append-nil}
+use Prim.Native.Nat.{ℕ, suc, _+_, _-_, _≤_, _<_}
+use native.Mathlib.Omega.{arith}
+use lib.ListN.{length, getD, take, drop, set, length-drop, length-set}
+use lib.Seq.{take-all, drop-drop, getD-set-same, getD-set-other}
+use Rattle.aut68.specs.Expr.{Expr, Exprs, type, var, bound, const, app, abs, nil, cons, size, cells, cellss, parts, countExprs}
+use Rattle.aut68.specs.Lines.{Lines}
+use Rattle.aut68.specs.Rules.Categories.{DomainAt, innermost, outside}
+use Rattle.calculus.specs.Scoped.{Scoped, ScopedScope}
+use Rattle.cells.specs.Cells.{At, Formed, Wf}
+use Rattle.cells.specs.Forests.{size-is-length, at-inside, at-parts, at-front, at-second, at-one, cells-one, cells-long}
+use Rattle.cells.specs.Posts.{Skipped, Bound}
+use Rattle.cells.specs.declared.scope.Scope.{Scope}
+use Rattle.categories.specs.Nesting.{nesting}
+use Rattle.categories.specs.Places.{DomainCells, ScopeHolds, Expression, Arguments}
+use Rattle.categories.proofs.Clauses.{domain-inside}
+
+-- ---- a part of a slice that goes to its end
+
+abbrev pub part : List ℕ → ℕ → List ℕ
+part s a = take (length s - a) (drop a s)
+
+pub part-is : (s : List ℕ) (a : ℕ) → part s a ≡ drop a s
+part-is s a = take-all (length s - a) (drop a s) (omega (arith, length-drop a s))
+
+pub part-length : (s : List ℕ) (a : ℕ) → length (part s a) ≡ length s - a
+part-length s a = ap length (part-is s a) ∙ length-drop a s
+
+pub at-part : {s : List ℕ} {a : ℕ} {xs rest : List ℕ} → At s a xs rest → At (part s a) 0 xs rest
+at-part {s} {a} h = record { is = part-is s a ∙ h .is }
+
+-- a part of the last part of the store is one too
+pub part-of : (ts e : List ℕ) (a : ℕ) → a ≤ length e → e ≡ drop (length ts - length e) ts → part e a ≡ drop (length ts - length (part e a)) ts
+part-of ts e a h p =
+    let l : length e ≡ length ts - (length ts - length e) = ap length p ∙ length-drop (length ts - length e) ts in
+    let k : length ts - length e + a ≡ length ts - length (part e a) = omega (arith, part-length e a) in
+    part-is e a ∙ ap (drop a) p ∙ drop-drop a (length ts - length e) ts ∙ ap (λ (i : ℕ). drop i ts) k
+
+-- what lies in it lies in the store
+pub at-store : {ts e : List ℕ} {a : ℕ} {xs rest : List ℕ} → e ≡ drop (length ts - length e) ts → At e a xs rest → At ts (length ts - length e + a) xs rest
+at-store {ts} {e} {a} p h = record { is = sym (drop-drop a (length ts - length e) ts) ∙ ap (drop a) (sym p) ∙ h .is }
+
+-- ---- sizes and depths
+
+pub nesting-positive : (x : Expr) → 1 ≤ nesting x
+unfolding nesting
+nesting-positive type = omega arith
+nesting-positive (var v) = omega arith
+nesting-positive (bound i) = omega arith
+nesting-positive (const v xs) = omega arith
+nesting-positive (app a b) = omega arith
+nesting-positive (abs p t) = omega arith
+
+-- the end of one expression
+pub skip-one : {tb s : List ℕ} {from r : ℕ} (x : Expr) {rest : List ℕ} → Skipped tb s from 1 r → Wf tb x → At s from (cells x) rest → r ≡ from + length (cells x)
+unfolding countExprs Formed
+skip-one {from = from} x {rest} S f a = S .ends (cons x nil) rest refl (f, tt) (at-one x a) ∙ ap (λ (l : List ℕ). from + length l) (cells-one x)
+
+-- ---- the two parts of an application or an abstraction
+
+module _ {e behind : List ℕ} {i : ℕ} where
+  pub application-argument : (a b : Expr) → At e i (cells (app a b)) behind → At e (i + 1) (cells a) (cells b ++ [] ++ behind)
+  unfolding parts cellss
+  application-argument a b h = at-front (cells a) (cells b ++ []) (at-parts (app a b) h)
+
+  pub application-function : (a b : Expr) → At e i (cells (app a b)) behind → At e (i + 1 + length (cells a)) (cells b) behind
+  unfolding parts cellss
+  application-function a b h =
+      let k : At e (i + 1 + length (cells a)) (cells b ++ []) behind = at-second (cells a) (cells b ++ []) (at-parts (app a b) h) in
+      rw (append-nil (cells b)) at k
+
+  pub abstraction-domain : (p t : Expr) → At e i (cells (abs p t)) behind → At e (i + 1) (cells p) (cells t ++ [] ++ behind)
+  unfolding parts cellss
+  abstraction-domain p t h = at-front (cells p) (cells t ++ []) (at-parts (abs p t) h)
+
+  pub abstraction-body : (p t : Expr) → At e i (cells (abs p t)) behind → At e (i + 1 + length (cells p)) (cells t) behind
+  unfolding parts cellss
+  abstraction-body p t h =
+      let k : At e (i + 1 + length (cells p)) (cells t ++ []) behind = at-second (cells p) (cells t ++ []) (at-parts (abs p t) h) in
+      rw (append-nil (cells t)) at k
+
+  -- `[x,P]` and what stands behind it
+  pub abstraction-front : (p t : Expr) → At e i (cells (abs p t)) behind → At e i (5 ∷ cells p) (cells t ++ behind)
+  unfolding cells
+  abstraction-front p t h = at-front (5 ∷ cells p) (cells t) h
+
+-- ---- a binding more
+
+module _ {ts : List ℕ} {limit : ℕ} {scope inner : Scope} {sc : List Expr} {start len : ℕ} {p : Expr} {rest : List ℕ} where
+  domain-bound : ScopeHolds ts limit scope sc → length sc < 32 → Bound scope start len inner → At ts start (cells p) rest → len ≡ size p → size p ≤ limit
+      → {q : Expr} {i : ℕ} → DomainAt q (p ∷ sc) i → DomainCells ts limit inner (suc (length sc) - suc i) q
+  domain-bound H few B a s m innermost =
+      let d : scope .depth < 32 = omega (arith, H .counted) in
+      let k : suc (length sc) - 1 ≡ scope .depth = omega (arith, H .counted) in
+      let x : getD (inner .starts) (suc (length sc) - 1) 0 ≡ start =
+      ap (λ (l : List ℕ). getD l (suc (length sc) - 1) 0) (B .startsAre d) ∙ ap (λ (i : ℕ). getD (set (scope .starts) (scope .depth) start) i 0) k
+      ∙ getD-set-same (scope .starts) (scope .depth) start 0 (omega (arith, H .startsLong))
+      in
+      let y : getD (inner .lens) (suc (length sc) - 1) 0 ≡ len =
+      ap (λ (l : List ℕ). getD l (suc (length sc) - 1) 0) (B .lensAre d) ∙ ap (λ (i : ℕ). getD (set (scope .lens) (scope .depth) len) i 0) k
+      ∙ getD-set-same (scope .lens) (scope .depth) len 0 (omega (arith, H .lensLong))
+      in
+      record { small = m; sized = y ∙ s; behind = rest; at = rw x a }
+  domain-bound H few B a s m {q} (outside {i = i} e) =
+      let d : scope .depth < 32 = omega (arith, H .counted) in
+      let D = H .domain e in
+      let h = domain-inside e in
+      let k : suc (length sc) - suc (suc i) ≡ length sc - suc i = omega arith in
+      let n : (length sc - suc i ≡ scope .depth → ⊥) = λ z. omega (arith, H .counted) in
+      let x : getD (inner .starts) (suc (length sc) - suc (suc i)) 0 ≡ getD (scope .starts) (length sc - suc i) 0 =
+      ap (λ (j : ℕ). getD (inner .starts) j 0) k ∙ ap (λ (l : List ℕ). getD l (length sc - suc i) 0) (B .startsAre d)
+      ∙ getD-set-other (scope .starts) (scope .depth) (length sc - suc i) start 0 n
+      in
+      let y : getD (inner .lens) (suc (length sc) - suc (suc i)) 0 ≡ getD (scope .lens) (length sc - suc i) 0 =
+      ap (λ (j : ℕ). getD (inner .lens) j 0) k ∙ ap (λ (l : List ℕ). getD l (length sc - suc i) 0) (B .lensAre d)
+      ∙ getD-set-other (scope .lens) (scope .depth) (length sc - suc i) len 0 n
+      in
+      record { small = D .small; sized = y ∙ D .sized; behind = D .behind; at = rw x (D .at) }
+
+  pub scope-bound : ScopeHolds ts limit scope sc → length sc < 32 → Bound scope start len inner → At ts start (cells p) rest → len ≡ size p → size p ≤ limit
+      → ScopeHolds ts limit inner (p ∷ sc)
+  scope-bound H few B a s m =
+      let d : scope .depth < 32 = omega (arith, H .counted) in
+      record {
+        counted = omega (arith, B .deeper d, H .counted);
+        few = omega arith;
+        startsLong = ap length (B .startsAre d) ∙ length-set (scope .starts) (scope .depth) start ∙ H .startsLong;
+        lensLong = ap length (B .lensAre d) ∙ length-set (scope .lens) (scope .depth) len ∙ H .lensLong;
+        domain = λ e. domain-bound H few B a s m e;
+      }
+
+-- ---- what is known of the parts
+
+module _ {ls : Lines} {ts e : List ℕ} {scope : Scope} {limit level : ℕ} {sc : List Expr} where
+  pub argument-of : (a b : Expr) → Expression ls ts e scope limit level sc (app a b) → Expression ls ts (part e 1) scope limit (level + 1) sc a
+  unfolding Scoped size nesting
+  argument-of a b E =
+      let h = application-argument a b (E .at) in
+      record {
+        part = part-of ts e 1 (omega (arith, at-inside (app a b) (E .at), cells-long (app a b))) (E .part);
+        behind = _;
+        at = at-part h;
+        holds = E .holds;
+        knownScope = E .knownScope;
+        known = E .known .0;
+        small = omega (arith, E .small);
+        shallow = omega (arith, E .shallow);
+        under = omega (arith, E .under);
+      }
+
+  pub function-in : {i : ℕ} (a b : Expr) → i ≡ 1 + length (cells a) → Expression ls ts e scope limit level sc (app a b) → Expression ls ts (part e i) scope limit level sc b
+  unfolding Scoped size nesting
+  function-in {i} a b q E =
+      let h = application-function a b (E .at) in
+      let k : At e i (cells b) (E .behind) = rw q h in
+      record {
+        part = part-of ts e i (omega (arith, at-inside b h)) (E .part);
+        behind = _;
+        at = at-part k;
+        holds = E .holds;
+        knownScope = E .knownScope;
+        known = E .known .1;
+        small = omega (arith, E .small);
+        shallow = omega (arith, E .shallow);
+        under = omega (arith, E .under);
+      }
+
+  pub domain-in : (p t : Expr) → Expression ls ts e scope limit level sc (abs p t) → Expression ls ts (part e 1) scope limit level sc p
+  unfolding Scoped size nesting
+  domain-in p t E =
+      let h = abstraction-domain p t (E .at) in
+      record {
+        part = part-of ts e 1 (omega (arith, at-inside (abs p t) (E .at), cells-long (abs p t))) (E .part);
+        behind = _;
+        at = at-part h;
+        holds = E .holds;
+        knownScope = E .knownScope;
+        known = E .known .0;
+        small = omega (arith, E .small);
+        shallow = omega (arith, E .shallow);
+        under = omega (arith, E .under);
+      }
+
+  pub body-in : {i start len : ℕ} {inner : Scope} (p t : Expr) → i ≡ 1 + length (cells p) → start ≡ length ts - length e + 1 → len ≡ i - 1 → Bound scope start len inner
+      → Expression ls ts e scope limit level sc (abs p t) → Expression ls ts (part e i) inner limit level (p ∷ sc) t
+  unfolding Scoped ScopedScope size nesting
+  body-in {i} {start} {len} p t q r s B E =
+      let h = abstraction-body p t (E .at) in
+      let k : At e i (cells t) (E .behind) = rw q h in
+      let d = at-store (E .part) (abstraction-domain p t (E .at)) in
+      let d₁ : At ts start (cells p) (cells t ++ [] ++ E .behind) = rw r d in
+      record {
+        part = part-of ts e i (omega (arith, at-inside t h)) (E .part);
+        behind = _;
+        at = at-part k;
+        holds = scope-bound (E .holds) (omega (arith, E .under)) B d₁ (omega (arith, size-is-length p)) (omega (arith, E .small));
+        knownScope = (E .known .0, E .knownScope);
+        known = E .known .1;
+        small = omega (arith, E .small);
+        shallow = omega (arith, E .shallow);
+        under = omega (arith, E .under);
+      }
+
+  pub arguments-in : (v : ℕ) (xs : Exprs) → Expression ls ts e scope limit level sc (const v xs) → Arguments ls ts (part e 1) scope limit level sc xs
+  unfolding Scoped size nesting parts
+  arguments-in v xs E =
+      let h : At e 1 (cellss xs) (E .behind) = at-parts (const v xs) (E .at) in
+      record {
+        part = part-of ts e 1 (omega (arith, at-inside (const v xs) (E .at), cells-long (const v xs))) (E .part);
+        behind = _;
+        at = at-part h;
+        holds = E .holds;
+        knownScope = E .knownScope;
+        known = E .known .1;
+        small = omega (arith, E .small);
+        shallow = omega (arith, E .shallow);
+        under = omega (arith, E .under);
+      }

@@ -1,0 +1,54 @@
+-- `context_variable`: the loop follows the indicators; `behind` variables of the context are still to be met.
+use native.Mathlib.Omega.{arith}
+use Rattle.categories.proofs.ContextWalk.{Following, follow-start, follow-more, follow-end}
+use Rattle.categories.proofs.parts.context_variable.Statement.{statement}
+use Rattle.categories.proofs.parts.context_variable.Tie as tie
+
+abbrev Inv-loop : tie.InvT-loop
+Inv-loop table v i c₀ behind₀ c behind = Following table v i c behind
+
+abbrev μ-loop : tie.MeasureT-loop
+μ-loop table v i c₀ behind₀ c behind = behind
+
+field-requires : tie.Need-field-requires Inv-loop μ-loop
+field-requires c κs = omega arith
+
+field-requires-2 : tie.Need-field-requires-2 Inv-loop μ-loop
+field-requires-2 c κs = omega arith
+
+loop-holds : tie.Need-loop-holds Inv-loop μ-loop
+loop-holds c = follow-start (c .before .field .ensures .0) (c .field2 .ensures .0)
+
+add-loop : tie.Need-add-loop Inv-loop μ-loop
+add-loop c = omega arith
+
+field-requires-3 : tie.Need-field-requires-3 Inv-loop μ-loop
+field-requires-3 c κs = omega arith
+
+sub-behind : tie.Need-sub-behind Inv-loop μ-loop
+sub-behind c = omega arith
+
+loop-less : tie.Need-loop-less Inv-loop μ-loop
+loop-less c = omega arith
+
+loop-again : tie.Need-loop-again Inv-loop μ-loop
+loop-again c = follow-more (c .before .loop-test .taken) (c .field3 .ensures .0) (c .before .before .loop .inv)
+
+returns : tie.Need-returns Inv-loop μ-loop
+returns c = follow-end (c .loop-test .left) (c .before .loop .inv)
+
+pub context-variable-spec : {M : Type 1} → statement M
+context-variable-spec =
+    tie.close
+    (tie.spec
+    Inv-loop
+    μ-loop
+    field-requires
+    field-requires-2
+    loop-holds
+    add-loop
+    field-requires-3
+    sub-behind
+    loop-less
+    loop-again
+    returns)

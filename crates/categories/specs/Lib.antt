@@ -1,0 +1,4 @@
+-- What the code of categories says.
+pub mod Nesting
+pub mod Places
+pub mod Posts

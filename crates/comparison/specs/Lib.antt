@@ -1,0 +1,2 @@
+-- What the comparison leaves.
+pub mod Posts

@@ -1,0 +1,4 @@
+mod HeadLaws
+mod PutLaws
+mod StepLaws
+mod FormLaws

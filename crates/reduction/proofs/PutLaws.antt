@@ -1,0 +1,183 @@
+-- What is made in the result unit: a substitution, a middle or a category with its arguments put in.
+use mathlib.Core.Path.{_≡_, refl, sym, ap, subst, _∙_}
+use mathlib.Core.Logic.{inl, inr}
+use mathlib.Core.List.{List, _∷_, _++_}
+use Prim.Native.Nat.{ℕ, _+_, _-_, _*_, _≤_, _<_}
+use native.Mathlib.Omega.{arith}
+use lib.ListN.{length, drop, length-append}
+use lib.Seq.{sets, take-all}
+use Rattle.aut68.specs.Expr.{Expr, const, app, abs, nil, cons, size, cells, cellss, countExprs}
+use Rattle.aut68.specs.Substitution.{instantiate}
+use Rattle.aut68.specs.Lines.{kindCells}
+use Rattle.aut68.specs.Procedure.HeadStep.{left}
+use Rattle.calculus.specs.Scoped.{Scoped}
+use Rattle.calculus.specs.CategoryScoped.{known-head}
+use Rattle.calculus.specs.Resolved.{Known}
+use Rattle.cells.specs.Cells.{rowCell, AllFormed, Wf, At, Outside, copyCells}
+use Rattle.cells.specs.CopyLaws.{copy-outside, copy-at}
+use Rattle.cells.specs.Forests.{at-inside, at-tail, at-front, at-second, at-one, cells-one, cells-long, size-is-length, sizes-is-length}
+use Rattle.cells.specs.Layout.{unitAt, scratchUnit, resultUnit, unit-below, unit-inside}
+use Rattle.cells.specs.Posts.{Skipped}
+use Rattle.cells.specs.Stores.{at-sets, at-kept, at-before}
+use Rattle.terms.specs.Made.{noRoom, Made, Confined, SubstitutePost, InstantiatePost}
+use Rattle.reduction.specs.Book.{right-count, all-known-wf}
+use Rattle.reduction.specs.Depths.{instantiated-below}
+use Rattle.reduction.specs.Frames.{Quiet, framed-same, framed-then, outside-quiet}
+use Rattle.reduction.specs.Heads.{const-unfolds}
+use Rattle.reduction.specs.Places.{middle-numbered}
+use Rattle.reduction.specs.Posts.{InResult, Prepared, PutPost, ContractedPost, UnfoldedPost}
+
+-- ---- the result unit
+
+module _ (limit : ℕ) where
+  pub scratch-below-result : unitAt limit scratchUnit + limit ≤ unitAt limit resultUnit
+  scratch-below-result = unit-below limit (omega arith)
+
+  pub result-inside : unitAt limit resultUnit + limit ≤ 128 * limit
+  result-inside = unit-inside limit (omega arith)
+
+-- nothing was done
+pub prepared-none : {limit room : ℕ} {w : List ℕ} → Prepared limit room 65536 w w
+unfolding noRoom
+prepared-none = record { quiet = framed-same; answers = inr refl }
+
+-- something was made at or above the scratch unit
+pub prepared-by : {limit room r : ℕ} {w w₁ w′ : List ℕ} {to : ℕ} → Quiet (unitAt limit scratchUnit) w w₁ → to ≡ unitAt limit resultUnit → Confined w₁ w′ to room r
+    → Prepared limit room r w w′
+prepared-by {limit} q e c =
+    record { quiet = framed-then q (outside-quiet (omega (arith, scratch-below-result limit)) (c .outside)); answers = c .answers }
+
+pub in-result : {limit room : ℕ} {e : Expr} {r to : ℕ} {w w′ : List ℕ} → to ≡ unitAt limit resultUnit → to + room ≤ length w → Made room e r to w w′
+    → InResult limit room e r w′
+in-result {limit} {room} {e} {r} {to} {w} {w′} q h m = record {
+  fits = λ s. (
+    m .fits s,
+    record {
+      rest = drop (to + length (cells e)) w;
+      at = subst (λ (i : ℕ). At w′ i (cells e) (drop (to + length (cells e)) w)) q (subst (λ (l : List ℕ). At l to (cells e) (drop (to + length (cells e)) w)) (written s) (at-sets w (cells e) to (omega (arith, size-is-length e))));
+    },
+  );
+  large = λ s. m .large s;
+}
+  where
+    written : size e ≤ room → sets w to (cells e) ≡ w′
+    written s = ap (sets w to) (sym (take-all room (cells e) (omega (arith, size-is-length e)))) ∙ sym (m .cellsAre)
+
+-- ---- an expression of the term store, with arguments
+
+module _ {tb : List ℕ} (ts : List ℕ) {w w₁ w′ : List ℕ} (limit from end : ℕ) {args count room r scratch result : ℕ} (small : limit ≤ 4096) (s : scratch ≡ unitAt limit scratchUnit)
+    (t : result ≡ unitAt limit resultUnit) (ordered : from ≤ end) (loaded : w₁ ≡ copyCells ts from (end - from) w scratch)
+    (I : InstantiatePost tb w₁ w′ scratch args count result room r) where
+  load-outside : Outside scratch (scratch + (end - from)) w w₁
+  load-outside = subst (λ (l : List ℕ). Outside scratch (scratch + (end - from)) w l) (sym loaded) (copy-outside ts from (end - from) w scratch)
+
+  pub put-law : PutPost tb ts w w′ limit from end args count room r
+  put-law = record {
+    prepared = prepared-by (outside-quiet (omega arith) load-outside) t (I .confined);
+    made = λ q h d vs xs x {rx} {ra} f g c a b m p l o.
+        let n : end - from ≡ length (cells x) = omega arith in
+        let S = scratch-below-result limit in
+        let E = result-inside limit in
+        let z : At w₁ scratch (cells x) (drop (scratch + length (cells x)) w) =
+        subst (λ (u : List ℕ). At u scratch (cells x) (drop (scratch + length (cells x)) w))
+        (sym (loaded ∙ ap (λ (k : ℕ). copyCells ts from k w scratch) n))
+        (copy-at ts from w scratch a (omega (arith, at-inside x a)) (omega arith)) in
+        in-result t (omega (arith, load-outside .long))
+        (I .made vs xs x _ _ (omega (arith, load-outside .long)) f g c
+        (at-before {n = result} (omega arith) z)
+        (at-before {n = result} (omega arith) (at-kept load-outside (inl (omega arith)) p))
+        o);
+  }
+
+-- ---- a contraction
+
+-- <A>[x,P]T from index `at` on: where A, the abstraction and T start
+pub record Contracting (tb w : List ℕ) (at f : ℕ) (a p t : Expr) (rest : List ℕ) : Type 0 where
+  pub argument : At w (at + 1) (cells a) (5 ∷ (cells p ++ cells t) ++ rest)
+  pub function : At w f (5 ∷ (cells p ++ cells t)) rest
+  pub inside : f + 1 + length (cells p) + length (cells t) ≤ length w
+  pub body : {g : ℕ} → Skipped tb w (f + 1) 1 g → (g ≡ f + 1 + length (cells p)) × At w g (cells t) rest
+
+pub contracting : {tb w : List ℕ} {at f : ℕ} (a p t : Expr) {rest : List ℕ} → Wf tb a → Wf tb p → At w at (cells (app a (abs p t))) rest → Skipped tb w (at + 1) 1 f
+    → Contracting tb w at f a p t rest
+unfolding cells countExprs AllFormed
+contracting {tb} {w} {at} {f} a p t {rest} wa wp h s =
+    let inner : At w (at + 1) (cells a ++ (5 ∷ (cells p ++ cells t))) rest = record { is = at-tail w at 4 ((cells a ++ (5 ∷ (cells p ++ cells t))) ++ rest) (h .is) } in
+    let first : At w (at + 1) (cells a) (5 ∷ (cells p ++ cells t) ++ rest) = at-front (cells a) (5 ∷ (cells p ++ cells t)) inner in
+    let q : f ≡ at + 1 + length (cells a) =
+    s .ends (cons a nil) (5 ∷ (cells p ++ cells t) ++ rest) refl (wa, tt) (at-one a first) ∙ ap (λ (l : List ℕ). at + 1 + length l) (cells-one a) in
+    let fun : At w f (5 ∷ (cells p ++ cells t)) rest =
+    subst (λ (m : ℕ). At w m (5 ∷ (cells p ++ cells t)) rest) (sym q) (at-second (cells a) (5 ∷ (cells p ++ cells t)) inner) in
+    let parts : At w (f + 1) (cells p ++ cells t) rest = record { is = at-tail w f 5 ((cells p ++ cells t) ++ rest) (fun .is) } in
+    record {
+      argument = first;
+      function = fun;
+      inside = omega (arith, q, at-inside (app a (abs p t)) h, length-append (cells a) (5 ∷ (cells p ++ cells t)), length-append (cells p) (cells t));
+      body = λ {g} z.
+          let b : g ≡ f + 1 + length (cells p) =
+          z .ends (cons p nil) (cells t ++ rest) refl (wp, tt) (at-one p (at-front (cells p) (cells t) parts)) ∙ ap (λ (l : List ℕ). f + 1 + length l) (cells-one p) in
+          (b, subst (λ (m : ℕ). At w m (cells t) rest) (sym b) (at-second (cells p) (cells t) parts));
+    }
+
+-- a redex that the store has no cells for is none
+pub contracted-none : {tb w : List ℕ} {limit at room : ℕ} → length w ≤ at → ContractedPost tb w w limit at room 65536
+contracted-none h = record {
+  prepared = prepared-none;
+  made = λ l m a p t wa wp wt z b o. absurd (omega (arith, at-inside (app a (abs p t)) z, cells-long (app a (abs p t))));
+}
+
+pub contracted-no-function : {tb w : List ℕ} {limit at room f : ℕ} → Skipped tb w (at + 1) 1 f → length w ≤ f → ContractedPost tb w w limit at room 65536
+contracted-no-function s h = record {
+  prepared = prepared-none;
+  made = λ l m a p t wa wp wt z b o. absurd (omega (arith, contracting a p t wa wp z s .inside));
+}
+
+pub contracted-law : {tb w w′ : List ℕ} {limit at room r f g result : ℕ} → result ≡ unitAt limit resultUnit → Skipped tb w (at + 1) 1 f → Skipped tb w (f + 1) 1 g
+    → SubstitutePost tb w w′ g (at + 1) result room r → ContractedPost tb w w′ limit at room r
+unfolding cells size countExprs AllFormed
+contracted-law {tb} {w} {limit = limit} {at} {f = f} {g} {result} q s z S = record {
+  prepared = prepared-by framed-same q (S .confined);
+  made = λ l m a p t wa wp wt h b o.
+      let C = contracting a p t wa wp h s in
+      let T = C .body z in
+      let E = result-inside limit in
+      let U = scratch-below-result limit in
+      let n : at + (1 + (length (cells a) + (1 + (length (cells p) + length (cells t))))) ≤ unitAt limit scratchUnit =
+      omega (arith, size-is-length a, size-is-length p, size-is-length t) in
+      let k : f ≡ at + 1 + length (cells a) = omega (arith, s .ends (cons a nil) _ refl (wa, tt) (at-one a (C .argument)), ap length (cells-one a)) in
+      in-result q (omega arith) (S .made t a _ _ (omega arith) wt wa (at-before {n = result} (omega arith) (T .1)) (at-before {n = result} (omega arith) (C .argument)) o);
+}
+
+-- ---- an unfolding
+
+pub unfolded-none : {tb ts w : List ℕ} {limit at v room : ℕ} → length w ≤ at → UnfoldedPost tb ts w w limit at v room 65536
+unfolded-none {v = v} h = record {
+  prepared = prepared-none;
+  made = λ l m B k xs i g W z a b s. absurd (omega (arith, at-inside (const v xs) a, cells-long (const v xs)));
+}
+
+pub unfolded-law : {tb ts w w′ : List ℕ} {limit at v room r from end count : ℕ} → limit ≤ 4096 → from ≡ rowCell tb v 5 → end ≡ rowCell tb v 6 → count ≡ rowCell tb v 3
+    → PutPost tb ts w w′ limit from end (at + 1) count room r → UnfoldedPost tb ts w w′ limit at v room r
+unfolding cells size Scoped kindCells left
+unfolded-law {tb} {ts} {w} {limit = limit} {at} {v} small ef ee ec P = record {
+  prepared = P .prepared;
+  made = λ h d {ls} B k xs {l} {m} {rest} j g W z a b s.
+      let S = B .stored .cellsOf j in
+      let e : kindCells (l .kind) ≡ cells m = ap kindCells g in
+      let long : length (cells m) ≤ limit = omega (arith, B .middleSize j, ap length e) in
+      let known : Known ls k (instantiate (l .context) xs 0 m) = known-head ls (B .resolved) k (const v xs) _ (ap left (const-unfolds ls v xs j g)) W in
+      P .made small h d (l .context) xs m (middle-numbered B j xs m g) (all-known-wf (B .rows) k xs (W .1)) (right-count (B .rows) v (countExprs xs) (W .0) ∙ sym ec)
+      (subst (λ (i : ℕ). At ts i (cells m) (S .afterMiddle)) (sym ef) (subst (λ (c : List ℕ). At ts (rowCell tb v 5) c (S .afterMiddle)) e (S .middleAt)))
+      (omega (arith, S .middleEnds, ap length e))
+      long
+      (record { is = at-tail w at (8 * v + 3) (cellss xs ++ rest) (a .is) })
+      (omega (arith, sizes-is-length xs))
+      (instantiated-below ls (B .few) k (l .context) xs m known z (omega arith) (omega (arith, size-is-length m)));
+}
+
+-- no store has such units, or no expression ends before it starts
+pub put-no-limit : {tb ts w : List ℕ} {limit from end args count room : ℕ} → 4096 < limit → PutPost tb ts w w limit from end args count room 65536
+put-no-limit h = record { prepared = prepared-none; made = λ q l d vs xs x f g c a b m p o z. absurd (omega arith) }
+
+pub put-no-part : {tb ts w : List ℕ} {limit from end args count room : ℕ} → end < from → PutPost tb ts w w limit from end args count room 65536
+put-no-part h = record { prepared = prepared-none; made = λ q l d vs xs x f g c a b m p o z. absurd (omega arith) }

@@ -1,0 +1,207 @@
+-- A head step in place: the redex made anew in the result unit and moved to where it was.
+use mathlib.Core.Path.{_≡_, refl, sym, ap, subst, _∙_}
+use mathlib.Core.Logic.{inl, inr}
+use mathlib.Core.List.{List, _++_, append-assoc}
+use Prim.Native.Nat.{ℕ, suc, _+_, _-_, _*_, _≤_, _<_}
+use native.Mathlib.Omega.{arith}
+use lib.ListN.{length, drop}
+use Rattle.aut68.specs.Expr.{Expr, Exprs, type, const, app, abs, nil, cons, size, cells}
+use Rattle.aut68.specs.Substitution.{substitute, instantiate}
+use Rattle.aut68.specs.Lines.{Lines}
+use Rattle.aut68.specs.Procedure.HeadStep.{left}
+use Rattle.calculus.specs.Scoped.{Scoped}
+use Rattle.calculus.specs.CategoryScoped.{known-head}
+use Rattle.calculus.specs.Resolved.{Known, KnownCategory}
+use Rattle.cells.specs.Cells.{At, Outside, moveCells}
+use Rattle.cells.specs.CopyLaws.{move-outside, move-at}
+use Rattle.cells.specs.Forests.{at-front, at-second, size-is-length}
+use Rattle.cells.specs.Layout.{unitAt, scratchUnit, resultUnit}
+use Rattle.cells.specs.Stores.{at-kept, at-rest}
+use Rattle.terms.specs.Made.{noRoom}
+use Rattle.reduction.specs.Book.{Book, known-wf}
+use Rattle.reduction.specs.Depths.{substituted-below}
+use Rattle.reduction.specs.Frames.{Lies, framed-same, framed-then, framed-more, quiet-framed, outside-framed, at-framed}
+use Rattle.reduction.specs.Heads.{HeadIs, no-head, contraction, unfolding-of, applied, front, cells-applied, size-applied, known-applied, app-contracts}
+use Rattle.reduction.specs.Posts.{ContractedPost, UnfoldedPost, Redex, RedexPost, StepPost}
+use Rattle.reduction.specs.declared.heads.Head.{Head}
+use Rattle.reduction.proofs.PutLaws.{scratch-below-result, result-inside}
+
+-- a run of cells, and another one right behind it
+at-join : {w : List ℕ} {i : ℕ} (xs ys : List ℕ) {rest rest′ : List ℕ} → At w i xs rest → At w (i + length xs) ys rest′ → At w i (xs ++ ys) rest′
+at-join xs ys {rest′ = rest′} a b =
+    record { is = a .is ∙ ap (λ (l : List ℕ). xs ++ l) (at-rest a ∙ b .is) ∙ sym (append-assoc xs ys rest′) }
+
+-- what is left of a known expression that is no `type` is known
+known-redex : (ls : Lines) (k : ℕ) (fs : Exprs) (h : Expr) {e : Expr} → e ≡ applied fs h → (h ≡ type → ⊥) → KnownCategory ls k e → Known ls k h
+unfolding applied
+known-redex ls k fs h w n (inr K) = known-applied ls k fs h (subst (Known ls k) w K)
+known-redex ls k fs h w n (inl q) = absurd (go fs (sym w ∙ q))
+  where
+    go : (fs : Exprs) → applied fs h ≡ type → ⊥
+    go nil q = n q
+    go (cons a gs) q = let z : _≡_ {A = ℕ} 0 1 = cc in omega arith
+
+-- where the redex lies
+redex-at : {w : List ℕ} {start at : ℕ} {e : Expr} {rest : List ℕ} (fs : Exprs) (h : Expr) → e ≡ applied fs h → at ≡ start + length (front fs) → At w start (cells e) rest
+    → At w at (cells h) rest
+redex-at {w} {start} {at} {e} {rest} fs h q p a =
+    subst (λ (i : ℕ). At w i (cells h) rest) (sym p)
+    (at-second (front fs) (cells h) (subst (λ (c : List ℕ). At w start c rest) (ap cells q ∙ cells-applied fs h) a))
+
+redex-size : {e : Expr} (fs : Exprs) (h : Expr) → e ≡ applied fs h → size e ≡ length (front fs) + size h
+redex-size fs h q = ap size q ∙ size-applied fs h
+
+-- ---- the redex
+
+module _ {tb ts w w′ : List ℕ} {limit : ℕ} (h : Head) {room r : ℕ} where
+  pub contracted-redex : h .kind ≡ 1 → ContractedPost tb w w′ limit (h .at) room r → RedexPost tb ts w w′ limit h room r
+  unfolding size Scoped left
+  contracted-redex one C = record {
+    prepared = C .prepared;
+    made = λ l m {ls} B k e {start} {rest} K z s a u H n. go l m B k e K z s a u n H;
+  }
+    where
+      go : 128 * limit ≤ length w → room ≤ limit → {ls : Lines} → Book ls limit tb ts → (k : ℕ) (e : Expr) {start : ℕ} {rest : List ℕ} → KnownCategory ls k e → k ≤ 4096
+          → size e ≤ limit → At w start (cells e) rest → start + limit ≤ unitAt limit scratchUnit → (h .kind ≡ 0 → ⊥)
+          → HeadIs ls start (h .kind) (h .at) (h .kept) (h .line) e → Redex ls limit room e (h .kept) r w′
+      go l m B k e K z s a u n (no-head q o) = absurd (n o)
+      go l m B k e K z s a u n (unfolding-of fs xs q x y i g t o p d) = absurd (omega arith)
+      go l m {ls} B k e K z s a u n (contraction fs x p t q i o d f) =
+          let W = known-redex ls k fs (app x (abs p t)) q (λ v. let z : _≡_ {A = ℕ} 0 1 = cc in omega arith) K in
+          let S = redex-size fs (app x (abs p t)) q in
+          record {
+            fs = fs;
+            old = app x (abs p t);
+            made = substitute x 0 t;
+            was = q;
+            becomes = ap left i;
+            keeps = f;
+            inResult = C .made l m x p t (known-wf (B .rows) k x (W .0)) (known-wf (B .rows) k p (W .1 .0)) (known-wf (B .rows) (suc k) t (W .1 .1))
+                (redex-at fs (app x (abs p t)) q d a)
+                (omega arith)
+                (substituted-below ls (B .few) k x t (known-head ls (B .resolved) k (app x (abs p t)) _ (ap left (app-contracts ls x p t)) W) z (omega (arith, B .limit)) (omega (arith, B .limit)));
+          }
+
+  pub unfolded-redex : (h .kind ≡ 1 → ⊥) → UnfoldedPost tb ts w w′ limit (h .at) (h .line) room r → RedexPost tb ts w w′ limit h room r
+  unfolding left
+  unfolded-redex two U = record {
+    prepared = U .prepared;
+    made = λ l m {ls} B k e {start} {rest} K z s a u H n. go l m B k e K z s a u n H;
+  }
+    where
+      go : 128 * limit ≤ length w → room ≤ limit → {ls : Lines} → Book ls limit tb ts → (k : ℕ) (e : Expr) {start : ℕ} {rest : List ℕ} → KnownCategory ls k e → k ≤ 4096
+          → size e ≤ limit → At w start (cells e) rest → start + limit ≤ unitAt limit scratchUnit → (h .kind ≡ 0 → ⊥)
+          → HeadIs ls start (h .kind) (h .at) (h .kept) (h .line) e → Redex ls limit room e (h .kept) r w′
+      go l m B k e K z s a u n (no-head q o) = absurd (n o)
+      go l m B k e K z s a u n (contraction fs x p t q i o d f) = absurd (two o)
+      go l m {ls} B k e K z s a u n (unfolding-of fs xs line x q j g i o d f) =
+          let W = known-redex ls k fs (const (h .line) xs) q (λ v. let z : _≡_ {A = ℕ} 0 1 = cc in omega arith) K in
+          let S = redex-size fs (const (h .line) xs) q in
+          record {
+            fs = fs;
+            old = const (h .line) xs;
+            made = instantiate (line .context) xs 0 x;
+            was = q;
+            becomes = ap left i;
+            keeps = f;
+            inResult = U .made l m B k xs j g W z (redex-at fs (const (h .line) xs) q d a) (omega arith) (omega arith);
+          }
+
+-- ---- the step
+
+-- where the redex starts, and that it does so inside the expression
+head-placed : {ls : Lines} {start kind at kept v : ℕ} {e : Expr} → HeadIs ls start kind at kept v e → (kind ≡ 0 → ⊥) → (at ≡ start + kept) × (kept ≤ size e)
+head-placed (no-head q o) n = absurd (n o)
+head-placed (contraction fs a p t q i o d f) n = (omega arith, omega (arith, redex-size fs (app a (abs p t)) q))
+head-placed (unfolding-of fs xs l m q j g i o d f) n = (omega arith, omega (arith, redex-size fs (const _ xs) q))
+
+module _ {tb ts w : List ℕ} {limit : ℕ} {h : Head} where
+  pub step-no-limit : 4096 < limit → StepPost tb ts w w limit h 65536
+  unfolding noRoom
+  step-no-limit g = record {
+    framed = framed-same;
+    refused = λ e. framed-same;
+    answers = inr refl;
+    made = λ l B k e K z s a u H n. absurd (omega (arith, B .limit));
+  }
+
+  pub step-no-place : limit < h .kept → StepPost tb ts w w limit h 65536
+  unfolding noRoom
+  step-no-place g = record {
+    framed = framed-same;
+    refused = λ e. framed-same;
+    answers = inr refl;
+    made = λ l B k e K z s a u H n. absurd (omega (arith, head-placed H n .1));
+  }
+
+  module _ {w₁ : List ℕ} {room m : ℕ} (small : limit ≤ 4096) (kept : h .kept ≤ limit) (free : room ≡ limit - h .kept) (R : RedexPost tb ts w w₁ limit h room m) where
+    -- it has more cells than the room
+    pub step-refused : room < m → StepPost tb ts w w₁ limit h 65536
+    unfolding noRoom
+    step-refused g = record {
+      framed = quiet-framed (R .prepared .quiet);
+      refused = λ e. R .prepared .quiet;
+      answers = inr refl;
+      made = λ l B k e K z s a u H n.
+          let X = R .made l (omega arith) B k e K z s a u H n in
+          record {
+            next = applied (X .fs) (X .made);
+            is = X .becomes;
+            fits = λ d. let S = size-applied (X .fs) (X .made) in
+                let o : size (X .made) ≤ room = omega (arith, X .keeps) in
+                absurd (omega (arith, X .inResult .fits o .0));
+            large = λ d. refl;
+          };
+    }
+
+    -- it is moved in place
+    module _ {w₂ : List ℕ} {result : ℕ} (at-result : result ≡ unitAt limit resultUnit) (fits : m ≤ room) (moved : w₂ ≡ moveCells w₁ result m (h .at)) where
+      move-there : Outside (h .at) (h .at + m) w₁ w₂
+      move-there = subst (λ (l : List ℕ). Outside (h .at) (h .at + m) w₁ l) (sym moved) (move-outside w₁ result m (h .at))
+
+      step-lies : {start : ℕ} {rest : List ℕ} (e : Expr) → 128 * limit ≤ length w → start + limit ≤ unitAt limit scratchUnit → At w start (cells e) rest → size e ≤ limit
+          → h .at ≡ start + h .kept → (fs : Exprs) (old next : Expr) → e ≡ applied fs old → h .kept ≡ length (front fs) → m ≡ size next → Lies w₁ (unitAt limit resultUnit) next
+          → Lies w₂ start (applied fs next)
+      step-lies {start} {rest} e l u a s p fs old next q f d z = record {
+        rest = drop (h .at + length (cells next)) w₁;
+        at = subst (λ (c : List ℕ). At w₂ start c (drop (h .at + length (cells next)) w₁)) (sym (cells-applied fs next))
+            (at-join (front fs) (cells next) before (subst (λ (i : ℕ). At w₂ i (cells next) (drop (h .at + length (cells next)) w₁)) (omega arith) behind));
+      }
+        where
+          before : At w₂ start (front fs) (drop (start + length (front fs)) w₂)
+          before =
+              at-kept move-there (inl (omega arith))
+              (at-framed (R .prepared .quiet) (omega (arith, redex-size fs old q)) (inl (omega (arith, redex-size fs old q)))
+              (at-front (front fs) (cells old) (subst (λ (c : List ℕ). At w start c rest) (ap cells q ∙ cells-applied fs old) a)))
+
+          behind : At w₂ (h .at) (cells next) (drop (h .at + length (cells next)) w₁)
+          behind =
+              let n : m ≡ length (cells next) = d ∙ size-is-length next in
+              let S = scratch-below-result limit in
+              let E = result-inside limit in
+              subst (λ (l : List ℕ). At l (h .at) (cells next) (drop (h .at + length (cells next)) w₁))
+              (sym (moved ∙ ap (λ (k : ℕ). moveCells w₁ result k (h .at)) n))
+              (move-at w₁ result (h .at) (subst (λ (i : ℕ). At w₁ i (cells next) (z .rest)) (sym at-result) (z .at))
+              (omega (arith, R .prepared .quiet .long)) (omega (arith, R .prepared .quiet .long)) (inl (omega arith)))
+
+      pub step-made : StepPost tb ts w w₂ limit h (h .kept + m)
+      unfolding noRoom
+      step-made = record {
+        framed = framed-then (quiet-framed (R .prepared .quiet)) (framed-more (omega arith) (omega arith) (omega arith) (outside-framed {top = unitAt limit scratchUnit} move-there));
+        refused = λ e. absurd (omega arith);
+        answers = inl (omega arith);
+        made = λ l B k e K z s a u H n.
+            let X = R .made l (omega arith) B k e K z s a u H n in
+            let S = size-applied (X .fs) (X .made) in
+            record {
+              next = applied (X .fs) (X .made);
+              is = X .becomes;
+              fits = λ d.
+                  let o : size (X .made) ≤ room = omega (arith, X .keeps) in
+                  let y = X .inResult .fits o in
+                  (omega (arith, y .0, X .keeps), step-lies e l u a s (head-placed H n .0) (X .fs) (X .old) (X .made) (X .was) (X .keeps) (y .0) (y .1));
+              large = λ d.
+                  let o : room < size (X .made) = omega (arith, X .keeps) in
+                  absurd (omega (arith, X .inResult .large o));
+            };
+      }

@@ -1,0 +1,144 @@
+-- What the functions on head steps leave.
+use mathlib.Core.Path.{_≡_}
+use mathlib.Core.Logic.{_⊎_}
+use mathlib.Core.Option.{some}
+use mathlib.Core.List.{List}
+use Prim.Native.Nat.{ℕ, _+_, _-_, _*_, _/_, _%_, _≤_, _<_}
+use lib.ListN.{length, getD}
+use Rattle.aut68.specs.Expr.{Expr, Exprs, const, app, abs, size, cells, cellss, countExprs}
+use Rattle.aut68.specs.Substitution.{substitute, instantiate}
+use Rattle.aut68.specs.Lines.{Line, Lines, abbreviation}
+use Rattle.aut68.specs.Rules.Names.{IsLine}
+use Rattle.aut68.specs.Procedure.Answer.{Refusal, stop, codeOf}
+use Rattle.aut68.specs.Procedure.HeadStep.{noStep, headStep, left}
+use Rattle.aut68.specs.Procedure.Category.{toFunction}
+use Rattle.aut68.specs.Procedure.Category
+use Rattle.calculus.specs.Resolved.{Known, KnownCategory}
+use Rattle.cells.specs.Cells.{rowCell, Formed, RightCount, Wf, Wfs, At, Below}
+use Rattle.cells.specs.Layout.{unitAt, scratchUnit, resultUnit}
+use Rattle.cells.specs.Posts.{Skipped}
+use Rattle.cells.specs.Results.{Result}
+use Rattle.terms.specs.Made.{noRoom, Numbered}
+use Rattle.reduction.specs.Book.{Book}
+use Rattle.reduction.specs.Frames.{Framed, Quiet, Lies}
+use Rattle.reduction.specs.Heads.{HeadIs, applied, front}
+use Rattle.reduction.specs.declared.heads.Head.{Head}
+use Rattle.reduction.specs.declared.functions.Shape.{Shape}
+use Rattle.reduction.specs.declared.functions.Shape.the-variants.{Abstraction, Other}
+use Rattle.reduction.specs.declared.functions.Function.{Function}
+
+-- ---- which head step
+
+-- of an expression that is no application, with the first cell x at index i
+pub record HeadCell (tb : List ℕ) (x i kept : ℕ) (r : Head) : Type 0 where
+  pub placed : (r .at ≡ i) × (r .kept ≡ kept)
+  pub unfolds : x % 8 ≡ 3 → rowCell tb (x / 8) 4 ≡ 2 → (r .kind ≡ 2) × (r .line ≡ x / 8)
+  pub stays : (x % 8 ≡ 3 → rowCell tb (x / 8) 4 ≡ 2 → ⊥) → r .kind ≡ 0
+
+-- of the expression of n cells at index `at` of w
+pub record HeadPost (tb w : List ℕ) (at n : ℕ) (r : Head) : Type 0 where
+  -- whatever lies there
+  pub placed : r .at ≡ at + r .kept
+  pub is : {ls : Lines} {L : ℕ} {ts : List ℕ} → Book ls L tb ts → (k : ℕ) (e : Expr) {rest : List ℕ} → KnownCategory ls k e → At w at (cells e) rest
+      → n ≡ size e → HeadIs ls at (r .kind) (r .at) (r .kept) (r .line) e
+
+-- ---- what is made in the result unit
+
+-- e stands at the start of the result unit, and r is its size; or it has more cells than the room
+pub record InResult (limit room : ℕ) (e : Expr) (r : ℕ) (w′ : List ℕ) : Type 0 where
+  pub fits : size e ≤ room → (r ≡ size e) × Lies w′ (unitAt limit resultUnit) e
+  pub large : room < size e → r ≡ noRoom
+
+-- whatever lies there: nothing below the scratch unit is changed
+pub record Prepared (limit room r : ℕ) (w w′ : List ℕ) : Type 0 where
+  pub quiet : Quiet (unitAt limit scratchUnit) w w′
+  pub answers : (r ≤ room) ⊎ (r ≡ noRoom)
+
+-- the expression in the term cells from..end, with the arguments at `args` put in
+pub record PutPost (tb ts w w′ : List ℕ) (limit from end args count room r : ℕ) : Type 0 where
+  pub prepared : Prepared limit room r w w′
+  pub made : limit ≤ 4096 → 128 * limit ≤ length w → room ≤ limit → (vs : List ℕ) (xs : Exprs) (x : Expr) {rx ra : List ℕ}
+      → Formed (Numbered tb vs xs) (RightCount tb) x → Wfs tb xs → countExprs xs ≡ count → At ts from (cells x) rx → end ≡ from + length (cells x)
+      → length (cells x) ≤ limit → At w args (cellss xs) ra → args + length (cellss xs) ≤ unitAt limit scratchUnit
+      → Below 65536 (cells (instantiate vs xs 0 x)) → InResult limit room (instantiate vs xs 0 x) r w′
+
+-- <A>[x,P]T at index `at`
+pub record ContractedPost (tb w w′ : List ℕ) (limit at room r : ℕ) : Type 0 where
+  pub prepared : Prepared limit room r w w′
+  pub made : 128 * limit ≤ length w → room ≤ limit → (a p t : Expr) {rest : List ℕ} → Wf tb a → Wf tb p → Wf tb t
+      → At w at (cells (app a (abs p t))) rest → at + size (app a (abs p t)) ≤ unitAt limit scratchUnit → Below 65536 (cells (substitute a 0 t))
+      → InResult limit room (substitute a 0 t) r w′
+
+-- the constant of line v at index `at`
+pub record UnfoldedPost (tb ts w w′ : List ℕ) (limit at v room r : ℕ) : Type 0 where
+  pub prepared : Prepared limit room r w w′
+  pub made : 128 * limit ≤ length w → room ≤ limit → {ls : Lines} → Book ls limit tb ts → (k : ℕ) (xs : Exprs) {l : Line} {m : Expr} {rest : List ℕ}
+      → IsLine ls v l → l .kind ≡ abbreviation m → Known ls k (const v xs) → k ≤ 4096 → At w at (cells (const v xs)) rest
+      → at + size (const v xs) ≤ unitAt limit scratchUnit → size (const v xs) ≤ limit → InResult limit room (instantiate (l .context) xs 0 m) r w′
+
+-- the redex of e, behind the A's fs, has become `made`
+pub record Redex (ls : Lines) (limit room : ℕ) (e : Expr) (kept r : ℕ) (w′ : List ℕ) : Type 0 where
+  pub fs : Exprs
+  pub old : Expr
+  pub made : Expr
+  pub was : e ≡ applied fs old
+  pub becomes : left (headStep ls e) ≡ some (applied fs made)
+  pub keeps : kept ≡ length (front fs)
+  pub inResult : InResult limit room made r w′
+
+pub record RedexPost (tb ts w w′ : List ℕ) (limit : ℕ) (h : Head) (room r : ℕ) : Type 0 where
+  pub prepared : Prepared limit room r w w′
+  pub made : 128 * limit ≤ length w → room ≤ limit → {ls : Lines} → Book ls limit tb ts → (k : ℕ) (e : Expr) {start : ℕ} {rest : List ℕ}
+      → KnownCategory ls k e → k ≤ 4096 → size e ≤ limit → At w start (cells e) rest → start + limit ≤ unitAt limit scratchUnit
+      → HeadIs ls start (h .kind) (h .at) (h .kept) (h .line) e → (h .kind ≡ 0 → ⊥) → Redex ls limit room e (h .kept) r w′
+
+-- ---- the step
+
+-- e's head step leaves `next`: it stands where e stood, and r is its size; or it has more cells than the limit
+pub record Stepped (ls : Lines) (limit start : ℕ) (e : Expr) (r : ℕ) (w′ : List ℕ) : Type 0 where
+  pub next : Expr
+  pub is : left (headStep ls e) ≡ some next
+  pub fits : size next ≤ limit → (r ≡ size next) × Lies w′ start next
+  pub large : limit < size next → r ≡ noRoom
+
+pub record StepPost (tb ts w w′ : List ℕ) (limit : ℕ) (h : Head) (r : ℕ) : Type 0 where
+  -- below the scratch unit: nothing before the redex, nothing past the expression's unit; nothing at all where the step is refused
+  pub framed : Framed (unitAt limit scratchUnit) (h .at) (h .at - h .kept + limit) w w′
+  pub refused : r ≡ noRoom → Quiet (unitAt limit scratchUnit) w w′
+  pub answers : (r ≤ limit) ⊎ (r ≡ noRoom)
+  pub made : 128 * limit ≤ length w → {ls : Lines} → Book ls limit tb ts → (k : ℕ) (e : Expr) {start : ℕ} {rest : List ℕ} → KnownCategory ls k e → k ≤ 4096
+      → size e ≤ limit → At w start (cells e) rest → start + limit ≤ unitAt limit scratchUnit
+      → HeadIs ls start (h .kind) (h .at) (h .kept) (h .line) e → (h .kind ≡ 0 → ⊥) → Stepped ls limit start e r w′
+
+-- ---- head steps until an abstraction
+
+abbrev pub ShapePost : List ℕ → List ℕ → ℕ → Shape → Type 0
+ShapePost tb w at (Abstraction d b) = (getD w at 0 ≡ 5) × (d ≡ at + 1) × Skipped tb w (at + 1) 1 b
+ShapePost tb w at Other = at < length w → getD w at 0 ≡ 5 → ⊥
+
+-- c has come to g, which has no head step; or the procedure stops on the way
+pub data FormIs (ls : Lines) (limit k at : ℕ) (c : Expr) (budget : ℕ) (w′ : List ℕ) (code size′ budget′ : ℕ) : Type 0 where
+  normal : (g : Expr) → code ≡ 0 → headStep ls g ≡ noStep → KnownCategory ls k g → size g ≤ limit → size′ ≡ size g → Lies w′ at g
+      → toFunction ls limit c budget ≡ toFunction ls limit g budget′ → FormIs ls limit k at c budget w′ code size′ budget′
+  refused : (r : Refusal) → code ≡ codeOf r → toFunction ls limit c budget ≡ stop r budget′ → FormIs ls limit k at c budget w′ code size′ budget′
+
+pub record FormPost (tb ts w w′ : List ℕ) (limit budget at n code size′ budget′ : ℕ) : Type 0 where
+  pub framed : Framed (unitAt limit scratchUnit) at (at + limit) w w′
+  pub is : 128 * limit ≤ length w → {ls : Lines} → Book ls limit tb ts → (k : ℕ) (c : Expr) {rest : List ℕ} → KnownCategory ls k c → k ≤ 4096
+      → size c ≤ limit → n ≡ size c → at + limit ≤ unitAt limit scratchUnit → At w at (cells c) rest → FormIs ls limit k at c budget w′ code size′ budget′
+
+-- the abstraction f lies at `at`, of r .size cells, its domain and its body where r says
+pub record FunctionAt (ls : Lines) (limit k at : ℕ) (w′ : List ℕ) (r : Function) (f : Category.Function) : Type 0 where
+  pub known : Known ls k (abs (f .domain) (f .body))
+  pub lies : Lies w′ at (abs (f .domain) (f .body))
+  pub small : size (abs (f .domain) (f .body)) ≤ limit
+  pub sizeIs : r .size ≡ size (abs (f .domain) (f .body))
+  pub domainAt : r .domain ≡ at + 1
+  pub bodyAt : r .body ≡ at + 1 + size (f .domain)
+
+pub record FunctionPost (tb ts w w′ : List ℕ) (limit budget at n : ℕ) (r : Function) : Type 0 where
+  -- below the scratch unit nothing outside the expression's unit is changed
+  pub framed : Framed (unitAt limit scratchUnit) at (at + limit) w w′
+  pub is : 128 * limit ≤ length w → {ls : Lines} → Book ls limit tb ts → (k : ℕ) (c : Expr) {rest : List ℕ} → KnownCategory ls k c → k ≤ 4096
+      → size c ≤ limit → n ≡ size c → at + limit ≤ unitAt limit scratchUnit → At w at (cells c) rest
+      → Result (FunctionAt ls limit k at w′ r) (r .code) (r .budget) (toFunction ls limit c budget)
