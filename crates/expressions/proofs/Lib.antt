@@ -1,0 +1,8 @@
+-- Laws that the proofs of this crate share.
+pub mod StoreLaws
+pub mod ReadLaws
+pub mod WrittenLaws
+pub mod ExpressionLaws
+pub mod PairLaws
+pub mod NamedLaws
+pub mod ArgumentLaws

@@ -1,0 +1,130 @@
+-- A name with its arguments, if any.
+use mathlib.Core.Path.{_≡_, refl, sym, ap, _∙_, subst}
+use mathlib.Core.Logic.{_≢_}
+use mathlib.Core.List.{List}
+use Prim.Native.Nat.{ℕ, _+_, _-_, _≤_, _<_}
+use native.Mathlib.Omega.{arith}
+use lib.ListN.{length, drop, length-drop}
+use lib.Seq.{slice, length-slice}
+use Rattle.aut68.specs.Bytes.{Bytes}
+use Rattle.aut68.specs.Source.{name, nil, cellsOfSrcs, countSrcs}
+use Rattle.aut68.specs.Expr.{cellss}
+use Rattle.aut68.specs.Lines.{Lines}
+use Rattle.aut68.specs.Procedure.Parse.{named, anExpression, arguments}
+use Rattle.aut68.specs.Procedure.Resolve.{contextAt, resolves, meaning}
+use Rattle.symbols.specs.Symbols.{PastSymbol, NameAt}
+use Rattle.cells.specs.declared.scope.Scope.{Scope}
+use Rattle.cells.specs.Posts.{Bound}
+use Rattle.names.specs.Known.{boundNames}
+use Rattle.names.specs.Posts.{Meant, MeaningFound}
+use Rattle.names.specs.declared.names.Meaning.{Meaning}
+use Rattle.names.proofs.PartLaws.{onto-none, bound-names}
+use Rattle.expressions.specs.declared.parts.Reading.{Reading}
+use Rattle.expressions.specs.Walk.{ReadTo, passed, CellPut, Written}
+use Rattle.expressions.specs.Posts.{Ready, Refusing, ExpressionRead, Counted, ArgumentsRead, NamePut, CountTested}
+use Rattle.expressions.proofs.StoreLaws.{below-same, below-then, below-put}
+use Rattle.expressions.proofs.ReadLaws.{then-done, then-stop, then-give-on, then-map, read-is, no-arguments, some-arguments}
+use Rattle.expressions.proofs.WrittenLaws.{no-arguments-written, name-written}
+use Rattle.expressions.proofs.ExpressionLaws.{ready-inner, onward-refused, symbol-read, symbol-missing, symbol-kinds, code-malformed}
+use Rattle.expressions.proofs.PairLaws.{goOn}
+
+-- ---- a name's cell
+
+module _ {s : Bytes} {scope : Scope} {book tb : List ℕ} {lines indicator : ℕ} {w : List ℕ} {to fault start len : ℕ} where
+  pub put-after-fault : {cell wanted : ℕ} → fault ≢ 0 → NamePut s scope book tb lines indicator w w to fault start len (record { fault = fault; cell = cell; wanted = wanted })
+  put-after-fault n =
+      record { below = below-same to w; kept = λ n. refl; stored = λ z. absurd (n z); meant = λ z. absurd (n z) }
+
+  pub put-no-room : {code cell wanted : ℕ} → fault ≡ 0 → length w ≤ to → NamePut s scope book tb lines indicator w w to fault start len (record { fault = code; cell = cell; wanted = wanted })
+  put-no-room z l =
+      record {
+        below = below-same to w;
+        kept = λ n. absurd (n z);
+        stored = λ z m. absurd (omega arith);
+        meant = λ z m. absurd (omega arith);
+      }
+
+  pub put-meaning : {w′ word : List ℕ} {m : Meaning} → fault ≡ 0 → CellPut w w′ to (m .cell) → word ≡ slice start (start + len) s → start + len ≤ length s
+      → MeaningFound s scope book tb lines indicator word (m .fault) (m .cell) (m .wanted) → NamePut s scope book tb lines indicator w w′ to fault start len m
+  put-meaning {m = m} z put e l h =
+      record {
+        below = below-put put;
+        kept = λ n. absurd (n z);
+        stored = λ z m. put;
+        meant = λ z r p q ls k i d.
+            subst (λ x. Meant ls (contextAt ls indicator) (m .fault) (m .cell) (m .wanted) (meaning ls (contextAt ls indicator) x (boundNames s scope))) e
+            (h .is ls k i d (omega (arith, ap length e, length-slice start (start + len) s l)));
+      }
+
+-- the argument string one level deeper, with the names that are bound around it
+level-arguments : {ks s book tb : List ℕ} {lines indicator : ℕ} {scope inner : Scope} {w w′ : List ℕ} {r r′ : Reading} → Bound scope 0 0 inner → scope .depth < 32
+    → ArgumentsRead ks s inner book tb lines indicator w w′ r r′ → (ls : Lines) → Ready ls ks book tb lines indicator scope → (n : ℕ) → length s - r .at < n
+    → ReadTo s (Counted ls s indicator scope w w′ (r .to) (r .fault) 0 r′) (r′ .code) (r′ .at) (arguments (anExpression (31 - scope .depth)) n (drop (r .at) s))
+level-arguments {s = s} {indicator = indicator} {scope} {inner} {w} {w′} {r} {r′} b l h ls ready n m =
+    let names : boundNames s inner ≡ boundNames s scope = bound-names s b l (ready .sized .starts) (ready .sized .lens) ∙ onto-none 0 _ _ refl in
+    let level : 31 - scope .depth ≡ 32 - inner .depth = omega (arith, b .deeper l) in
+    read-is (ap (λ d. arguments (anExpression d) n (drop (r .at) s)) level)
+    (then-map (h .read ls (ready-inner b l ready) n m) (λ xs X.
+    record {
+      number = X .number;
+      written = subst (λ bs. Written cellsOfSrcs cellss (resolves ls (contextAt ls indicator) bs) w w′ (r .to) (r′ .to) (r .fault) (r′ .fault) xs) names (X .written);
+    }))
+
+module _ {ks s book tb : List ℕ} {lines indicator : ℕ} {scope : Scope} {w : List ℕ} {r : Reading} {start len : ℕ}
+    (fewer : r .to ≤ r .at) (inside : r .at ≤ length s) (l : scope .depth < 32) (n : NameAt ks s (r .at) start len) where
+  pub named-unnamed : {r′ : Reading} → len ≡ 0 → Refusing 3 (r .at) (r .to) r′
+      → ExpressionRead (named (anExpression (31 - scope .depth))) ks s scope book tb lines indicator w w r r′
+  unfolding named
+  named-unnamed e h =
+      record {
+        onward = onward-refused (below-same (r .to) w) h (omega arith) fewer (omega arith) inside;
+        read = λ ls ready. then-stop _ (n .missing (ready .table) inside e) (h .codeIs ∙ sym code-malformed);
+      }
+
+  module _ (e : len ≢ 0) {w₁ : List ℕ} {m : Meaning} (put : NamePut s scope book tb lines indicator w w₁ (r .to) (r .fault) start len m)
+      {o : ℕ} (p : PastSymbol ks s (start + len) 8 o) where
+    pub named-alone : {r′ : Reading} → length s < o → CountTested (goOn (start + len) (r .to + 1) (m .fault)) m r′
+        → ExpressionRead (named (anExpression (31 - scope .depth))) ks s scope book tb lines indicator w w₁ r r′
+    unfolding named countSrcs
+    named-alone {r′} i h =
+        record {
+          onward =
+              record {
+                below = put .below;
+                up = omega (arith, h .to);
+                from = omega (arith, h .at, n .from);
+                inside = omega (arith, h .at, n .within inside);
+                fewer = omega (arith, h .at, h .to, n .from);
+              };
+          read = λ ls ready.
+              then-done _ (n .read (ready .table) inside e)
+              (then-done _ (no-arguments (anExpression (31 - scope .depth)) (drop (start + len) s) (symbol-missing 40 p (symbol-kinds .3) (omega arith) i (ready .table)))
+              (passed (h .code) (ap (λ i. drop i s) (h .at))
+              (name-written ls put (ready .known) (ready .earlier) (ready .sized .deep) (omega arith) (n .within inside) (below-same (r .to + 1) w₁) nil h refl refl
+              (no-arguments-written ls (contextAt ls indicator) (boundNames s scope) w₁ (r .to + 1) (m .fault)))));
+        }
+
+    pub named-read : {wA : List ℕ} {inner : Scope} {a r′ : Reading} → o ≤ length s → Bound scope 0 0 inner
+        → ArgumentsRead ks s inner book tb lines indicator w₁ wA (goOn o (r .to + 1) (m .fault)) a → CountTested a m r′
+        → ExpressionRead (named (anExpression (31 - scope .depth))) ks s scope book tb lines indicator w wA r r′
+    unfolding named
+    named-read {a = a} i b A h =
+        let from = p .from (n .within inside) in
+        record {
+          onward =
+              record {
+                below = below-then (put .below) (omega arith) (A .onward .below);
+                up = omega (arith, h .to, A .onward .up);
+                from = omega (arith, h .at, n .from, A .onward .from, from);
+                inside = omega (arith, h .at, A .onward .inside);
+                fewer = omega (arith, h .at, h .to, A .onward .fewer);
+              };
+          read = λ ls ready.
+              then-done _ (n .read (ready .table) inside e)
+              (then-give-on (name (slice start (start + len) s)) (h .code) (h .at)
+              (read-is (some-arguments (anExpression (31 - scope .depth)) (drop (start + len) s) (symbol-read 40 p (symbol-kinds .3) (omega arith) i (ready .table)))
+              (level-arguments b l A ls ready (length (drop (start + len) s)) (omega (arith, length-drop (start + len) s, from))))
+              (λ xs z X.
+              name-written ls put (ready .known) (ready .earlier) (ready .sized .deep) (omega arith) (n .within inside) (A .onward .below) xs h z
+              (X .number ∙ omega arith) (X .written)));
+        }

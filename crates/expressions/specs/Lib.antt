@@ -1,0 +1,3 @@
+-- Reading a line: its form, its names, its cells.
+pub mod Walk
+pub mod Posts

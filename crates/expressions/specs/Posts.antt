@@ -1,0 +1,93 @@
+-- What the functions that read an expression leave.
+use mathlib.Core.Path.{_≡_}
+use mathlib.Core.Logic.{_≢_}
+use mathlib.Core.List.{List}
+use Prim.Native.Nat.{ℕ, _+_, _-_, _≤_, _<_}
+use lib.ListN.{length, drop}
+use lib.Seq.{slice}
+use Rattle.aut68.specs.Bytes.{Bytes}
+use Rattle.aut68.specs.Source.{Src, Srcs, cellsOfSrc, cellsOfSrcs, countSrcs}
+use Rattle.aut68.specs.Expr.{cells, cellss}
+use Rattle.aut68.specs.Lines.{Lines}
+use Rattle.aut68.specs.Procedure.Parse.{Read, anExpression, arguments}
+use Rattle.aut68.specs.Procedure.Resolve.{resolve, resolves, meaning, contextAt}
+use Rattle.kinds.specs.Kinds.{KindsTable}
+use Rattle.cells.specs.declared.scope.Scope.{Scope}
+use Rattle.names.specs.Known.{Known, boundNames}
+use Rattle.names.specs.Posts.{Meant}
+use Rattle.names.specs.declared.names.Meaning.{Meaning}
+use Rattle.expressions.specs.declared.parts.Reading.{Reading}
+use Rattle.expressions.specs.Walk.{ReadTo, SameBelow, CellPut, Written}
+
+-- a scope of at most 32 entries
+pub record Sized (scope : Scope) : Type 0 where
+  pub starts : length (scope .starts) ≡ 32
+  pub lens : length (scope .lens) ≡ 32
+  pub deep : scope .depth ≤ 32
+
+-- what the names are looked up in: the table of kinds, the earlier lines, the line's indicator, the bindings around
+pub record Ready (ls : Lines) (ks book tb : List ℕ) (lines indicator : ℕ) (scope : Scope) : Type 0 where
+  pub table : KindsTable ks
+  pub known : Known ls book tb lines
+  pub earlier : indicator ≤ lines
+  pub sized : Sized scope
+
+-- the walk ends at byte `at`, cell `to`, with a refusal of the form
+pub record Refusing (code at to : ℕ) (r : Reading) : Type 0 where
+  pub codeIs : r .code ≡ code
+  pub atIs : r .at ≡ at
+  pub toIs : r .to ≡ to
+
+-- Whatever was read: nothing is written below the first cell, the walk goes on from there, inside the line, and it has no more
+-- cells than bytes.
+pub record Onward (s : Bytes) (w w′ : List ℕ) (r r′ : Reading) : Type 0 where
+  pub below : SameBelow (r .to) w w′
+  pub up : r .to ≤ r′ .to
+  pub from : r .at ≤ r′ .at
+  pub inside : r′ .at ≤ length s
+  pub fewer : r′ .to ≤ r′ .at
+
+module _ (ls : Lines) (s : Bytes) (indicator : ℕ) (scope : Scope) (w w′ : List ℕ) (to end fault fault′ : ℕ) where
+  -- the cells of an expression, and of an argument string
+  abbrev pub WrittenOne : Src → Type 0
+  WrittenOne = Written cellsOfSrc cells (resolve ls (contextAt ls indicator) (boundNames s scope)) w w′ to end fault fault′
+
+  abbrev pub WrittenAll : Srcs → Type 0
+  WrittenAll = Written cellsOfSrcs cellss (resolves ls (contextAt ls indicator) (boundNames s scope)) w w′ to end fault fault′
+
+-- the reader m read an expression from r on, and came to r′
+pub record ExpressionRead (m : Read Src) (ks s : Bytes) (scope : Scope) (book tb : List ℕ) (lines indicator : ℕ) (w w′ : List ℕ) (r r′ : Reading) : Type 0 where
+  pub onward : Onward s w w′ r r′
+  pub read : (ls : Lines) → Ready ls ks book tb lines indicator scope
+      → ReadTo s (WrittenOne ls s indicator scope w w′ (r .to) (r′ .to) (r .fault) (r′ .fault)) (r′ .code) (r′ .at) (m (drop (r .at) s))
+
+-- the arguments xs, counted from `count` on, with their cells
+pub record Counted (ls : Lines) (s : Bytes) (indicator : ℕ) (scope : Scope) (w w′ : List ℕ) (to fault count : ℕ) (r′ : Reading) (xs : Srcs) : Type 0 where
+  pub number : r′ .count ≡ count + countSrcs xs
+  pub written : WrittenAll ls s indicator scope w w′ to (r′ .to) fault (r′ .fault) xs
+
+-- the argument string behind `(` was read from r on, up to its `)`; n bounds how many arguments there can be
+pub record ArgumentsRead (ks s : Bytes) (scope : Scope) (book tb : List ℕ) (lines indicator : ℕ) (w w′ : List ℕ) (r r′ : Reading) : Type 0 where
+  pub onward : Onward s w w′ r r′
+  pub read : (ls : Lines) → Ready ls ks book tb lines indicator scope → (n : ℕ) → length s - r .at < n
+      → ReadTo s (Counted ls s indicator scope w w′ (r .to) (r .fault) 0 r′) (r′ .code) (r′ .at)
+      (arguments (anExpression (32 - scope .depth)) n (drop (r .at) s))
+
+-- the cell of a name was written at `to`, unless there was a fault before or no room
+pub record NamePut (s : Bytes) (scope : Scope) (book tb : List ℕ) (lines indicator : ℕ) (w w′ : List ℕ) (to fault start len : ℕ) (m : Meaning) : Type 0 where
+  pub below : SameBelow to w w′
+  pub kept : fault ≢ 0 → m .fault ≡ fault
+  pub stored : fault ≡ 0 → to < length w → CellPut w w′ to (m .cell)
+  pub meant : fault ≡ 0 → to < length w → 1 ≤ len → start + len ≤ length s
+      → (ls : Lines) → Known ls book tb lines → indicator ≤ lines → scope .depth ≤ 32
+      → Meant ls (contextAt ls indicator) (m .fault) (m .cell) (m .wanted)
+      (meaning ls (contextAt ls indicator) (slice start (start + len) s) (boundNames s scope))
+
+-- r is a with 6 as fault where the count of arguments is not the wanted one
+pub record CountTested (a : Reading) (m : Meaning) (r : Reading) : Type 0 where
+  pub code : r .code ≡ a .code
+  pub at : r .at ≡ a .at
+  pub to : r .to ≡ a .to
+  pub kept : m .fault ≢ 0 → r .fault ≡ a .fault
+  pub right : a .count ≡ m .wanted → r .fault ≡ a .fault
+  pub wrong : a .code ≡ 0 → m .fault ≡ 0 → a .count ≢ m .wanted → r .fault ≡ 6

@@ -1,0 +1,265 @@
+// The walk over an expression: functions that call each other, one for each form. specs/Posts has the contracts.
+use crate::parts::Reading;
+use crate::parts::counted;
+use crate::parts::opens;
+use crate::parts::put;
+use crate::parts::put_name;
+use crate::parts::refused;
+use cells::Scope;
+use cells::bind;
+use symbols::kind_at;
+use symbols::name_at;
+use symbols::spaces;
+use symbols::symbol;
+ghost use Prim.Native.Nat.{_-_, _≤_, _<_};
+ghost use lib.ListN.{length};
+ghost use Rattle.aut68.specs.Procedure.Parse.{anExpression, named, application, abstraction};
+ghost use Rattle.expressions.specs.Posts.{ExpressionRead, ArgumentsRead};
+
+// The expression that stands next (anExpression, resolve). The scope has one entry for each nesting level around it.
+// Falls: 32 - depth.
+pub fn expression(
+    line: &[u8],
+    kinds: &[u8; 256],
+    book: &[u8],
+    table: &[u32],
+    lines: usize,
+    indicator: usize,
+    w: &mut [u16],
+    r: Reading,
+    scope: Scope,
+) -> Reading
+    requires { ⌜ (r .to ≤ r .at) × (r .at ≤ length (now line)) ⌝ }
+    ensures { λ r′. ⌜ ExpressionRead (anExpression (32 - scope .depth)) (now (kinds .entry)) (now (line .entry)) scope (now (book .entry)) (now (table .entry)) lines indicator (now (w .entry)) (now (w .exit)) r r′ ⌝ }
+{
+    let at = spaces(line, r.at);
+    let k = kind_at(line, kinds, at);
+    if scope.depth >= 32 {
+        if opens(k) {
+            return refused(cells::TOO_LARGE, at, r.to);
+        }
+        return refused(cells::MALFORMED, at, r.to);
+    }
+    match k {
+        2 => application(line, kinds, book, table, lines, indicator, w, r, scope),
+        3 => abstraction(line, kinds, book, table, lines, indicator, w, r, scope),
+        _ => named(line, kinds, book, table, lines, indicator, w, r, scope),
+    }
+}
+
+// A name with its arguments, if any (named): the name's meaning, its cell, the arguments, their count.
+fn named(
+    line: &[u8],
+    kinds: &[u8; 256],
+    book: &[u8],
+    table: &[u32],
+    lines: usize,
+    indicator: usize,
+    w: &mut [u16],
+    r: Reading,
+    scope: Scope,
+) -> Reading
+    requires { ⌜ (r .to ≤ r .at) × (r .at ≤ length (now line)) × (scope .depth < 32) ⌝ }
+    ensures { λ r′. ⌜ ExpressionRead (named (anExpression (31 - scope .depth))) (now (kinds .entry)) (now (line .entry)) scope (now (book .entry)) (now (table .entry)) lines indicator (now (w .entry)) (now (w .exit)) r r′ ⌝ }
+{
+    let n = name_at(line, kinds, r.at);
+    let start = n.start;
+    let len = n.len;
+    if len == 0 {
+        return refused(cells::MALFORMED, r.at, r.to);
+    }
+    let m = put_name(
+        line,
+        book,
+        table,
+        lines,
+        indicator,
+        w,
+        r.to,
+        r.fault,
+        scope,
+        start,
+        len,
+    );
+    let fault = m.fault;
+    let next = start + len;
+    let to = r.to + 1;
+    let open = symbol(line, kinds, next, kinds::OPEN);
+    if open > line.len() {
+        let alone = Reading {
+            code: 0,
+            at: next,
+            to: to,
+            fault: fault,
+            count: 0,
+        };
+        return counted(alone, m);
+    }
+    let inside = Reading {
+        code: 0,
+        at: open,
+        to: to,
+        fault: fault,
+        count: 0,
+    };
+    let inner = bind(scope, 0, 0);
+    let a = arguments(line, kinds, book, table, lines, indicator, w, inside, inner);
+    counted(a, m)
+}
+
+// One argument or more, up to the `)` (arguments); the scope is theirs.
+// Falls: 33 - depth; in the loop the bytes left.
+fn arguments(
+    line: &[u8],
+    kinds: &[u8; 256],
+    book: &[u8],
+    table: &[u32],
+    lines: usize,
+    indicator: usize,
+    w: &mut [u16],
+    r: Reading,
+    inner: Scope,
+) -> Reading
+    requires { ⌜ (r .to ≤ r .at) × (r .at ≤ length (now line)) ⌝ }
+    ensures { λ r′. ⌜ ArgumentsRead (now (kinds .entry)) (now (line .entry)) inner (now (book .entry)) (now (table .entry)) lines indicator (now (w .entry)) (now (w .exit)) r r′ ⌝ }
+{
+    let mut at = r.at;
+    let mut to = r.to;
+    let mut fault = r.fault;
+    let mut count = 0;
+    loop {
+        let here = Reading {
+            code: 0,
+            at: at,
+            to: to,
+            fault: fault,
+            count: 0,
+        };
+        let a = expression(line, kinds, book, table, lines, indicator, w, here, inner);
+        if a.code != 0 {
+            return a;
+        }
+        to = a.to;
+        fault = a.fault;
+        count = count + 1;
+        let behind = a.at;
+        let comma = symbol(line, kinds, behind, kinds::COMMA);
+        if comma > line.len() {
+            let close = symbol(line, kinds, behind, kinds::CLOSE);
+            if close > line.len() {
+                return refused(cells::MALFORMED, behind, to);
+            }
+            return Reading {
+                code: 0,
+                at: close,
+                to: to,
+                fault: fault,
+                count: count,
+            };
+        }
+        at = comma;
+    }
+}
+
+// `<A>B` (application): its cell, A, and B.
+fn application(
+    line: &[u8],
+    kinds: &[u8; 256],
+    book: &[u8],
+    table: &[u32],
+    lines: usize,
+    indicator: usize,
+    w: &mut [u16],
+    r: Reading,
+    scope: Scope,
+) -> Reading
+    requires { ⌜ (r .to ≤ r .at) × (r .at ≤ length (now line)) × (scope .depth < 32) ⌝ }
+    ensures { λ r′. ⌜ ExpressionRead (application (anExpression (31 - scope .depth))) (now (kinds .entry)) (now (line .entry)) scope (now (book .entry)) (now (table .entry)) lines indicator (now (w .entry)) (now (w .exit)) r r′ ⌝ }
+{
+    let open = symbol(line, kinds, r.at, kinds::LESS);
+    if open > line.len() {
+        return refused(cells::MALFORMED, r.at, r.to);
+    }
+    put(w, r.to, 4);
+    let here = Reading {
+        code: 0,
+        at: open,
+        to: r.to + 1,
+        fault: r.fault,
+        count: 0,
+    };
+    let inner = bind(scope, 0, 0);
+    let a = expression(line, kinds, book, table, lines, indicator, w, here, inner);
+    if a.code != 0 {
+        return a;
+    }
+    let close = symbol(line, kinds, a.at, kinds::GREATER);
+    if close > line.len() {
+        return refused(cells::MALFORMED, a.at, r.to);
+    }
+    let next = Reading {
+        code: 0,
+        at: close,
+        to: a.to,
+        fault: a.fault,
+        count: 0,
+    };
+    expression(line, kinds, book, table, lines, indicator, w, next, inner)
+}
+
+// `[x,A]B` (abstraction): its cell, A, and B with x bound.
+fn abstraction(
+    line: &[u8],
+    kinds: &[u8; 256],
+    book: &[u8],
+    table: &[u32],
+    lines: usize,
+    indicator: usize,
+    w: &mut [u16],
+    r: Reading,
+    scope: Scope,
+) -> Reading
+    requires { ⌜ (r .to ≤ r .at) × (r .at ≤ length (now line)) × (scope .depth < 32) ⌝ }
+    ensures { λ r′. ⌜ ExpressionRead (abstraction (anExpression (31 - scope .depth))) (now (kinds .entry)) (now (line .entry)) scope (now (book .entry)) (now (table .entry)) lines indicator (now (w .entry)) (now (w .exit)) r r′ ⌝ }
+{
+    let open = symbol(line, kinds, r.at, kinds::BRACKET);
+    if open > line.len() {
+        return refused(cells::MALFORMED, r.at, r.to);
+    }
+    let x = name_at(line, kinds, open);
+    let start = x.start;
+    let len = x.len;
+    if len == 0 {
+        return refused(cells::MALFORMED, open, r.to);
+    }
+    let comma = symbol(line, kinds, start + len, kinds::COMMA);
+    if comma > line.len() {
+        return refused(cells::MALFORMED, open, r.to);
+    }
+    put(w, r.to, 5);
+    let here = Reading {
+        code: 0,
+        at: comma,
+        to: r.to + 1,
+        fault: r.fault,
+        count: 0,
+    };
+    let level = bind(scope, 0, 0);
+    let a = expression(line, kinds, book, table, lines, indicator, w, here, level);
+    if a.code != 0 {
+        return a;
+    }
+    let close = symbol(line, kinds, a.at, kinds::UNBRACKET);
+    if close > line.len() {
+        return refused(cells::MALFORMED, a.at, r.to);
+    }
+    let next = Reading {
+        code: 0,
+        at: close,
+        to: a.to,
+        fault: a.fault,
+        count: 0,
+    };
+    let inner = bind(scope, start, len);
+    expression(line, kinds, book, table, lines, indicator, w, next, inner)
+}

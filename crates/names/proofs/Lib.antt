@@ -1,0 +1,5 @@
+-- Laws that the proofs of this crate share.
+pub mod PartLaws
+pub mod FindLaws
+pub mod ContextLaws
+pub mod MeaningLaws

@@ -1,0 +1,218 @@
+-- A part of a list of bytes, and the names that a scope binds.
+use mathlib.Core.Path.{_≡_, refl, sym, ap, _∙_}
+use mathlib.Core.Logic.{_≢_}
+use mathlib.Core.Bool.{Bool, true, false}
+use mathlib.Core.Option.{none, some}
+use mathlib.Core.List.{List, [], _∷_}
+use Prim.Native.Nat.{ℕ, zero, suc, _+_, _*_, _-_, _≤_, _<_}
+use native.Mathlib.Omega.{arith}
+use native.Mathlib.Numerals.{add-one}
+use lib.Dec.{leb}
+use lib.ListN.{length, getD, take, drop, set}
+use lib.Seq.{slice, length-slice, getD-set-same, getD-set-other}
+use borrow.Author.Tests.{eq-eqb, ne-eqb, le-leb, lt-leb, leb-true, leb-false}
+use Rattle.aut68.specs.Bytes.{Bytes, sameBytes}
+use Rattle.aut68.specs.Procedure.Resolve.{placeFrom}
+use Rattle.cells.specs.declared.scope.Scope.{Scope}
+use Rattle.cells.specs.Posts.{Bound}
+use Rattle.cells.specs.Cells.{rowCell}
+use Rattle.cells.specs.RowLaws.{row-cell-is}
+use Rattle.symbols.proofs.Laws.{part, lengths-differ}
+use Rattle.names.specs.Known.{partOf, bindingOnto, namesFrom, boundNames, identifierPart, identifierStart}
+use Rattle.names.specs.Posts.{BindingFound}
+
+-- ---- parts
+
+pub part-whole : (s : Bytes) (start len : ℕ) → start + len ≤ length s → partOf s start len ≡ slice start (start + len) s
+unfolding partOf
+part-whole s start len l = rw (le-leb (start + len) (length s) l, partOf)
+
+pub part-outside : (s : Bytes) (start len : ℕ) → length s < start + len → partOf s start len ≡ []
+unfolding partOf
+part-outside s start len l = rw (lt-leb (start + len) (length s) l, partOf)
+
+-- a part of another length than the word is another word
+pub part-length-differs : (s word : Bytes) (start len : ℕ) → 1 ≤ length word → len ≢ length word → sameBytes word (partOf s start len) ≡ false
+part-length-differs s word start len p n = split (leb (start + len) (length s)) refl
+  where
+    split : (t : Bool) → leb (start + len) (length s) ≡ t → sameBytes word (partOf s start len) ≡ false
+    split true e =
+        let h = leb-true (start + len) (length s) e in
+        lengths-differ word (partOf s start len) (λ q.
+        n (sym (q ∙ ap length (part-whole s start len h) ∙ length-slice start (start + len) s h ∙ omega arith)))
+    split false e =
+        lengths-differ word (partOf s start len) (λ q.
+        let z = q ∙ ap length (part-outside s start len (leb-false (start + len) (length s) e)) in omega arith)
+
+pub part-not-whole : (s word : Bytes) (start len : ℕ) → 1 ≤ length word → length s < start + len → sameBytes word (partOf s start len) ≡ false
+part-not-whole s word start len p l =
+    lengths-differ word (partOf s start len) (λ q. let z = q ∙ ap length (part-outside s start len l) in omega arith)
+
+pub part-compared : (s word : Bytes) (start len : ℕ) → start + len ≤ length s
+    → sameBytes word (take (start + len - start) (drop start s)) ≡ sameBytes word (partOf s start len)
+part-compared s word start len l = ap (sameBytes word) (part s start (start + len) (omega arith) ∙ sym (part-whole s start len l))
+
+-- ---- bound names
+
+pub onto-none : (len : ℕ) (x : Bytes) (xs : List Bytes) → len ≡ 0 → bindingOnto len x xs ≡ xs
+unfolding bindingOnto
+onto-none len x xs e = rw (eq-eqb len 0 e, bindingOnto)
+
+pub onto-one : (len : ℕ) (x : Bytes) (xs : List Bytes) → len ≢ 0 → bindingOnto len x xs ≡ x ∷ xs
+unfolding bindingOnto
+onto-one len x xs n = rw (ne-eqb len 0 n, bindingOnto)
+
+-- an entry at depth d says nothing of those below it
+names-below : (s : Bytes) (starts lens : List ℕ) (d x y i : ℕ) → i ≤ d → namesFrom s (set starts d x) (set lens d y) i ≡ namesFrom s starts lens i
+unfolding namesFrom
+names-below s starts lens d x y zero l = refl
+names-below s starts lens d x y (suc i) l =
+    let p = getD-set-other starts d i x 0 (λ e. omega arith) in
+    let q = getD-set-other lens d i y 0 (λ e. omega arith) in
+    let r = names-below s starts lens d x y i (omega arith) in
+    λ j. bindingOnto (q j) (partOf s (p j) (q j)) (r j)
+
+-- the names of a scope with one entry more
+pub bound-names : (s : Bytes) {scope inner : Scope} {start len : ℕ} → Bound scope start len inner → scope .depth < 32
+    → length (scope .starts) ≡ 32 → length (scope .lens) ≡ 32
+    → boundNames s inner ≡ bindingOnto len (partOf s start len) (boundNames s scope)
+unfolding boundNames namesFrom
+bound-names s {scope} {inner} {start} {len} b l m n =
+    let d = scope .depth in
+    let e : inner .depth ≡ suc d = b .deeper l ∙ omega arith in
+    let p = getD-set-same (scope .starts) d start 0 (omega arith) in
+    let q = getD-set-same (scope .lens) d len 0 (omega arith) in
+    let r = names-below s (scope .starts) (scope .lens) d start len d (omega arith) in
+    (λ j. namesFrom s (b .startsAre l j) (b .lensAre l j) (e j))
+    ∙ (λ j. bindingOnto (q j) (partOf s (p j) (q j)) (r j))
+
+pub no-names : (s : Bytes) (scope : Scope) → scope .depth ≡ 0 → boundNames s scope ≡ []
+unfolding boundNames namesFrom
+no-names s scope e = ap (namesFrom s (scope .starts) (scope .lens)) e
+
+-- ---- the loop of binding
+
+place-here : (k : ℕ) (w x : Bytes) (xs : List Bytes) → sameBytes w x ≡ true → placeFrom k w (x ∷ xs) ≡ some k
+unfolding placeFrom
+place-here k w x xs e = rw (e, placeFrom)
+
+place-later : (k : ℕ) (w x : Bytes) (xs : List Bytes) → sameBytes w x ≡ false → placeFrom k w (x ∷ xs) ≡ placeFrom (suc k) w xs
+unfolding placeFrom
+place-later k w x xs e = rw (e, placeFrom)
+
+-- the word is none of the bound names of the entries from i on, `between` of them
+pub record BoundSoFar (s : Bytes) (scope : Scope) (word : Bytes) (i between : ℕ) : Type 0 where
+  pub deep : scope .depth ≤ 32
+  pub within : i + between ≤ scope .depth
+  pub left : 1 ≤ length word → placeFrom 0 word (boundNames s scope) ≡ placeFrom between word (namesFrom s (scope .starts) (scope .lens) i)
+
+pub bound-start : {s : Bytes} {scope : Scope} {word : Bytes} → scope .depth ≤ 32 → BoundSoFar s scope word (scope .depth) 0
+unfolding boundNames
+bound-start l = record { deep = l; within = omega arith; left = λ p. refl }
+
+-- entry i - 1 is n bytes from `first` on
+module _ {s : Bytes} {scope : Scope} {word : Bytes} {i between n first : ℕ} (h : BoundSoFar s scope word i between) (l : 0 < i)
+    (en : n ≡ getD (scope .lens) (i - 1) 0) (ef : first ≡ getD (scope .starts) (i - 1) 0) where
+  entry : namesFrom s (scope .starts) (scope .lens) i ≡ bindingOnto n (partOf s first n) (namesFrom s (scope .starts) (scope .lens) (i - 1))
+  unfolding namesFrom
+  entry =
+      let e : i ≡ suc (i - 1) = omega arith in
+      ap (namesFrom s (scope .starts) (scope .lens)) e
+      ∙ (λ j. bindingOnto (sym en j) (partOf s (sym ef j) (sym en j)) (namesFrom s (scope .starts) (scope .lens) (i - 1)))
+
+  pub bound-skip : n ≤ 0 → BoundSoFar s scope word (i - 1) between
+  bound-skip z =
+      record {
+        deep = h .deep;
+        within = omega (arith, h .within);
+        left = λ p. h .left p ∙ ap (placeFrom between word) (entry ∙ onto-none n _ _ (omega arith));
+      }
+
+  named-entry : 0 < n → namesFrom s (scope .starts) (scope .lens) i ≡ partOf s first n ∷ namesFrom s (scope .starts) (scope .lens) (i - 1)
+  named-entry z = entry ∙ onto-one n _ _ (λ e. omega arith)
+
+  pub bound-more : 0 < n → (1 ≤ length word → sameBytes word (partOf s first n) ≡ false) → BoundSoFar s scope word (i - 1) (between + 1)
+  bound-more z e =
+      record {
+        deep = h .deep;
+        within = omega (arith, h .within);
+        left = λ p.
+            h .left p
+            ∙ ap (placeFrom between word) (named-entry z)
+            ∙ place-later between word (partOf s first n) _ (e p)
+            ∙ ap (λ k. placeFrom k word (namesFrom s (scope .starts) (scope .lens) (i - 1))) (sym (add-one between));
+      }
+
+  pub bound-found : 0 < n → (1 ≤ length word → sameBytes word (partOf s first n) ≡ true) → BindingFound s scope word between
+  bound-found z e =
+      record {
+        within = omega (arith, h .within, h .deep);
+        bound = λ d p q. h .left p ∙ ap (placeFrom between word) (named-entry z) ∙ place-here between word (partOf s first n) _ (e p);
+        free = λ d p q. absurd (omega (arith, h .within, h .deep));
+      }
+
+pub bound-nowhere : {s : Bytes} {scope : Scope} {word : Bytes} {i between : ℕ} → BoundSoFar s scope word i between → i ≤ 0 → BindingFound s scope word 32
+unfolding namesFrom placeFrom
+bound-nowhere {s} {scope} {word} {i} {between} h l =
+    let e : i ≡ 0 = omega arith in
+    record {
+      within = omega arith;
+      bound = λ d p q. absurd (omega arith);
+      free = λ d p q. h .left p ∙ ap (λ k. placeFrom between word (namesFrom s (scope .starts) (scope .lens) k)) e;
+    }
+
+pub bound-too-deep : {s : Bytes} {scope : Scope} {word : Bytes} → 32 < scope .depth → BindingFound s scope word 32
+bound-too-deep l = record { within = omega arith; bound = λ d p q. absurd (omega arith); free = λ d p q. absurd (omega arith) }
+
+-- ---- identifiers
+
+-- no identifier: the empty part at the book's start
+pub record NoIdentifier (book tb : List ℕ) (line : ℕ) : Type 0 where
+  pub start : identifierStart book tb line ≡ 0
+  pub bytes : identifierPart book tb line ≡ []
+
+pub identifier-of-none : (book tb : List ℕ) (line : ℕ) → line ≡ 0 → NoIdentifier book tb line
+unfolding identifierPart identifierStart
+identifier-of-none book tb line e =
+    let l = lt-leb 1 line (omega arith) in record { start = rw (l, identifierStart); bytes = rw (l, identifierPart) }
+
+pub identifier-not-whole : (book tb : List ℕ) (line : ℕ) → line ≢ 0 → length tb < 8 * line → NoIdentifier book tb line
+unfolding identifierPart identifierStart
+identifier-not-whole book tb line n l =
+    let p = le-leb 1 line (omega arith) in
+    let q = lt-leb (8 * line) (length tb) l in
+    record { start = rw (p, q, identifierStart); bytes = rw (p, q, identifierPart) }
+
+module _ (book tb : List ℕ) {line start len : ℕ} (n : line ≢ 0) (l : 8 * line ≤ length tb)
+    (es : start ≡ getD tb (8 * line - 8) 0) (el : len ≡ getD tb (8 * line - 7) 0) where
+  first-cell : rowCell tb line 0 ≡ start
+  first-cell = let p : 8 * line + 0 - 8 ≡ 8 * line - 8 = omega arith in row-cell-is tb line 0 n ∙ ap (λ i. getD tb i 0) p ∙ sym es
+
+  second-cell : rowCell tb line 1 ≡ len
+  second-cell = let q : 8 * line + 1 - 8 ≡ 8 * line - 7 = omega arith in row-cell-is tb line 1 n ∙ ap (λ i. getD tb i 0) q ∙ sym el
+
+  identifier-part : identifierPart book tb line ≡ partOf book start len
+  unfolding identifierPart
+  identifier-part =
+      let p = le-leb 1 line (omega arith) in
+      let q = le-leb (8 * line) (length tb) l in
+      rw (p, q, identifierPart) (λ j. partOf book (first-cell j) (second-cell j))
+
+  pub identifier-outside : length book < start + len → NoIdentifier book tb line
+  unfolding identifierStart
+  identifier-outside o =
+      let p = le-leb 1 line (omega arith) in
+      let q = le-leb (8 * line) (length tb) l in
+      let r = lt-leb (rowCell tb line 0 + rowCell tb line 1) (length book) (omega (arith, first-cell, second-cell)) in
+      record { start = rw (p, q, r, identifierStart); bytes = identifier-part ∙ part-outside book start len o }
+
+  pub identifier-starts : start + len ≤ length book → start ≡ identifierStart book tb line
+  unfolding identifierStart
+  identifier-starts i =
+      let p = le-leb 1 line (omega arith) in
+      let q = le-leb (8 * line) (length tb) l in
+      let r = le-leb (rowCell tb line 0 + rowCell tb line 1) (length book) (omega (arith, first-cell, second-cell)) in
+      rw (p, q, r, identifierStart) (sym first-cell)
+
+  pub identifier-inside : start + len ≤ length book → take (start + len - start) (drop start book) ≡ identifierPart book tb line
+  identifier-inside i = part book start (start + len) (omega arith) ∙ sym (identifier-part ∙ part-whole book start len i)

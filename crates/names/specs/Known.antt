@@ -1,0 +1,57 @@
+-- What a book, a table and a count of lines say of the lines, and what a scope says of the bound names.
+use mathlib.Core.Path.{_≡_}
+use mathlib.Core.Bool.{true, false, _&&_}
+use mathlib.Core.List.{List, [], _∷_}
+use Prim.Native.Nat.{ℕ, zero, suc, _+_, _*_, _<_}
+use lib.Dec.{eqb, leb}
+use lib.ListN.{length, getD}
+use denote.Ref.{RefT}
+use lib.Seq.{slice}
+use Rattle.aut68.specs.Bytes.{Bytes}
+use Rattle.aut68.specs.Lines.{Line, Lines}
+use Rattle.aut68.specs.Rules.Names.{IsLine, Context}
+use Rattle.cells.specs.Cells.{rowCell}
+use Rattle.cells.specs.Rows.{Rows, Named}
+use Rattle.cells.specs.declared.scope.Scope.{Scope}
+
+-- the first `lines` rows of the table are those of the lines ls, whose names stand in the book
+pub record Known (ls : Lines) (book tb : List ℕ) (lines : ℕ) : Type 0 where
+  pub rows : Rows ls tb
+  pub named : Named ls book tb
+  pub count : length ls ≡ lines
+  pub few : lines < 8192
+  pub contexts : {v : ℕ} {l : Line} → IsLine ls v l → Context ls (l .indicator) (l .context)
+  pub behind : {v : ℕ} {l : Line} → IsLine ls v l → l .indicator < v
+
+-- the len bytes of s from `start` on; the empty part where they are not whole in s
+unfoldable pub partOf : Bytes → ℕ → ℕ → Bytes
+partOf s start len = elim (leb (start + len) (length s)) [ true ↦ slice start (start + len) s | false ↦ [] ]
+
+-- a bound name in front of the others; an entry of length 0 binds nothing
+unfoldable pub bindingOnto : ℕ → Bytes → List Bytes → List Bytes
+bindingOnto len x xs = elim (eqb len 0) [ true ↦ xs | false ↦ x ∷ xs ]
+
+-- the bound names among the first `depth` entries, innermost first
+unfoldable pub namesFrom : Bytes → List ℕ → List ℕ → ℕ → List Bytes
+namesFrom s starts lens zero = []
+namesFrom s starts lens (suc i) = bindingOnto (getD lens i 0) (partOf s (getD starts i 0) (getD lens i 0)) (namesFrom s starts lens i)
+
+unfoldable pub boundNames : Bytes → Scope → List Bytes
+boundNames s scope = namesFrom s (scope .starts) (scope .lens) (scope .depth)
+
+-- the part r of what s lends: the same memory, from index `start` on, with these bytes
+pub record PartLent (s r : RefT (List ℕ)) (start : ℕ) (bytes : Bytes) : Type 0 where
+  pub block : r .ptr .0 ≡ s .ptr .0
+  pub place : r .ptr .1 ≡ s .ptr .1 + start
+  pub contents : r .now ≡ bytes
+
+-- the identifier of a line: the empty part if the line is 0, its row is not whole in the table, or the row points outside
+-- the book
+unfoldable pub identifierPart : Bytes → List ℕ → ℕ → Bytes
+identifierPart book tb line =
+    elim (leb 1 line && leb (8 * line) (length tb)) [ true ↦ partOf book (rowCell tb line 0) (rowCell tb line 1) | false ↦ [] ]
+
+-- where in the book that part starts; an empty part at the book's start where there is no identifier
+unfoldable pub identifierStart : Bytes → List ℕ → ℕ → ℕ
+identifierStart book tb line =
+    elim (leb 1 line && leb (8 * line) (length tb) && leb (rowCell tb line 0 + rowCell tb line 1) (length book)) [ true ↦ rowCell tb line 0 | false ↦ 0 ]

@@ -1,0 +1,3 @@
+-- What names mean, by the rows of the earlier lines and the bindings around an expression.
+pub mod Known
+pub mod Posts

@@ -1,0 +1,49 @@
+-- What the functions on names leave.
+use mathlib.Core.Path.{_≡_}
+use mathlib.Core.Bool.{Bool}
+use mathlib.Core.Option.{Option, none, some}
+use mathlib.Core.List.{List}
+use Prim.Native.Nat.{ℕ, _+_, _*_, _≤_, _<_}
+use lib.ListN.{length}
+use Rattle.aut68.specs.Bytes.{Bytes}
+use Rattle.aut68.specs.Lines.{Lines, numberOf}
+use Rattle.aut68.specs.Procedure.Answer.{Refusal, codeOf}
+use Rattle.aut68.specs.Procedure.Resolve.{Found, Meaning, aBound, aVariable, aConstant, member, placeFrom, meaning, wanted, contextAt}
+use Rattle.cells.specs.declared.scope.Scope.{Scope}
+use Rattle.names.specs.Known.{Known, boundNames}
+
+-- the number, or the given one where there is none
+unfoldable pub numberOr : ℕ → Option ℕ → ℕ
+numberOr n none = n
+numberOr n (some v) = v
+
+-- r is the line whose identifier is the word; 0: none
+pub record LineFound (book tb : List ℕ) (lines : ℕ) (word : Bytes) (r : ℕ) : Type 0 where
+  pub within : r ≤ lines
+  pub is : (ls : Lines) → Known ls book tb lines → 1 ≤ length word → r ≡ numberOr 0 (numberOf word ls)
+
+-- r is the number of bindings between a name and its innermost binding; 32: it is not bound
+pub record BindingFound (s : Bytes) (scope : Scope) (word : Bytes) (r : ℕ) : Type 0 where
+  pub within : r ≤ 32
+  pub bound : scope .depth ≤ 32 → 1 ≤ length word → r < 32 → placeFrom 0 word (boundNames s scope) ≡ some r
+  pub free : scope .depth ≤ 32 → 1 ≤ length word → 32 ≤ r → placeFrom 0 word (boundNames s scope) ≡ none
+
+-- is line v in the context that ends with line `last`?
+pub record InContext (tb : List ℕ) (last v : ℕ) (r : Bool) : Type 0 where
+  pub is : (ls : Lines) (book : Bytes) (lines : ℕ) → Known ls book tb lines → last ≤ lines → 1 ≤ v → r ≡ member v (contextAt ls last)
+
+-- the cell of a name: what it means, without its arguments
+unfoldable pub cellOf : Meaning → ℕ
+cellOf (aBound i) = 8 * i + 2
+cellOf (aVariable v) = 8 * v + 1
+cellOf (aConstant v) = 8 * v + 3
+
+-- a name's cell and how many arguments it takes; or the refusal's code as fault
+pub data Meant (ls : Lines) (context : List ℕ) (fault cell count : ℕ) : Found Meaning → Type 0 where
+  means : {m : Meaning} → fault ≡ 0 → cell ≡ cellOf m → count ≡ wanted ls context m → Meant ls context fault cell count (Found.found m)
+  meansNothing : {r : Refusal} → fault ≡ codeOf r → Meant ls context fault cell count (Found.refused r)
+
+-- the meaning of a word, with the indicator of its line
+pub record MeaningFound (s : Bytes) (scope : Scope) (book tb : List ℕ) (lines indicator : ℕ) (word : Bytes) (fault cell count : ℕ) : Type 0 where
+  pub is : (ls : Lines) → Known ls book tb lines → indicator ≤ lines → scope .depth ≤ 32 → 1 ≤ length word
+      → Meant ls (contextAt ls indicator) fault cell count (meaning ls (contextAt ls indicator) word (boundNames s scope))

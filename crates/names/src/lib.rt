@@ -1,0 +1,7 @@
+// What names mean, and the identifiers of recorded lines.
+mod names;
+
+pub use names::Meaning;
+pub use names::find;
+pub use names::identifier;
+pub use names::meaning_of;

@@ -1,0 +1,203 @@
+-- `indicator*identifier:=`, and where a line ends.
+use mathlib.Core.Path.{_≡_, refl, sym, ap, _∙_}
+use mathlib.Core.Logic.{_≢_}
+use mathlib.Core.Bool.{Bool, true, false}
+use mathlib.Core.Option.{none, some}
+use mathlib.Core.List.{[], _∷_}
+use Prim.Native.Nat.{ℕ, _+_, _-_, _≤_, _<_}
+use native.Mathlib.Omega.{arith}
+use lib.ListN.{length, getD, drop, length-drop}
+use lib.Seq.{slice}
+use borrow.Author.Tests.{eq-eqb, ne-eqb}
+use Rattle.aut68.specs.Bytes.{Bytes, nameByte}
+use Rattle.aut68.specs.Procedure.Answer.{Answer, done, stop, andThen, malformed}
+use Rattle.aut68.specs.Procedure.Parse.{Read, spaces, starts, byte, aName, anIndicator, aLine, bytesLeft}
+use Rattle.kinds.specs.Kinds.{KindsTable, kindOf, placeOr0, kind-of-name, name-of-kind, one-of-kind}
+use Rattle.symbols.specs.Symbols.{firstKind, PastSpaces, KindAt, PastSymbol, NameAt}
+use Rattle.symbols.proofs.Laws.{step, byte-here, byte-missing, byte-end}
+use Rattle.reader.specs.declared.heading.Prefix.{Prefix}
+use Rattle.reader.specs.declared.heading.Head.{Head}
+use Rattle.reader.specs.ReadLine.{afterHeading, nameOr}
+use Rattle.reader.specs.Posts.{PrefixRead, HeadRead}
+
+-- ---- names that may be missing
+
+pub name-none : (s : Bytes) (start len : ℕ) → len ≡ 0 → nameOr s start len ≡ none
+unfolding nameOr
+name-none s start len e = rw (eq-eqb len 0 e, nameOr)
+
+pub name-some : (s : Bytes) (start len : ℕ) → len ≢ 0 → nameOr s start len ≡ some (slice start (start + len) s)
+unfolding nameOr
+name-some s start len n = rw (ne-eqb len 0 n, nameOr)
+
+-- ---- the indicator
+
+starts-name : (bs : Bytes) → firstKind bs ≡ 1 → starts nameByte bs ≡ true
+unfolding starts firstKind
+starts-name [] e = absurd (omega arith)
+starts-name (b ∷ bs) e = name-of-kind b e
+
+starts-no-name : (bs : Bytes) → firstKind bs ≢ 1 → starts nameByte bs ≡ false
+unfolding starts firstKind
+starts-no-name [] n = refl
+starts-no-name (b ∷ bs) n = split (nameByte b) refl
+  where
+    split : (t : Bool) → nameByte b ≡ t → nameByte b ≡ false
+    split false e = e
+    split true e = absurd (n (kind-of-name b e))
+
+no-indicator : (bs : Bytes) → firstKind (spaces bs) ≢ 1 → anIndicator bs ≡ done none bs
+unfolding anIndicator
+no-indicator bs n = rw (starts-no-name (spaces bs) n, anIndicator)
+
+indicator-read : (bs : Bytes) {w rest : Bytes} → firstKind (spaces bs) ≡ 1 → aName bs ≡ done w rest → anIndicator bs ≡ done (some w) rest
+unfolding anIndicator andThen
+indicator-read bs e f = rw (starts-name (spaces bs) e, anIndicator, f) refl
+
+indicator-missing : (bs : Bytes) {rest : Bytes} → firstKind (spaces bs) ≡ 1 → aName bs ≡ stop malformed rest → anIndicator bs ≡ stop malformed rest
+unfolding anIndicator andThen
+indicator-missing bs e f = rw (starts-name (spaces bs) e, anIndicator, f) refl
+
+module _ {ks s : Bytes} {start k : ℕ} (p : PastSpaces s 0 start) (q : KindAt ks s start k) where
+  first-kind : KindsTable ks → k ≡ firstKind (spaces s)
+  first-kind t = q .kind t ∙ ap firstKind (p .rest)
+
+  pub prefix-empty : k ≢ 1 → PrefixRead ks s (record { code = 0; at = 0; start = 0; len = 0 })
+  prefix-empty n =
+      record {
+        inside = omega arith;
+        named = omega arith;
+        read = λ t z. no-indicator s (λ e. n (first-kind t ∙ e)) ∙ ap (λ o. done o s) (sym (name-none s 0 0 refl));
+        missing = λ t z. absurd (z refl);
+      }
+
+  module _ (e : k ≡ 1) {first len : ℕ} (n : NameAt ks s 0 first len) where
+    pub prefix-malformed : len ≡ 0 → PrefixRead ks s (record { code = 3; at = 0; start = 0; len = 0 })
+    prefix-malformed z =
+        record {
+          inside = omega arith;
+          named = omega arith;
+          read = λ t z. absurd (omega arith);
+          missing = λ t x. indicator-missing s (sym (first-kind t) ∙ e) (n .missing t (omega arith) z);
+        }
+
+    pub prefix-named : len ≢ 0 → PrefixRead ks s (record { code = 0; at = first + len; start = first; len = len })
+    prefix-named z =
+        record {
+          inside = n .within (omega arith);
+          named = n .within (omega arith);
+          read = λ t x.
+              indicator-read s (sym (first-kind t) ∙ e) (n .read t (omega arith) z) ∙ ap (λ o. done o (drop (first + len) s)) (sym (name-some s first len z));
+          missing = λ t x. absurd (x refl);
+        }
+
+-- ---- the whole heading
+
+after-stop : {A B : Type 0} (f : A → Read B) {m : Answer Bytes A} {rest : Bytes} → m ≡ stop malformed rest → andThen f m ≡ stop malformed rest
+unfolding andThen
+after-stop f e = ap (andThen f) e
+
+after-done : {A B : Type 0} (f : A → Read B) {m : Answer Bytes A} {a : A} {rest : Bytes} → m ≡ done a rest → andThen f m ≡ f a rest
+unfolding andThen
+after-done f e = ap (andThen f) e
+
+heading-kinds : (kindOf 42 ≡ 4) × (kindOf 58 ≡ 5) × (kindOf 61 ≡ 6)
+unfolding kindOf placeOr0 nameByte
+heading-kinds = (refl, refl, refl)
+
+-- the byte of a kind from 2 on
+byte-of-kind : {ks s : Bytes} {at k : ℕ} (c : ℕ) → KindAt ks s at k → KindsTable ks → kindOf c ≡ k → 2 ≤ k → byte c (drop at s) ≡ done tt (drop (at + 1) s)
+unfolding firstKind
+byte-of-kind {s = s} {at} c q t e l =
+    let i = q .inside (λ z. omega arith) in
+    byte-here s c at i (one-of-kind (getD s at 0) c (omega (arith, e)) (sym (ap firstKind (step s at i)) ∙ sym (q .kind t) ∙ sym e))
+
+byte-of-other : {ks s : Bytes} {at k : ℕ} (c : ℕ) → KindAt ks s at k → KindsTable ks → kindOf c ≢ k → byte c (drop at s) ≡ stop malformed (drop at s)
+unfolding firstKind
+byte-of-other {s = s} {at} c q t n = split _ refl
+  where
+    split : (bs : Bytes) → drop at s ≡ bs → byte c (drop at s) ≡ stop malformed (drop at s)
+    split [] e = ap (byte c) e ∙ no-byte c ∙ ap (stop malformed) (sym e)
+      where
+        no-byte : (c : ℕ) → byte c [] ≡ stop malformed []
+        no-byte c = byte-end [] c 0 (omega arith)
+    split (b ∷ bs) e = ap (byte c) e ∙ byte-missing (b ∷ bs) c 0 (omega arith) (λ z. n (sym (q .kind t ∙ ap firstKind e ∙ ap kindOf z))) ∙ ap (stop malformed) (sym e)
+
+bad-heading : {ks s : Bytes} {h : Head} → (h .code ≡ 3) × (h .at ≡ 0) × (h .start + h .len ≡ 0) × (h .first + h .size ≡ 0)
+    → (KindsTable ks → (rest : Bytes) × (aLine (length s) s ≡ stop malformed rest)) → HeadRead ks s h
+bad-heading b m =
+    record {
+      inside = omega (arith, b .1);
+      indicated = omega (arith, b .2);
+      named = omega (arith, b .3);
+      sized = λ z. absurd (omega (arith, b .0));
+      read = λ t z. absurd (omega (arith, b .0));
+      missing = λ t n. let (rest, e) = m t in (rest, b .0, e);
+    }
+
+bytes-left : (bs : Bytes) → bytesLeft bs ≡ done (length (spaces bs)) bs
+unfolding bytesLeft
+bytes-left bs = refl
+
+abbrev BadHead : Head → Type 0
+BadHead h = (h .code ≡ 3) × (h .at ≡ 0) × (h .start + h .len ≡ 0) × (h .first + h .size ≡ 0)
+
+module _ {ks s : Bytes} {p : Prefix} (P : PrefixRead ks s p) where
+  pub heading-no-indicator : {h : Head} → p .code ≢ 0 → BadHead h → HeadRead ks s h
+  unfolding aLine
+  heading-no-indicator n b = bad-heading b (λ t. (s, after-stop _ (P .missing t n)))
+
+  module _ (z : p .code ≡ 0) {star : ℕ} (q : PastSymbol ks s (p .at) 4 star) where
+    pub heading-no-star : {h : Head} → length s < star → BadHead h → HeadRead ks s h
+    unfolding aLine
+    heading-no-star m b =
+        bad-heading b (λ t. (_, after-done _ (P .read t z) ∙ after-stop _ (q .missing t 42 (heading-kinds .0) (omega arith) m)))
+
+    module _ (i : star ≤ length s) {first size : ℕ} (n : NameAt ks s star first size) where
+      pub heading-no-name : {h : Head} → size ≡ 0 → BadHead h → HeadRead ks s h
+      unfolding aLine
+      heading-no-name e b =
+          bad-heading b (λ t. (
+            _,
+            after-done _ (P .read t z) ∙ after-done _ (q .read t 42 (heading-kinds .0) (omega arith) i) ∙ after-done _ (bytes-left (drop star s))
+                ∙ after-stop _ (n .missing t i e),
+          ))
+
+      module _ (e : size ≢ 0) {colon : ℕ} (c : PastSymbol ks s (first + size) 5 colon) where
+        pub heading-no-colon : {h : Head} → length s < colon → BadHead h → HeadRead ks s h
+        unfolding aLine
+        heading-no-colon m b =
+            bad-heading b (λ t. (
+              _,
+              after-done _ (P .read t z) ∙ after-done _ (q .read t 42 (heading-kinds .0) (omega arith) i) ∙ after-done _ (bytes-left (drop star s))
+                  ∙ after-done _ (n .read t i e) ∙ after-stop _ (c .missing t 58 (heading-kinds .1) (omega arith) m),
+            ))
+
+        module _ (j : colon ≤ length s) {k : ℕ} (d : KindAt ks s colon k) where
+          pub heading-no-equals : {h : Head} → k ≢ 6 → BadHead h → HeadRead ks s h
+          unfolding aLine
+          heading-no-equals m b =
+              bad-heading b (λ t. (
+                _,
+                after-done _ (P .read t z) ∙ after-done _ (q .read t 42 (heading-kinds .0) (omega arith) i) ∙ after-done _ (bytes-left (drop star s))
+                    ∙ after-done _ (n .read t i e) ∙ after-done _ (c .read t 58 (heading-kinds .1) (omega arith) j)
+                    ∙ after-stop _ (byte-of-other 61 d t (λ x. m (sym x ∙ heading-kinds .2))),
+              ))
+
+          pub heading-read : k ≡ 6 → HeadRead ks s (record { code = 0; at = colon + 1; start = p .start; len = p .len; first = first; size = size })
+          unfolding aLine afterHeading
+          heading-read x =
+              record {
+                inside = omega (arith, d .inside (λ y. omega arith));
+                indicated = P .named;
+                named = n .within i;
+                sized = λ y. e;
+                read = λ t y.
+                    let before : length s - length (spaces (drop star s)) ≡ first =
+                    ap (λ bs. length s - length bs) (sym (n .ahead i)) ∙ omega (arith, length-drop first s, n .within i) in
+                    after-done _ (P .read t z) ∙ after-done _ (q .read t 42 (heading-kinds .0) (omega arith) i) ∙ after-done _ (bytes-left (drop star s))
+                    ∙ after-done _ (n .read t i e) ∙ after-done _ (c .read t 58 (heading-kinds .1) (omega arith) j)
+                    ∙ after-done _ (byte-of-kind 61 d t (heading-kinds .2 ∙ sym x) (omega arith))
+                    ∙ ap (λ b. afterHeading (nameOr s (p .start) (p .len)) b (slice first (first + size) s) (drop (colon + 1) s)) before;
+                missing = λ t y. absurd (y refl);
+              }

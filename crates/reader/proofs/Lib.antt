@@ -1,0 +1,6 @@
+-- Laws that the proofs of this crate share.
+pub mod LineEndLaws
+pub mod HeadLaws
+pub mod IndicatorLaws
+pub mod BodyLaws
+pub mod LineLaws

@@ -1,0 +1,346 @@
+-- A line, from its heading and its body.
+use mathlib.Core.Path.{_≡_, refl, sym, ap, ap₂, _∙_, subst}
+use mathlib.Core.Logic.{_≢_, _⊎_, inl, inr, ⊎-elim}
+use mathlib.Core.Bool.{Bool, true, false}
+use mathlib.Core.Option.{Option, none, some}
+use mathlib.Core.List.{List, [], _∷_, _++_, append-assoc}
+use Prim.Native.Nat.{ℕ, zero, suc, _+_, _-_, _*_, _≤_, _<_}
+use native.Mathlib.Omega.{arith}
+use lib.ListN.{length, getD, drop, take, length-append, length-drop, take-append-drop}
+use lib.Seq.{slice, length-slice, length-take-le, getD-append-add, getD-drop}
+use borrow.Author.Tests.{le-leb, lt-leb}
+use Rattle.aut68.specs.Bytes.{Bytes}
+use Rattle.aut68.specs.Source.{Middle, variable, primitive, meaning, middleCells, writtenCells}
+use Rattle.aut68.specs.Expr.{Expr, cells}
+use Rattle.aut68.specs.Lines.{Line, Lines, Kind, lineOf, numberOf, kindNumber, lineCells}
+use Rattle.aut68.specs.Lines as Lines
+use Rattle.aut68.specs.Procedure.Answer.{Act, Answer, done, stop, andThen, Refusal, codeOf, duplicate, tooLarge, ensure}
+use Rattle.aut68.specs.Procedure.Parse.{Placed, aLine}
+use Rattle.aut68.specs.Procedure.Resolve.{Found, found, indicatorLine, unused, resolveMiddle, resolve, contextAt, _>>=_}
+use Rattle.aut68.specs.Procedure.CheckLine.{fromReading, fromNames}
+use Rattle.lookup.specs.LineNumbers.{line-lineOf}
+use Rattle.lookup.specs.Answers.{found-value}
+use Rattle.symbols.proofs.Laws.{part}
+use Rattle.kinds.specs.Kinds.{KindsTable}
+use Rattle.cells.specs.Cells.{rowCell, At}
+use Rattle.cells.specs.Results.{Result, code-nonzero}
+use Rattle.cells.specs.Results as Results
+use Rattle.names.specs.Known.{Known}
+use Rattle.names.specs.Posts.{LineFound}
+use Rattle.names.proofs.MeaningLaws.{option-none, option-some, number-positive}
+use Rattle.names.proofs.ContextLaws.{lineAt}
+use Rattle.expressions.specs.declared.parts.Reading.{Reading}
+use Rattle.expressions.specs.Walk.{ReadTo, passed, refused, Faulted, whole, faulty, SameBelow}
+use Rattle.expressions.proofs.StoreLaws.{part-append, part-stays}
+use Rattle.expressions.proofs.ReadLaws.{read-is}
+use Rattle.reader.specs.declared.heading.Head.{Head}
+use Rattle.reader.specs.declared.lines.Line.{Line as LineOf}
+use Rattle.reader.specs.ReadLine.{readLine, nameOr}
+use Rattle.reader.specs.Posts.{HeadRead, MiddleKind, middleNumber, LineWritten, BodyRead, IndicatorFound, isLine, noLine, LineRead, LineReadInto, LineReadTo}
+
+-- ---- one step of checking, and what comes after it
+
+-- a reading touches no budget
+reading-result : {s : Bytes} {R : Placed → Type 0} {code at : ℕ} {m : Answer Bytes Placed} (b : ℕ) → ReadTo s R code at m → Result R code b (fromReading m b)
+unfolding fromReading
+reading-result b (passed e p h) = Results.passed e h
+reading-result b (refused e) = Results.refused e
+
+module _ {A B : Type 0} {Q : B → Type 0} {code b : ℕ} (f : A → Act ℕ B) where
+  step-read : {m : Answer ℕ A} {a : A} → m ≡ done a b → Result Q code b (f a b) → Result Q code b (andThen f m)
+  unfolding andThen
+  step-read e h = subst (λ m. Result Q code b (andThen f m)) (sym e) h
+
+  step-stopped : {m : Answer ℕ A} {r : Refusal} → m ≡ stop r b → code ≡ codeOf r → Result Q code b (andThen f m)
+  unfolding andThen
+  step-stopped e c = subst (λ m. Result Q code b (andThen f m)) (sym e) (Results.refused c)
+
+  -- names that were looked up
+  step-names : {g : A → List ℕ} {w : List ℕ} {to end fault : ℕ} {fm : Found A} → Faulted g w to end fault fm → fault ≡ 0
+      → ((a : A) → fm ≡ found a → slice to end w ≡ g a → Result Q code b (f a b)) → Result Q code b (andThen f (fromNames fm b))
+  unfolding andThen fromNames
+  step-names (whole {a} e p) z h = h a refl p
+  step-names (faulty {r} e) z h = absurd (code-nonzero r (sym e ∙ z))
+
+  step-fault : {g : A → List ℕ} {w : List ℕ} {to end fault : ℕ} {fm : Found A} → Faulted g w to end fault fm → fault ≢ 0 → code ≡ fault
+      → Result Q code b (andThen f (fromNames fm b))
+  unfolding andThen fromNames
+  step-fault (whole e p) n c = absurd (n e)
+  step-fault (faulty e) n c = Results.refused (c ∙ e)
+
+module _ {B : Type 0} {Q : B → Type 0} {code b : ℕ} (f : Unit {0} → Act ℕ B) where
+  step-right : {t : Bool} (r : Refusal) → t ≡ true → Result Q code b (f tt b) → Result Q code b (andThen f (ensure t r b))
+  unfolding ensure
+  step-right r e h = step-read f (ap (λ t. ensure t r b) e) h
+
+  step-wrong : {t : Bool} (r : Refusal) → t ≡ false → code ≡ codeOf r → Result Q code b (andThen f (ensure t r b))
+  unfolding ensure
+  step-wrong r e c = step-stopped f (ap (λ t. ensure t r b) e) c
+
+module _ {B : Type 0} {Q : B → Type 0} {code b : ℕ} (f : ℕ → Act ℕ B) {lines r : ℕ} where
+  step-indicator : {fi : Found ℕ} {i : ℕ} → IndicatorFound lines r fi → r ≤ 8191 → i ≡ r → Result Q code b (f i b) → Result Q code b (andThen f (fromNames fi b))
+  unfolding andThen fromNames
+  step-indicator (isLine {v} e l) m q h = subst (λ v. Result Q code b (f v b)) (q ∙ e) h
+  step-indicator (noLine e) m q h = absurd (omega arith)
+
+  step-no-indicator : {fi : Found ℕ} → IndicatorFound lines r fi → lines < 8192 → 8191 < r → code ≡ 5 → Result Q code b (andThen f (fromNames fi b))
+  unfolding andThen fromNames codeOf
+  step-no-indicator (isLine e l) n m c = absurd (omega arith)
+  step-no-indicator (noLine e) n m c = Results.refused c
+
+-- ---- the identifier
+
+unused-is : (w : Bytes) (ls : Lines) (o : Option ℕ) → numberOf w ls ≡ o → unused w ls ≡ elim o as (λ _. Bool) [ none ↦ true | some v ↦ false ]
+unfolding unused
+unused-is w ls none e = rw (e, unused)
+unused-is w ls (some v) e = rw (e, unused)
+
+module _ {book tb : List ℕ} {lines taken : ℕ} {word : Bytes} {ls : Lines} (h : LineFound book tb lines word taken) (k : Known ls book tb lines) (l : 1 ≤ length word) where
+  name-unused : taken ≡ 0 → unused word ls ≡ true
+  name-unused z = unused-is word ls none (option-none (numberOf word ls) (number-positive ls word) (sym z ∙ h .is ls k l))
+
+  name-taken : taken ≢ 0 → unused word ls ≡ false
+  name-taken n = unused-is word ls (some taken) (option-some 0 (numberOf word ls) (h .is ls k l) n)
+
+-- ---- kinds and contexts
+
+kind-number : (ls : Lines) (context : List ℕ) (m : Middle) {k : Kind} → resolveMiddle ls context m ≡ found k → kindNumber k ≡ middleNumber m
+unfolding resolveMiddle kindNumber middleNumber _>>=_
+kind-number ls context variable e = ap kindNumber (sym (found-value e))
+kind-number ls context primitive e = ap kindNumber (sym (found-value e))
+kind-number ls context (meaning x) {k} e = split (resolve ls context [] x) e
+  where
+    split : (fe : Found Expr) → _≡_ {A = Found Kind} (fe >>= λ m. found (Lines.abbreviation m)) (found k) → kindNumber k ≡ 2
+    split (Found.found a) e = ap kindNumber (sym (found-value e))
+    split (Found.refused r) e = absurd (Rattle.lookup.specs.Answers.refused≢found e)
+
+context-length : {ls : Lines} {book tb : List ℕ} {lines v context : ℕ} → Known ls book tb lines → v ≤ lines
+    → (v ≡ 0 → context ≡ 0) × (1 ≤ v → context ≡ rowCell tb v 3 + 1) → context ≡ length (contextAt ls v)
+unfolding contextAt
+context-length {ls} {tb = tb} {lines} {v} {context} k l h = split v l h
+  where
+    split : (v : ℕ) → v ≤ lines → (v ≡ 0 → context ≡ 0) × (1 ≤ v → context ≡ rowCell tb v 3 + 1) → context ≡ length (contextAt ls v)
+    split zero l h = h .0 refl
+    split (suc v) l h =
+        let (x, i) = lineAt k (suc v) (omega arith) l in
+        h .1 (omega arith)
+        ∙ ap (λ n. n + 1) (k .rows .row i .contextIs ∙ ap (λ (y : Line). length (y .context)) (sym (line-lineOf i)))
+        ∙ sym (length-append (lineOf ls (suc v) .context) (suc v ∷ []))
+
+indicator-within : {lines found indicator : ℕ} {fi : Found ℕ} → IndicatorFound lines found fi → lines < 8192
+    → (8191 < found → indicator ≡ 0) × (found ≤ 8191 → indicator ≡ found) → indicator ≤ lines
+indicator-within (isLine e l) n h = omega (arith, h .1 (omega arith))
+indicator-within (noLine e) n h = omega (arith, h .0 (omega arith))
+
+zero-or-not : (n : ℕ) → (n ≡ 0) ⊎ (n ≢ 0)
+zero-or-not zero = inl refl
+zero-or-not (suc n) = inr (λ e. omega arith)
+
+-- ---- the cells of a line
+
+module _ {w₁ w₂ : List ℕ} {middle end : ℕ} {xs ys : List ℕ} (below : SameBelow middle w₁ w₂) (l : middle ≤ end) (m : end ≤ length w₂)
+    (p : slice 0 middle w₁ ≡ xs) (q : slice middle end w₂ ≡ ys) where
+  cells-both : take end w₂ ≡ xs ++ ys
+  cells-both = part-append w₂ 0 middle end (omega arith) l m ∙ ap₂ _++_ (part-stays below 0 middle (omega arith) ∙ p) q
+
+  cells-lie : At w₂ 0 (xs ++ ys) (drop end w₂)
+  cells-lie = record { is = sym (take-append-drop end w₂) ∙ ap (λ x. x ++ drop end w₂) cells-both }
+
+-- ---- a line whose heading was refused
+
+module _ {ks s book tb : List ℕ} {lines limit : ℕ} {w : List ℕ} {h : Head} {l : LineOf} (H : HeadRead ks s h) where
+  pub line-heading-refused : h .code ≢ 0 → l .code ≡ h .code → LineReadInto ks s book tb lines limit w w l
+  unfolding readLine fromReading codeOf
+  line-heading-refused n e =
+      record {
+        long = refl;
+        read = λ ls t k room b.
+            let (rest, c, q) = H .missing t n in
+            step-stopped _ (ap (λ m. fromReading m b) q) (e ∙ c);
+      }
+
+-- ---- a line whose heading was read
+
+module _ {ks s book tb : List ℕ} {lines : ℕ} {w w′ : List ℕ} {h : Head} (H : HeadRead ks s h) (hz : h .code ≡ 0) {found indicator kind : ℕ} {r : Reading}
+    (F : (ls : Lines) → Known ls book tb lines → IndicatorFound lines found (indicatorLine ls (nameOr s (h .start) (h .len))))
+    (I : (8191 < found → indicator ≡ 0) × (found ≤ 8191 → indicator ≡ found))
+    (M : MiddleKind ks s (h .at) kind) (B : BodyRead ks s book tb lines indicator w w′ (h .at) kind r) where
+  reading : (ls : Lines) → KindsTable ks → Known ls book tb lines
+      → ReadTo s (LineWritten ls indicator w w′ kind (r .count) (r .to) (r .fault) (h .first) (nameOr s (h .start) (h .len)) (slice (h .first) (h .first + h .size) s))
+      (r .code) (r .at) (aLine (length s) s)
+  reading ls t k =
+      read-is (H .read t hz)
+      (B .read ls (record { table = t; known = k; earlier = indicator-within (F ls k) (k .few) I }) M (nameOr s (h .start) (h .len)) (h .first)
+      (slice (h .first) (h .first + h .size) s))
+
+  pub line-body-refused : {limit : ℕ} {l : LineOf} → r .code ≢ 0 → l .code ≡ r .code → LineReadInto ks s book tb lines limit w w′ l
+  unfolding readLine
+  line-body-refused {limit} {l} n e =
+      record {
+        long = B .long;
+        read = λ ls t k room b.
+            subst (λ c. Result (LineRead s w′ l) c b (readLine ls limit s b)) (sym e) (Results.then-refused _ n (reading-result b (reading ls t k)));
+      }
+
+  module _ (rz : r .code ≡ 0) where
+    pub line-no-indicator : {limit : ℕ} {l : LineOf} → 8191 < found → l .code ≡ 5 → LineReadInto ks s book tb lines limit w w′ l
+    unfolding readLine
+    line-no-indicator g e =
+        record {
+          long = B .long;
+          read = λ ls t k room b.
+              Results.then-passed _ rz (reading-result b (reading ls t k)) (λ p P.
+              step-no-indicator _ (subst (λ o. IndicatorFound lines found (indicatorLine ls o)) (sym (P .indicatorIs)) (F ls k)) (k .few) g e);
+        }
+
+    module _ (le : found ≤ 8191) {taken : ℕ} (T : LineFound book tb lines (take (h .first + h .size - h .first) (drop (h .first) s)) taken) where
+      -- the name of the line p, as it was looked up
+      looked-up : {i : Option Bytes} {before : ℕ} {ls : Lines} {p : Placed} {v u : List ℕ} {a b c d : ℕ}
+          → LineWritten ls indicator v u a b c d before i (slice (h .first) (h .first + h .size) s) p
+          → (take (h .first + h .size - h .first) (drop (h .first) s) ≡ p .line .identifier) × (1 ≤ length (take (h .first + h .size - h .first) (drop (h .first) s)))
+      looked-up P =
+          let e = part s (h .first) (h .first + h .size) (omega arith) in
+          (e ∙ sym (P .identifierIs), omega (arith, ap length e, length-slice (h .first) (h .first + h .size) s (H .named), H .sized hz))
+
+      pub line-taken : {limit : ℕ} {l : LineOf} → taken ≢ 0 → l .code ≡ 4 → LineReadInto ks s book tb lines limit w w′ l
+      unfolding readLine codeOf
+      line-taken n e =
+          record {
+            long = B .long;
+            read = λ ls t k room b.
+                Results.then-passed _ rz (reading-result b (reading ls t k)) (λ p P.
+                let (q, m) = looked-up P in
+                step-indicator _ (subst (λ o. IndicatorFound lines found (indicatorLine ls o)) (sym (P .indicatorIs)) (F ls k)) le (I .1 le)
+                (step-wrong _ duplicate (ap (λ x. unused x ls) (sym q) ∙ name-taken T k m n) e));
+          }
+
+      module _ (free : taken ≡ 0) where
+        pub line-large-middle : {limit : ℕ} {l : LineOf} → limit < r .count → l .code ≡ 10 → LineReadInto ks s book tb lines limit w w′ l
+        unfolding readLine codeOf
+        line-large-middle {limit} g e =
+            record {
+              long = B .long;
+              read = λ ls t k room b.
+                  Results.then-passed _ rz (reading-result b (reading ls t k)) (λ p P.
+                  let (q, m) = looked-up P in
+                  step-indicator _ (subst (λ o. IndicatorFound lines found (indicatorLine ls o)) (sym (P .indicatorIs)) (F ls k)) le (I .1 le)
+                  (step-right _ duplicate (ap (λ x. unused x ls) (sym q) ∙ name-unused T k m free)
+                  (step-wrong _ tooLarge (lt-leb (middleCells (p .line .middle)) limit (omega (arith, P .middleWritten .size))) e)));
+            }
+
+        pub line-large-category : {limit : ℕ} {l : LineOf} → r .count ≤ limit → limit < r .to - r .count → l .code ≡ 10 → LineReadInto ks s book tb lines limit w w′ l
+        unfolding readLine codeOf
+        line-large-category {limit} f g e =
+            record {
+              long = B .long;
+              read = λ ls t k room b.
+                  Results.then-passed _ rz (reading-result b (reading ls t k)) (λ p P.
+                  let (q, m) = looked-up P in
+                  step-indicator _ (subst (λ o. IndicatorFound lines found (indicatorLine ls o)) (sym (P .indicatorIs)) (F ls k)) le (I .1 le)
+                  (step-right _ duplicate (ap (λ x. unused x ls) (sym q) ∙ name-unused T k m free)
+                  (step-right _ tooLarge (le-leb (middleCells (p .line .middle)) limit (omega (arith, P .middleWritten .size)))
+                  (step-wrong _ tooLarge (lt-leb (writtenCells (p .line .category)) limit (omega (arith, P .categoryWritten .size))) e))));
+            }
+
+        module _ {limit : ℕ} (f : r .count ≤ limit) (g : r .to - r .count ≤ limit) where
+          pub line-fault : {l : LineOf} → r .fault ≢ 0 → l .code ≡ r .fault → LineReadInto ks s book tb lines limit w w′ l
+          unfolding readLine
+          line-fault n e =
+              record {
+                long = B .long;
+                read = λ ls t k room b.
+                    Results.then-passed _ rz (reading-result b (reading ls t k)) (λ p P.
+                    let (q, m) = looked-up P in
+                    let middle = P .middleWritten .names refl (omega arith) in
+                    step-indicator _ (subst (λ o. IndicatorFound lines found (indicatorLine ls o)) (sym (P .indicatorIs)) (F ls k)) le (I .1 le)
+                    (step-right _ duplicate (ap (λ x. unused x ls) (sym q) ∙ name-unused T k m free)
+                    (step-right _ tooLarge (le-leb (middleCells (p .line .middle)) limit (omega (arith, P .middleWritten .size)))
+                    (step-right _ tooLarge (le-leb (writtenCells (p .line .category)) limit (omega (arith, P .categoryWritten .size)))
+                    (⊎-elim
+                    (λ z. step-names _ middle z (λ x ex sx. step-fault _ (P .categoryWritten .names z (omega (arith, P .long))) n e))
+                    (λ y. step-fault _ middle y (e ∙ P .categoryWritten .kept y))
+                    (zero-or-not (P .faultBetween)))))));
+              }
+
+          pub line-read : {context : ℕ} → r .fault ≡ 0 → (indicator ≡ 0 → context ≡ 0) × (1 ≤ indicator → context ≡ rowCell tb indicator 3 + 1)
+              → LineReadInto ks s book tb lines limit w w′
+              (record { code = 0; first = h .first; len = h .size; indicator = indicator; context = context; kind = kind; middle = r .count; size = r .to })
+          unfolding readLine lineCells
+          line-read {context} n c =
+              record {
+                long = B .long;
+                read = λ ls t k room b.
+                    Results.then-passed _ rz (reading-result b (reading ls t k)) (λ p P.
+                    let (q, m) = looked-up P in
+                    let z : P .faultBetween ≡ 0 = ⊎-elim (λ z. z) (λ y. absurd (y (sym (P .categoryWritten .kept y) ∙ n))) (zero-or-not (P .faultBetween)) in
+                    let lengths = P .long in
+                    let end : r .to ≤ length w′ = omega (arith, B .long) in
+                    step-indicator _ (subst (λ o. IndicatorFound lines found (indicatorLine ls o)) (sym (P .indicatorIs)) (F ls k)) le (I .1 le)
+                    (step-right _ duplicate (ap (λ x. unused x ls) (sym q) ∙ name-unused T k m free)
+                    (step-right _ tooLarge (le-leb (middleCells (p .line .middle)) limit (omega (arith, P .middleWritten .size)))
+                    (step-right _ tooLarge (le-leb (writtenCells (p .line .category)) limit (omega (arith, P .categoryWritten .size)))
+                    (step-names _ (P .middleWritten .names refl (omega arith)) z (λ x ex sx.
+                    step-names _ (P .categoryWritten .names z (omega arith)) n (λ d ed sd.
+                    Results.passed refl
+                    (record {
+                      firstIs = sym (P .beforeIs);
+                      lenIs = omega (arith, ap length (P .identifierIs), length-slice (h .first) (h .first + h .size) s (H .named));
+                      within = H .named;
+                      identifierIs = sym (P .identifierIs);
+                      indicatorIs = refl;
+                      contextIs = context-length k (indicator-within (F ls k) (k .few) I) c;
+                      kindIs = sym (P .kindIs) ∙ sym (kind-number ls (contextAt ls indicator) (p .line .middle) ex);
+                      middleIs = omega (arith, ap length sx, length-slice 0 (r .count) (P .between) (omega arith));
+                      sizeIs = omega (arith, ap length (cells-both (P .below) (B .upward rz) end sx sd), length-take-le (r .to) w′ end);
+                      after = drop (r .to) w′;
+                      cellsAt = cells-lie (P .below) (B .upward rz) end sx sd;
+                    }))))))));
+              }
+
+-- ---- a line in the first cells of a larger store
+
+module _ {ks s book tb : List ℕ} {lines limit : ℕ} {w : List ℕ} {l : LineOf} where
+  pub line-no-room : length w < 2 * limit → l .code ≡ 10 → LineReadTo ks s book tb lines limit w w l
+  line-no-room m e =
+      record {
+        outside = record { long = refl; same = λ i h. refl };
+        noRoom = λ n. (refl, e);
+        read = λ ls t k room. absurd (omega arith);
+      }
+
+  pub line-in-front : {part : List ℕ} → 2 * limit ≤ length w → LineReadInto ks s book tb lines limit (take (2 * limit) w) part l
+      → LineReadTo ks s book tb lines limit w (part ++ drop (2 * limit) w) l
+  line-in-front {part} m h =
+      let n : length part ≡ 2 * limit = h .long ∙ length-take-le (2 * limit) w m in
+      record {
+        outside =
+            record {
+              long = length-append part (drop (2 * limit) w) ∙ omega (arith, length-drop (2 * limit) w);
+              same = λ i x. ⊎-elim (λ y. absurd (omega arith)) (λ y. behind i y) x;
+            };
+        noRoom = λ z. absurd (omega arith);
+        read = λ ls t k room b.
+            Results.result-map (λ p P.
+            record {
+              firstIs = P .firstIs;
+              lenIs = P .lenIs;
+              within = P .within;
+              identifierIs = P .identifierIs;
+              indicatorIs = P .indicatorIs;
+              contextIs = P .contextIs;
+              kindIs = P .kindIs;
+              middleIs = P .middleIs;
+              sizeIs = P .sizeIs;
+              after = P .after ++ drop (2 * limit) w;
+              cellsAt = record { is = ap (λ x. x ++ drop (2 * limit) w) (P .cellsAt .is) ∙ append-assoc (lineCells (p .line)) (P .after) (drop (2 * limit) w) };
+            }) (h .read ls t k (omega (arith, length-take-le (2 * limit) w m)) b);
+      }
+    where
+      behind : (i : ℕ) → 2 * limit ≤ i → getD (part ++ drop (2 * limit) w) i 0 ≡ getD w i 0
+      behind i y =
+          let n : length part ≡ 2 * limit = h .long ∙ length-take-le (2 * limit) w m in
+          let e : i ≡ length part + (i - 2 * limit) = omega arith in
+          ap (λ j. getD (part ++ drop (2 * limit) w) j 0) e
+          ∙ getD-append-add part (drop (2 * limit) w) (i - 2 * limit) 0
+          ∙ getD-drop (2 * limit) w (i - 2 * limit) 0
+          ∙ ap (λ j. getD w j 0) (omega arith)

@@ -1,0 +1,82 @@
+use native.Mathlib.Omega.{arith}
+use borrow.Author.Needs.{needs}
+use Rattle.reader.proofs.HeadLaws.{heading-no-indicator, heading-no-star, heading-no-name, heading-no-colon, heading-no-equals, heading-read}
+use Rattle.reader.proofs.heading.heading.Statement.{statement}
+use Rattle.reader.proofs.heading.heading.Tie as tie
+
+prefix-of-requires : tie.Need-prefix-of-requires
+prefix-of-requires c κs = search needs
+
+bad-head-requires : tie.Need-bad-head-requires
+bad-head-requires c κs = search needs
+
+returns : tie.Need-returns
+returns c = heading-no-indicator (c .before .before .before .prefix-of .ensures) (c .before .if1 .taken) (c .bad-head .ensures)
+
+symbol-requires : tie.Need-symbol-requires
+symbol-requires c κs = search needs
+
+bad-head-requires-2 : tie.Need-bad-head-requires-2
+bad-head-requires-2 c κs = search needs
+
+returns-2 : tie.Need-returns-2
+returns-2 c = heading-no-star (c .before .before .before .before .before .prefix-of .ensures) (c .before .before .before .if1 .left) (c .before .before .symbol .ensures) (c .before .if2 .taken) (c .bad-head2 .ensures)
+
+name-at-requires : tie.Need-name-at-requires
+name-at-requires c κs = search needs
+
+bad-head-requires-3 : tie.Need-bad-head-requires-3
+bad-head-requires-3 c κs = search needs
+
+returns-3 : tie.Need-returns-3
+returns-3 c = heading-no-name (c .before .before .before .before .before .before .before .prefix-of .ensures) (c .before .before .before .before .before .if1 .left) (c .before .before .before .before .symbol .ensures) (c .before .before .before .if2 .left) (c .before .before .name-at .ensures) (c .before .if3 .taken) (c .bad-head3 .ensures)
+
+add-symbol : tie.Need-add-symbol
+add-symbol c = omega (arith, c .before .name-at .ensures .within (c .before .before .if2 .left), c .before .before .before .before .before .before .before .before)
+
+symbol-requires-2 : tie.Need-symbol-requires-2
+symbol-requires-2 c κs = search needs
+
+bad-head-requires-4 : tie.Need-bad-head-requires-4
+bad-head-requires-4 c κs = search needs
+
+returns-4 : tie.Need-returns-4
+returns-4 c = heading-no-colon (c .before .before .before .before .before .before .before .before .before .prefix-of .ensures) (c .before .before .before .before .before .before .before .if1 .left) (c .before .before .before .before .before .before .symbol .ensures) (c .before .before .before .before .before .if2 .left) (c .before .before .before .before .name-at .ensures) (c .before .before .before .if3 .left) (c .before .before .symbol2 .ensures) (c .before .if4 .taken) (c .bad-head4 .ensures)
+
+kind-at-requires : tie.Need-kind-at-requires
+kind-at-requires c κs = search needs
+
+bad-head-requires-5 : tie.Need-bad-head-requires-5
+bad-head-requires-5 c κs = search needs
+
+returns-5 : tie.Need-returns-5
+returns-5 c = heading-no-equals (c .before .before .before .before .before .before .before .before .before .before .before .prefix-of .ensures) (c .before .before .before .before .before .before .before .before .before .if1 .left) (c .before .before .before .before .before .before .before .before .symbol .ensures) (c .before .before .before .before .before .before .before .if2 .left) (c .before .before .before .before .before .before .name-at .ensures) (c .before .before .before .before .before .if3 .left) (c .before .before .before .before .symbol2 .ensures) (c .before .before .before .if4 .left) (c .before .before .kind-at .ensures) (c .before .if5 .taken) (c .bad-head5 .ensures)
+
+add-t11 : tie.Need-add-t11
+add-t11 c = omega (arith, c .before .before .if4, c .before .before .before .before .before .before .before .before .before .before .before .before)
+
+returns-6 : tie.Need-returns-6
+returns-6 c = heading-read (c .before .before .before .before .before .before .before .before .before .before .prefix-of .ensures) (c .before .before .before .before .before .before .before .before .if1 .left) (c .before .before .before .before .before .before .before .symbol .ensures) (c .before .before .before .before .before .before .if2 .left) (c .before .before .before .before .before .name-at .ensures) (c .before .before .before .before .if3 .left) (c .before .before .before .symbol2 .ensures) (c .before .before .if4 .left) (c .before .kind-at .ensures) (c .if5 .left)
+
+pub heading-spec : {M : Type 1} → statement M
+heading-spec =
+    tie.close
+    (tie.spec
+    prefix-of-requires
+    bad-head-requires
+    returns
+    symbol-requires
+    bad-head-requires-2
+    returns-2
+    name-at-requires
+    bad-head-requires-3
+    returns-3
+    add-symbol
+    symbol-requires-2
+    bad-head-requires-4
+    returns-4
+    kind-at-requires
+    bad-head-requires-5
+    returns-5
+    add-t11
+    returns-6)

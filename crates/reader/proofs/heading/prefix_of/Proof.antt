@@ -1,0 +1,31 @@
+use native.Mathlib.Omega.{arith}
+use borrow.Author.Needs.{needs}
+use Rattle.reader.proofs.HeadLaws.{prefix-empty, prefix-malformed, prefix-named}
+use Rattle.reader.proofs.heading.prefix_of.Statement.{statement}
+use Rattle.reader.proofs.heading.prefix_of.Tie as tie
+
+spaces-requires : tie.Need-spaces-requires
+spaces-requires c κs = search needs
+
+kind-at-requires : tie.Need-kind-at-requires
+kind-at-requires c κs = search needs
+
+returns : tie.Need-returns
+returns c = prefix-empty (c .before .before .spaces .ensures) (c .before .kind-at .ensures) (c .if1 .taken)
+
+name-at-requires : tie.Need-name-at-requires
+name-at-requires c κs = search needs
+
+returns-2 : tie.Need-returns-2
+returns-2 c = prefix-malformed (c .before .before .before .before .spaces .ensures) (c .before .before .before .kind-at .ensures) (c .before .before .if1 .left) (c .before .name-at .ensures) (c .if2 .taken)
+
+add-t9 : tie.Need-add-t9
+add-t9 c = omega (arith, c .before .name-at .ensures .within (omega arith))
+
+returns-3 : tie.Need-returns-3
+returns-3 c = prefix-named (c .before .before .before .before .spaces .ensures) (c .before .before .before .kind-at .ensures) (c .before .before .if1 .left) (c .before .name-at .ensures) (c .if2 .left)
+
+pub prefix-of-spec : {M : Type 1} → statement M
+prefix-of-spec =
+    tie.close
+    (tie.spec spaces-requires kind-at-requires returns name-at-requires returns-2 add-t9 returns-3)

@@ -1,0 +1,3 @@
+-- Reading a line: its form, its names, its cells.
+pub mod ReadLine
+pub mod Posts

@@ -1,0 +1,146 @@
+-- What the functions that read a line leave.
+use mathlib.Core.Path.{_≡_}
+use mathlib.Core.Logic.{_≢_}
+use mathlib.Core.Bool.{true, false}
+use mathlib.Core.Option.{Option}
+use mathlib.Core.List.{List, _∷_}
+use Prim.Native.Nat.{ℕ, _+_, _-_, _*_, _≤_, _<_}
+use lib.ListN.{length, drop, take}
+use lib.Seq.{slice}
+use Rattle.aut68.specs.Bytes.{Bytes, lines, sameBytes, wordPN, wordEB}
+use Rattle.aut68.specs.Source.{Middle, variable, primitive, meaning, Written, middleCells, writtenCells}
+use Rattle.aut68.specs.Expr.{cells}
+use Rattle.aut68.specs.Lines.{Lines, kindCells, kindNumber, lineCells}
+use Rattle.aut68.specs.Procedure.Answer.{done, stop, malformed, unknownName}
+use Rattle.aut68.specs.Procedure.Parse.{Placed, aLine, anIndicator, aMiddle, aCategory, wordAhead}
+use Rattle.aut68.specs.Procedure.Resolve.{Found, resolveMiddle, resolveWritten, contextAt}
+use Rattle.aut68.specs.Procedure.CheckLine.{Passed}
+use Rattle.cells.specs.Cells.{At, Outside}
+use Rattle.cells.specs.Results.{Result}
+use Rattle.kinds.specs.Kinds.{KindsTable}
+use Rattle.names.specs.Known.{Known}
+use Rattle.expressions.specs.declared.parts.Reading.{Reading}
+use Rattle.expressions.specs.Walk as Walk
+use Rattle.expressions.specs.Walk.{ReadTo, SameBelow}
+use Rattle.expressions.specs.Posts.{Onward}
+use Rattle.reader.specs.declared.heading.Prefix.{Prefix}
+use Rattle.reader.specs.declared.heading.Head.{Head}
+use Rattle.reader.specs.declared.lines.Line.{Line}
+use Rattle.reader.specs.ReadLine.{readLine, afterHeading, nameOr}
+
+-- the indicator was read, if there is one
+pub record PrefixRead (ks s : Bytes) (p : Prefix) : Type 0 where
+  pub inside : p .at ≤ length s
+  pub named : p .start + p .len ≤ length s
+  pub read : KindsTable ks → p .code ≡ 0 → anIndicator s ≡ done (nameOr s (p .start) (p .len)) (drop (p .at) s)
+  pub missing : KindsTable ks → p .code ≢ 0 → anIndicator s ≡ stop malformed s
+
+-- `indicator*identifier:=` was read
+pub record HeadRead (ks s : Bytes) (h : Head) : Type 0 where
+  pub inside : h .at ≤ length s
+  pub indicated : h .start + h .len ≤ length s
+  pub named : h .first + h .size ≤ length s
+  pub sized : h .code ≡ 0 → h .size ≢ 0
+  pub read : KindsTable ks → h .code ≡ 0
+      → aLine (length s) s ≡ afterHeading (nameOr s (h .start) (h .len)) (h .first) (slice (h .first) (h .first + h .size) s) (drop (h .at) s)
+  pub missing : KindsTable ks → h .code ≢ 0 → (rest : Bytes) × (h .code ≡ 3) × (aLine (length s) s ≡ stop malformed rest)
+
+-- a middle's kind, by the word that stands next: 0 `EB`, 1 `PN`, else 2
+pub record MiddleKind (ks s : Bytes) (at kind : ℕ) : Type 0 where
+  pub small : kind ≤ 2
+  pub isEB : KindsTable ks → kind ≡ 0 → sameBytes (wordAhead (drop at s)) wordEB ≡ true
+  pub isPN : KindsTable ks → kind ≡ 1 → (sameBytes (wordAhead (drop at s)) wordEB ≡ false) × (sameBytes (wordAhead (drop at s)) wordPN ≡ true)
+  pub isMeaning : KindsTable ks → kind ≡ 2 → (sameBytes (wordAhead (drop at s)) wordEB ≡ false) × (sameBytes (wordAhead (drop at s)) wordPN ≡ false)
+
+unfoldable pub middleNumber : Middle → ℕ
+middleNumber variable = 0
+middleNumber primitive = 1
+middleNumber (meaning e) = 2
+
+-- what names are looked up in, outside every binding
+pub record Lookup (ls : Lines) (ks book tb : List ℕ) (lines indicator : ℕ) : Type 0 where
+  pub table : KindsTable ks
+  pub known : Known ls book tb lines
+  pub earlier : indicator ≤ lines
+
+module _ (ls : Lines) (indicator : ℕ) (w w′ : List ℕ) (to end fault fault′ : ℕ) where
+  -- the cells of a middle, and of a written category
+  abbrev pub WrittenMiddle : Middle → Type 0
+  WrittenMiddle = Walk.Written middleCells kindCells (resolveMiddle ls (contextAt ls indicator)) w w′ to end fault fault′
+
+  abbrev pub WrittenCategory : Written → Type 0
+  WrittenCategory = Walk.Written writtenCells cells (resolveWritten ls (contextAt ls indicator)) w w′ to end fault fault′
+
+-- a middle of this kind was read from `at` on, its cells from 0 on
+pub record MiddleRead (ks s book tb : List ℕ) (lines indicator : ℕ) (w w′ : List ℕ) (at kind : ℕ) (r′ : Reading) : Type 0 where
+  pub below : SameBelow 0 w w′
+  pub from : at ≤ r′ .at
+  pub inside : r′ .at ≤ length s
+  pub fewer : r′ .to ≤ r′ .at
+  pub read : (ls : Lines) → Lookup ls ks book tb lines indicator → MiddleKind ks s at kind
+      → ReadTo s (λ m. (middleNumber m ≡ kind) × WrittenMiddle ls indicator w w′ 0 (r′ .to) 0 (r′ .fault) m) (r′ .code) (r′ .at) (aMiddle (drop at s))
+
+-- a written category was read from r on
+pub record CategoryRead (ks s book tb : List ℕ) (lines indicator : ℕ) (w w′ : List ℕ) (r r′ : Reading) : Type 0 where
+  pub onward : Onward s w w′ r r′
+  pub read : (ls : Lines) → Lookup ls ks book tb lines indicator
+      → ReadTo s (WrittenCategory ls indicator w w′ (r .to) (r′ .to) (r .fault) (r′ .fault)) (r′ .code) (r′ .at) (aCategory (drop (r .at) s))
+
+-- the cells of the line p: the middle's below index `middle`, the category's behind them up to `end`
+pub record LineWritten (ls : Lines) (indicator : ℕ) (w w′ : List ℕ) (kind middle end fault : ℕ) (before : ℕ) (i : Option Bytes) (name : Bytes) (p : Placed) : Type 0 where
+  pub beforeIs : p .before ≡ before
+  pub indicatorIs : p .line .indicator ≡ i
+  pub identifierIs : p .line .identifier ≡ name
+  pub kindIs : middleNumber (p .line .middle) ≡ kind
+  pub between : List ℕ
+  pub faultBetween : ℕ
+  pub middleWritten : WrittenMiddle ls indicator w between 0 middle 0 faultBetween (p .line .middle)
+  pub below : SameBelow middle between w′
+  pub long : length between ≡ length w
+  pub categoryWritten : WrittenCategory ls indicator between w′ middle end faultBetween fault (p .line .category)
+
+-- `middle:category` and byte 10 were read from `at` on; the middle has r′ .count cells
+pub record BodyRead (ks s book tb : List ℕ) (lines indicator : ℕ) (w w′ : List ℕ) (at kind : ℕ) (r′ : Reading) : Type 0 where
+  pub long : length w′ ≡ length w
+  pub upward : r′ .code ≡ 0 → r′ .count ≤ r′ .to
+  pub read : (ls : Lines) → Lookup ls ks book tb lines indicator → MiddleKind ks s at kind → (i : Option Bytes) (before : ℕ) (name : Bytes)
+      → ReadTo s (LineWritten ls indicator w w′ kind (r′ .count) (r′ .to) (r′ .fault) before i name) (r′ .code) (r′ .at) (afterHeading i before name (drop at s))
+
+-- r is the indicator's line, 0 if empty; 8,192 where it is no `EB` line
+pub data IndicatorFound (lines r : ℕ) : Found ℕ → Type 0 where
+  isLine : {v : ℕ} → r ≡ v → v ≤ lines → IndicatorFound lines r (Found.found v)
+  noLine : r ≡ 8192 → IndicatorFound lines r (Found.refused unknownName)
+
+-- the line p as it was read: where its identifier is, its row's numbers, and its cells in the store
+pub record LineRead (s : Bytes) (w′ : List ℕ) (l : Line) (p : Passed) : Type 0 where
+  pub firstIs : l .first ≡ p .before
+  pub lenIs : l .len ≡ length (p .line .identifier)
+  pub within : l .first + l .len ≤ length s
+  pub identifierIs : slice (l .first) (l .first + l .len) s ≡ p .line .identifier
+  pub indicatorIs : l .indicator ≡ p .line .indicator
+  pub contextIs : l .context ≡ length (p .line .context)
+  pub kindIs : l .kind ≡ kindNumber (p .line .kind)
+  pub middleIs : l .middle ≡ length (kindCells (p .line .kind))
+  pub sizeIs : l .size ≡ length (lineCells (p .line))
+  pub after : List ℕ
+  pub cellsAt : At w′ 0 (lineCells (p .line)) after
+
+-- the same for a store of at least 2 × limit cells
+pub record LineReadInto (ks s book tb : List ℕ) (lines limit : ℕ) (w w′ : List ℕ) (l : Line) : Type 0 where
+  pub long : length w′ ≡ length w
+  pub read : (ls : Lines) → KindsTable ks → Known ls book tb lines → 2 * limit ≤ length w
+      → (b : ℕ) → Result (LineRead s w′ l) (l .code) b (readLine ls limit s b)
+
+-- Only the first 2 × limit cells are written. With so many cells there, the code is 0 where the line passes, and else that of
+-- its first refusal; with fewer it is 10.
+pub record LineReadTo (ks s book tb : List ℕ) (lines limit : ℕ) (w w′ : List ℕ) (l : Line) : Type 0 where
+  pub outside : Outside 0 (2 * limit) w w′
+  pub noRoom : length w < 2 * limit → (w′ ≡ w) × (l .code ≡ 10)
+  pub read : (ls : Lines) → KindsTable ks → Known ls book tb lines → 2 * limit ≤ length w
+      → (b : ℕ) → Result (LineRead s w′ l) (l .code) b (readLine ls limit s b)
+
+-- r is the end of the first line of what is left of the book at `at`
+pub record LineEnd (book : Bytes) (at r : ℕ) : Type 0 where
+  pub from : at < length book → at < r
+  pub within : at ≤ length book → r ≤ length book
+  pub is : at < length book → lines (drop at book) ≡ take (r - at) (drop at book) ∷ lines (drop r book)

@@ -1,0 +1,143 @@
+// `middle:category` and byte 10.
+use expressions::Reading;
+use expressions::expression;
+use expressions::put;
+use expressions::refused;
+use symbols::same_bytes;
+use symbols::spaces;
+use symbols::symbol;
+use symbols::word_end;
+ghost use Prim.Native.Nat.{_≤_};
+ghost use lib.ListN.{length};
+ghost use Rattle.reader.specs.Posts.{MiddleKind, MiddleRead, CategoryRead, BodyRead};
+
+// The middle's kind by the word that stands next (aMiddle): 0 EB, 1 PN, else 2.
+pub fn middle_kind(line: &[u8], kinds: &[u8; 256], at: usize) -> u32
+    requires { ⌜ at ≤ length (now line) ⌝ }
+    ensures { λ k. ⌜ MiddleKind (now (kinds .entry)) (now (line .entry)) at k ⌝ }
+{
+    let start = spaces(line, at);
+    let end = word_end(line, kinds, start);
+    if same_bytes(&line[start..end], b"EB") {
+        return 0;
+    }
+    if same_bytes(&line[start..end], b"PN") {
+        return 1;
+    }
+    2
+}
+
+// The middle (aMiddle), its cells from index 0 on. kind 0 or 1: past the word, no cells.
+fn middle(
+    line: &[u8],
+    kinds: &[u8; 256],
+    book: &[u8],
+    table: &[u32],
+    lines: usize,
+    indicator: usize,
+    w: &mut [u16],
+    at: usize,
+    kind: u32,
+) -> Reading
+    requires { ⌜ at ≤ length (now line) ⌝ }
+    ensures { λ r. ⌜ MiddleRead (now (kinds .entry)) (now (line .entry)) (now (book .entry)) (now (table .entry)) lines indicator (now (w .entry)) (now (w .exit)) at kind r ⌝ }
+{
+    if kind < 2 {
+        let start = spaces(line, at);
+        let end = word_end(line, kinds, start);
+        return Reading {
+            code: 0,
+            at: end,
+            to: 0,
+            fault: 0,
+            count: 0,
+        };
+    }
+    let r = Reading {
+        code: 0,
+        at: at,
+        to: 0,
+        fault: 0,
+        count: 0,
+    };
+    let scope = cells::no_bindings();
+    expression(line, kinds, book, table, lines, indicator, w, r, scope)
+}
+
+// The written category (aCategory), its cells from r.to on.
+fn category(
+    line: &[u8],
+    kinds: &[u8; 256],
+    book: &[u8],
+    table: &[u32],
+    lines: usize,
+    indicator: usize,
+    w: &mut [u16],
+    r: Reading,
+) -> Reading
+    requires { ⌜ (r .to ≤ r .at) × (r .at ≤ length (now line)) ⌝ }
+    ensures { λ c. ⌜ CategoryRead (now (kinds .entry)) (now (line .entry)) (now (book .entry)) (now (table .entry)) lines indicator (now (w .entry)) (now (w .exit)) r c ⌝ }
+{
+    let start = spaces(line, r.at);
+    let end = word_end(line, kinds, start);
+    if same_bytes(&line[start..end], b"type") {
+        put(w, r.to, 0);
+        return Reading {
+            code: 0,
+            at: end,
+            to: r.to + 1,
+            fault: r.fault,
+            count: 0,
+        };
+    }
+    let scope = cells::no_bindings();
+    expression(line, kinds, book, table, lines, indicator, w, r, scope)
+}
+
+// Middle and category: `middle:category` and byte 10, the line's last, from `at` on. The middle's cells from 0 on, the
+// category's behind them; `count` is the cells of the middle.
+pub fn body(
+    line: &[u8],
+    kinds: &[u8; 256],
+    book: &[u8],
+    table: &[u32],
+    lines: usize,
+    indicator: usize,
+    w: &mut [u16],
+    at: usize,
+    kind: u32,
+) -> Reading
+    requires { ⌜ at ≤ length (now line) ⌝ }
+    ensures { λ r. ⌜ BodyRead (now (kinds .entry)) (now (line .entry)) (now (book .entry)) (now (table .entry)) lines indicator (now (w .entry)) (now (w .exit)) at kind r ⌝ }
+{
+    let m = middle(line, kinds, book, table, lines, indicator, w, at, kind);
+    if m.code != 0 {
+        return m;
+    }
+    let colon = symbol(line, kinds, m.at, kinds::COLON);
+    if colon > line.len() {
+        return refused(cells::MALFORMED, m.at, m.to);
+    }
+    let here = Reading {
+        code: 0,
+        at: colon,
+        to: m.to,
+        fault: m.fault,
+        count: 0,
+    };
+    let c = category(line, kinds, book, table, lines, indicator, w, here);
+    if c.code != 0 {
+        return c;
+    }
+    let next = symbol(line, kinds, c.at, kinds::NEWLINE);
+    if next != line.len() {
+        return refused(cells::MALFORMED, c.at, c.to);
+    }
+    Reading {
+        code: 0,
+        at: next,
+        to: c.to,
+        fault: c.fault,
+        count: m.to,
+    }
+}

@@ -1,0 +1,169 @@
+// A whole line: form, indicator, identifier, sizes, names, in that order of refusals.
+use crate::body::body;
+use crate::body::middle_kind;
+use crate::heading::heading;
+use names::find;
+ghost use mathlib.Core.Path.{_≡_};
+ghost use Prim.Native.Nat.{_+_, _≤_, _<_};
+ghost use lib.ListN.{length};
+ghost use Rattle.aut68.specs.Lines.{Lines};
+ghost use Rattle.aut68.specs.Procedure.Resolve.{indicatorLine};
+ghost use Rattle.cells.specs.Cells.{rowCell};
+ghost use Rattle.names.specs.Known.{Known};
+ghost use Rattle.reader.specs.ReadLine.{nameOr};
+ghost use Rattle.reader.specs.Posts.{IndicatorFound, LineReadInto, LineReadTo};
+
+// The indicator's line (indicatorLine): 0 if empty, 8,192 where it is no EB line.
+fn indicator_line(
+    line: &[u8],
+    book: &[u8],
+    table: &[u32],
+    lines: usize,
+    start: usize,
+    len: usize,
+) -> usize
+    requires { ⌜ start + len ≤ length (now line) ⌝ }
+    ensures { λ r. ⌜ ((ls : Lines) → Known ls (now (book .entry)) (now (table .entry)) lines → IndicatorFound lines r (indicatorLine ls (nameOr (now (line .entry)) start len))) ⌝ }
+{
+    if len == 0 {
+        return 0;
+    }
+    let end = start + len;
+    let v = find(book, table, lines, &line[start..end]);
+    if v == 0 {
+        return 8192;
+    }
+    let kind = cells::field(table, v, 4);
+    if kind != 0 {
+        return 8192;
+    }
+    v
+}
+
+// A line that was read. code: 0, or its first refusal. first, len: its identifier in the line. indicator: its indicator's line
+// (0 if empty). context: its context length. kind: 0 EB, 1 PN, 2 abbreviation. middle: cells of the middle. size: cells of
+// middle and category.
+pub struct Line {
+    pub code: u32,
+    pub first: usize,
+    pub len: usize,
+    pub indicator: usize,
+    pub context: usize,
+    pub kind: u32,
+    pub middle: usize,
+    pub size: usize,
+}
+
+fn bad_line(code: u32) -> Line
+    ensures { λ l. ⌜ l .code ≡ code ⌝ }
+{
+    Line {
+        code: code,
+        first: 0,
+        len: 0,
+        indicator: 0,
+        context: 0,
+        kind: 0,
+        middle: 0,
+        size: 0,
+    }
+}
+
+// The line: form, indicator, identifier, sizes, names, in that order of refusals (readLine), with the cells of middle and
+// category from index 0 of w on, which has twice `limit` cells.
+fn read_into(
+    line: &[u8],
+    kinds: &[u8; 256],
+    book: &[u8],
+    table: &[u32],
+    lines: usize,
+    w: &mut [u16],
+    limit: usize,
+) -> Line
+    ensures { λ l. ⌜ LineReadInto (now (kinds .entry)) (now (line .entry)) (now (book .entry)) (now (table .entry)) lines limit (now (w .entry)) (now (w .exit)) l ⌝ }
+{
+    let h = heading(line, kinds);
+    if h.code != 0 {
+        return bad_line(h.code);
+    }
+    let at = h.at;
+    let first = h.first;
+    let size = h.size;
+    let found = indicator_line(line, book, table, lines, h.start, h.len);
+    let indicator = known_line(found);
+    let kind = middle_kind(line, kinds, at);
+    let b = body(line, kinds, book, table, lines, indicator, w, at, kind);
+    if b.code != 0 {
+        return bad_line(b.code);
+    }
+    if found > 8191 {
+        return bad_line(cells::UNKNOWN_NAME);
+    }
+    let end = first + size;
+    let taken = find(book, table, lines, &line[first..end]);
+    if taken != 0 {
+        return bad_line(cells::DUPLICATE);
+    }
+    let cells = b.count;
+    let all = b.to;
+    if cells > limit {
+        return bad_line(cells::TOO_LARGE);
+    }
+    if all - cells > limit {
+        return bad_line(cells::TOO_LARGE);
+    }
+    if b.fault != 0 {
+        return bad_line(b.fault);
+    }
+    let context = context_length(table, indicator);
+    Line {
+        code: 0,
+        first: first,
+        len: size,
+        indicator: indicator,
+        context: context,
+        kind: kind,
+        middle: cells,
+        size: all,
+    }
+}
+
+// The line, with the cells of middle and category from index 0 of w on. Writes the first 2 × limit cells of w alone; where w has
+// fewer, nothing, and the answer is 10.
+pub fn read_line(
+    line: &[u8],
+    kinds: &[u8; 256],
+    book: &[u8],
+    table: &[u32],
+    lines: usize,
+    w: &mut [u16],
+    limit: usize,
+) -> Line
+    ensures { λ l. ⌜ LineReadTo (now (kinds .entry)) (now (line .entry)) (now (book .entry)) (now (table .entry)) lines limit (now (w .entry)) (now (w .exit)) l ⌝ }
+{
+    if limit > w.len() / 2 {
+        return bad_line(cells::TOO_LARGE);
+    }
+    let n = 2 * limit;
+    read_into(line, kinds, book, table, lines, &mut w[..n], limit)
+}
+
+// The line's number; 0 where it is none.
+fn known_line(v: usize) -> usize
+    ensures { λ r. ⌜ (8191 < v → r ≡ 0) × (v ≤ 8191 → r ≡ v) ⌝ }
+{
+    if v > 8191 {
+        return 0;
+    }
+    v
+}
+
+// The length of the context that ends with line v; 0 where v is 0.
+fn context_length(table: &[u32], v: usize) -> usize
+    ensures { λ r. ⌜ (v ≡ 0 → r ≡ 0) × (1 ≤ v → r ≡ rowCell (now (table .entry)) v 3 + 1) ⌝ }
+{
+    if v == 0 {
+        return 0;
+    }
+    cells::field(table, v, 3) + 1
+}

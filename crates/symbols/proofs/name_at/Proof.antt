@@ -1,0 +1,56 @@
+use borrow.Author.Needs.{needs}
+use native.Mathlib.Omega.{arith}
+use mathlib.Core.Path.{sym, ap, _∙_}
+use Rattle.aut68.specs.Bytes.{reserved}
+use Rattle.symbols.proofs.Laws.{part, name-outside, name-long, name-reserved, name-word}
+use Rattle.symbols.proofs.name_at.Statement.{statement}
+use Rattle.symbols.proofs.name_at.Tie as tie
+
+returns : tie.Need-returns
+returns c = name-outside (c .if1 .taken)
+
+spaces-requires : tie.Need-spaces-requires
+spaces-requires c κs = search needs
+
+word-end-requires : tie.Need-word-end-requires
+word-end-requires c κs = search needs
+
+sub-len : tie.Need-sub-len
+sub-len c = search needs
+
+returns-2 : tie.Need-returns-2
+returns-2 c = name-long (c .before .before .spaces .ensures) (c .before .word-end .ensures) (omega arith) (omega arith)
+
+sub-is-reserved : tie.Need-sub-is-reserved
+sub-is-reserved c = search needs
+
+part-is-reserved-start : tie.Need-part-is-reserved-start
+part-is-reserved-start c = search needs
+
+part-is-reserved-end : tie.Need-part-is-reserved-end
+part-is-reserved-end c = omega (arith, c .before .word-end .ensures .within (c .before .before .spaces .ensures .within (c .before .before .before .if1 .left)))
+
+is-reserved-requires : tie.Need-is-reserved-requires
+is-reserved-requires c κs = search needs
+
+returns-3 : tie.Need-returns-3
+returns-3 c = name-reserved (c .before .before .before .before .before .spaces .ensures) (c .before .before .before .before .word-end .ensures) (omega arith) (ap reserved (sym (part _ _ _ (c .before .before .before .before .word-end .ensures .from))) ∙ sym (c .before .is-reserved .ensures) ∙ c .if3 .taken)
+
+returns-4 : tie.Need-returns-4
+returns-4 c = name-word (c .before .before .before .before .before .spaces .ensures) (c .before .before .before .before .word-end .ensures) (omega arith) (omega arith) (ap reserved (sym (part _ _ _ (c .before .before .before .before .word-end .ensures .from))) ∙ sym (c .before .is-reserved .ensures) ∙ c .if3 .left)
+
+pub name-at-spec : {M : Type 1} → statement M
+name-at-spec =
+    tie.close
+    (tie.spec
+    returns
+    spaces-requires
+    word-end-requires
+    sub-len
+    returns-2
+    sub-is-reserved
+    part-is-reserved-start
+    part-is-reserved-end
+    is-reserved-requires
+    returns-3
+    returns-4)

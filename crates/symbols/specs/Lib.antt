@@ -1,0 +1,2 @@
+-- What reading at a place of a line gives.
+pub mod Symbols

@@ -1,0 +1,122 @@
+// Symbols and words: what stands at a place of a line. specs/Symbols has the contracts.
+ghost use mathlib.Core.Path.{_≡_};
+ghost use Rattle.aut68.specs.Bytes.{sameBytes, reserved};
+ghost use Rattle.symbols.specs.Symbols.{PastSpaces, KindAt, PastSymbol, WordEnd, NameAt};
+
+// The first byte from `at` on that is no space; the line's length where there is none (spaces).
+pub fn spaces(line: &[u8], at: usize) -> usize
+    ensures { λ r. ⌜ PastSpaces (now (line .entry)) at r ⌝ }
+{
+    let mut i = at;
+    while i < line.len() {
+        if line[i] != 32 {
+            return i;
+        }
+        i = i + 1;
+    }
+    i
+}
+
+// The kind of the byte at `at`; OTHER behind the line's end.
+pub fn kind_at(line: &[u8], kinds: &[u8; 256], at: usize) -> u8
+    ensures { λ r. ⌜ KindAt (now (kinds .entry)) (now (line .entry)) at r ⌝ }
+{
+    if at < line.len() {
+        return kinds::kind_of(kinds, line[at]);
+    }
+    kinds::OTHER
+}
+
+// Past the symbol of one byte of kind k that stands next, after spaces (symbol); past the line's length where another stands.
+pub fn symbol(line: &[u8], kinds: &[u8; 256], at: usize, k: u8) -> usize
+    ensures { λ r. ⌜ PastSymbol (now (kinds .entry)) (now (line .entry)) at k r ⌝ }
+{
+    let i = spaces(line, at);
+    if i >= line.len() {
+        return line.len() + 1;
+    }
+    let found = kinds::kind_of(kinds, line[i]);
+    if found != k {
+        return line.len() + 1;
+    }
+    i + 1
+}
+
+// The end of the longest run of name bytes from `at` on (wordOf, afterWord).
+pub fn word_end(line: &[u8], kinds: &[u8; 256], at: usize) -> usize
+    ensures { λ r. ⌜ WordEnd (now (kinds .entry)) (now (line .entry)) at r ⌝ }
+{
+    let mut i = at;
+    while i < line.len() {
+        let k = kinds::kind_of(kinds, line[i]);
+        if k != 1 {
+            return i;
+        }
+        i = i + 1;
+    }
+    i
+}
+
+// Are the bytes of a and b the same (sameBytes)?
+pub fn same_bytes(a: &[u8], b: &[u8]) -> bool
+    ensures { λ r. ⌜ r ≡ sameBytes (now (a .entry)) (now (b .entry)) ⌝ }
+{
+    if a.len() != b.len() {
+        return false;
+    }
+    let mut i = 0;
+    while i < a.len() {
+        if a[i] != b[i] {
+            return false;
+        }
+        i = i + 1;
+    }
+    true
+}
+
+// Is the word one of type, PN and EB (reserved)?
+pub fn is_reserved(word: &[u8]) -> bool
+    ensures { λ r. ⌜ r ≡ reserved (now (word .entry)) ⌝ }
+{
+    if same_bytes(word, b"type") {
+        return true;
+    }
+    if same_bytes(word, b"PN") {
+        return true;
+    }
+    same_bytes(word, b"EB")
+}
+
+// A name in the line; length 0: no name.
+pub struct Name {
+    pub start: usize,
+    pub len: usize,
+}
+
+// The name that stands next, after spaces (aName): 1 to 32 name bytes and none of the three words; length 0 where none does.
+pub fn name_at(line: &[u8], kinds: &[u8; 256], at: usize) -> Name
+    ensures { λ r. ⌜ NameAt (now (kinds .entry)) (now (line .entry)) at (r .start) (r .len) ⌝ }
+{
+    if at > line.len() {
+        return Name { start: at, len: 0 };
+    }
+    let start = spaces(line, at);
+    let end = word_end(line, kinds, start);
+    let len = end - start;
+    if len > 32 {
+        return Name {
+            start: start,
+            len: 0,
+        };
+    }
+    if is_reserved(&line[start..end]) {
+        return Name {
+            start: start,
+            len: 0,
+        };
+    }
+    Name {
+        start: start,
+        len: len,
+    }
+}
