@@ -1,0 +1,6 @@
+-- Laws that the proofs of several functions cite.
+pub mod RowLaws
+pub mod StoreLaws
+pub mod ReadLaws
+pub mod LineLaws
+pub mod LoopLaws

@@ -1,0 +1,96 @@
+-- The lines of a book, one after the other.
+use mathlib.Core.Path.{_≡_, refl, sym, ap, _∙_}
+use mathlib.Core.Logic.{_≢_, inl, inr}
+use mathlib.Core.List.{List, _∷_}
+use Prim.Native.Nat.{ℕ, suc, _+_, _-_, _≤_}
+use native.Mathlib.Omega.{arith}
+use lib.ListN.{length, drop, drop-of-length-le}
+use Rattle.aut68.specs.Bytes.{Bytes, lines}
+use Rattle.aut68.specs.Procedure.Answer.{done, stop, Refusal}
+use Rattle.aut68.specs.Procedure.CheckLine.{Passed, checkLine}
+use Rattle.aut68.specs.Procedure.Run.{Recorded, Ending, refusedAt, nothing, checkLines, codeAt, lineAt, stepsAt, recordedAt, tableEnd, termsEnd}
+use Rattle.cells.specs.Results.{code-nonzero}
+use Rattle.records.specs.Reached.{reached-nothing, oneMore}
+use Rattle.records.specs.Refusals.{refusal-code, code-most}
+use Rattle.books.specs.Progress.{LineResult, passed, refused, Going, LinesPost, Fitting}
+
+module _ (book : Bytes) (limit N : ℕ) (tb₀ ts₀ : List ℕ) where
+  abbrev ending : Ending
+  ending = checkLines N limit (length tb₀) (length ts₀) nothing 0 N (lines book)
+
+  abbrev from : Recorded → ℕ → ℕ → List Bytes → Ending
+  from k at b pieces = checkLines N limit (length tb₀) (length ts₀) k at b pieces
+
+  one-passes : (k : Recorded) (at b : ℕ) (bytes : Bytes) (more : List Bytes) {p : Passed} {b′ : ℕ} → checkLine (k .recorded) limit (length tb₀) (length ts₀) bytes b ≡ done p b′
+      → from k at b (bytes ∷ more) ≡ from (oneMore k at p) (at + length bytes) b′ more
+  unfolding checkLines oneMore
+  one-passes k at b bytes more e = rw (e, checkLines) refl
+
+  one-stops : (k : Recorded) (at b : ℕ) (bytes : Bytes) (more : List Bytes) {r : Refusal} {b′ : ℕ} → checkLine (k .recorded) limit (length tb₀) (length ts₀) bytes b ≡ stop r b′
+      → from k at b (bytes ∷ more) ≡ refusedAt r (suc (length (k .recorded))) (N - b′) k
+  unfolding checkLines
+  one-stops k at b bytes more e = rw (e, checkLines) refl
+
+  pub going-starts : Going book limit N tb₀ ts₀ 0 0 0 N tb₀ ts₀
+  going-starts = record { recorded = nothing; reached = reached-nothing book limit tb₀ ts₀; goes = refl }
+
+  module _ {at n used b : ℕ} {tb ts : List ℕ} (g : Going book limit N tb₀ ts₀ at n used b tb ts) where
+    -- a line that passes
+    pub going-on : {code next n′ used′ left : ℕ} {tb′ ts′ : List ℕ} → code ≡ 0
+        → LineResult book limit tb₀ ts₀ (g .recorded) at n b tb ts code next n′ used′ left tb′ ts′ → Going book limit N tb₀ ts₀ next n′ used′ left tb′ ts′
+    going-on {next = next} {left = left} z (passed {bytes} {p} cut e d c r) =
+        record {
+          recorded = oneMore (g .recorded) at p;
+          reached = r;
+          goes =
+              g .goes
+              ∙ ap (from (g .recorded) at b) cut
+              ∙ one-passes (g .recorded) at b bytes (lines (drop next book)) d
+              ∙ ap (λ (x : ℕ). from (oneMore (g .recorded) at p) x left (lines (drop next book))) (sym e);
+        }
+    going-on z (refused {r = r} cut d c l t u) = absurd (code-nonzero r (sym c ∙ z))
+
+    -- a line that is refused
+    pub going-stops : {code next n′ used′ left : ℕ} {tb′ ts′ : List ℕ} → code ≢ 0
+        → LineResult book limit tb₀ ts₀ (g .recorded) at n b tb ts code next n′ used′ left tb′ ts′ → LinesPost ending N tb₀ ts₀ code n′ left tb′ ts′
+    unfolding codeAt lineAt stepsAt tableEnd termsEnd recordedAt
+    going-stops z (passed cut e d c r) = absurd (z c)
+    going-stops z (refused {bytes} {more} {r} cut d c l t u) =
+        let R = g .reached in
+        let q = g .goes ∙ ap (from (g .recorded) at b) cut ∙ one-stops (g .recorded) at b bytes more d in
+        let low = refusal-code (g .recorded .recorded) (R .derived) limit (length tb₀) (length ts₀) bytes b d in
+        record {
+          codeIs = c ∙ sym (ap codeAt q);
+          acceptedLine = λ x. absurd (z x);
+          refusedLine = λ x. (let i = R .linesAre in let j : n + 1 ≡ suc (length (g .recorded .recorded)) = omega arith in ap (λ (y : ℕ). y + 1) l ∙ j) ∙ sym (ap lineAt q);
+          published = inr (omega arith, omega (arith, code-most r));
+          few = (let i = R .few in omega arith);
+          stepsAre = sym (ap stepsAt q);
+          tableIs = t ∙ R .tableIs ∙ sym (ap (λ e. tableEnd e tb₀) q);
+          termsAre = u ∙ R .termsAre ∙ sym (ap (λ e. termsEnd e ts₀) q);
+        }
+
+    -- no line is left
+    pub going-ends : length book ≤ at → LinesPost ending N tb₀ ts₀ 0 n b tb ts
+    unfolding codeAt lineAt stepsAt tableEnd termsEnd recordedAt checkLines lines
+    going-ends h =
+        let R = g .reached in
+        let q = g .goes ∙ ap (λ (x : Bytes). from (g .recorded) at b (lines x)) (drop-of-length-le book h) in
+        record {
+          codeIs = sym (ap codeAt q);
+          acceptedLine = λ x. R .linesAre ∙ sym (ap lineAt q);
+          refusedLine = λ x. absurd (x refl);
+          published = inl refl;
+          few = R .few;
+          stepsAre = sym (ap stepsAt q);
+          tableIs = R .tableIs ∙ sym (ap (λ e. tableEnd e tb₀) q);
+          termsAre = R .termsAre ∙ sym (ap (λ e. termsEnd e ts₀) q);
+        }
+
+-- the same code, under another name
+pub ends-as : {e : Ending} {N : ℕ} {tb ts : List ℕ} {code n left : ℕ} {tb′ ts′ : List ℕ} → code ≡ 0 → LinesPost e N tb ts 0 n left tb′ ts′ → LinesPost e N tb ts code n left tb′ ts′
+ends-as z p = rw z p
+
+-- a working store of the same length serves as well
+pub fitting-as : {book : Bytes} {limit : ℕ} {w w′ : List ℕ} → Fitting book limit w → length w′ ≡ length w → Fitting book limit w′
+fitting-as f e = record { small = f .small; enough = (let h = f .enough in omega arith); short = f .short }

@@ -1,0 +1,126 @@
+-- A line's cells exchanged with term cells, checked there, and exchanged back.
+use mathlib.Core.Path.{_≡_, refl, sym, ap, _∙_}
+use mathlib.Core.Logic.{_≢_}
+use mathlib.Core.List.{List, _++_, append-assoc}
+use Prim.Native.Nat.{ℕ, _+_, _*_, _≤_, _<_}
+use native.Mathlib.Omega.{arith}
+use lib.ListN.{length, take, drop, length-append, take-append-drop}
+use lib.Seq.{sets, sets-eq, length-sets, take-at, drop-at, take-add, length-take-le}
+use Rattle.aut68.specs.Expr.{Expr, size, cells}
+use Rattle.aut68.specs.Lines.{Line, Lines, Kind, variable, primitive, abbreviation, kindCells, lineCells}
+use Rattle.aut68.specs.Procedure.Answer.{Answer, _>>=_}
+use Rattle.aut68.specs.Procedure.CheckLine.{checkWritten, checkMiddle}
+use Rattle.cells.specs.Cells.{At, Outside, Below, copyCells}
+use Rattle.cells.specs.Layout.{unitAt}
+use Rattle.cells.specs.Results.{Result, passed, refused}
+use Rattle.cells.specs.Stores.{at-taken, at-sets, outside-below}
+use Rattle.cells.specs.CopyLaws.{copied, copied-length, copy-whole, copy-outside}
+use Rattle.cells.specs.Forests.{size-is-length}
+use Rattle.categories.specs.Posts.{CheckCellsPost}
+use Rattle.books.specs.Progress.{ToStore}
+
+-- ---- an exchange and back
+
+module _ (ts w : List ℕ) (used size : ℕ) (h : used + size ≤ length ts) (k : size ≤ length w) where
+  terms-exchanged : {xs behind : List ℕ} → At w 0 xs behind → size ≡ length xs → copyCells w 0 size ts used ≡ sets ts used xs
+  unfolding copied
+  terms-exchanged {xs} a e =
+      copy-whole w 0 size ts used (omega arith) h
+      ∙ ap (sets ts used) (ap (λ (n : ℕ). take n w) e ∙ at-taken a)
+
+  work-exchanged : take size (copyCells ts used size w 0) ≡ take size (drop used ts)
+  unfolding copied
+  work-exchanged =
+      let ys = take size (drop used ts) in
+      let l : length ys ≡ size = copied-length ts used size w 0 h in
+      ap (take size) (copy-whole ts used size w 0 h (omega arith))
+      ∙ ap (λ (n : ℕ). take n (sets w 0 ys)) (sym l)
+      ∙ at-taken (at-sets w ys 0 (omega (arith, l)))
+
+-- a run written over another, and the first again
+sets-back : (ts xs : List ℕ) (i n : ℕ) → length xs ≡ n → i + n ≤ length ts → sets (sets ts i xs) i (take n (drop i ts)) ≡ ts
+sets-back ts xs i n e h =
+    let ys = take n (drop i ts) in
+    let t = sets ts i xs in
+    let l : length ys ≡ n = copied-length ts i n ts 0 h in
+    let a : t ≡ take i ts ++ xs ++ drop (i + length xs) ts = sets-eq xs ts i (omega arith) in
+    let f : length (take i ts) ≡ i = length-take-le i ts (omega arith) in
+    let front : take i t ≡ take i ts = ap (take i) (a ∙ append-assoc (take i ts) xs (drop (i + length xs) ts)) ∙ take-at (take i ts) (xs ++ drop (i + length xs) ts) i f in
+    let g : length (take i ts ++ xs) ≡ i + length ys = omega (arith, length-append (take i ts) xs) in
+    let back : drop (i + length ys) t ≡ drop (i + n) ts = ap (drop (i + length ys)) a ∙ drop-at (take i ts ++ xs) (drop (i + length xs) ts) (i + length ys) g ∙ ap (λ (m : ℕ). drop (i + m) ts) e in
+    sets-eq ys t i (omega (arith, length-sets ts i xs))
+    ∙ ap (λ (x : List ℕ). x ++ ys ++ drop (i + length ys) t) front
+    ∙ ap (λ (x : List ℕ). take i ts ++ ys ++ x) back
+    ∙ ap (λ (x : List ℕ). x ++ drop (i + n) ts) (sym (take-add i n ts))
+    ∙ take-append-drop (i + n) ts
+
+module _ (ts w : List ℕ) (used size : ℕ) (h : used + size ≤ length ts) (k : size ≤ length w) where
+  -- what was displaced still stands at the front of the working store
+  pub exchanged-back : {from end : ℕ} (ts′ w′ w″ : List ℕ) → ts′ ≡ copyCells w 0 size ts used → w′ ≡ copyCells ts used size w 0
+      → size ≤ from → Outside from end w′ w″ → copyCells w″ 0 size ts′ used ≡ ts
+  unfolding copied
+  exchanged-back ts′ w′ w″ p q f o =
+      let xs = take size w in
+      let l : length xs ≡ size = length-take-le size w k in
+      let e : ts′ ≡ sets ts used xs = p ∙ copy-whole w 0 size ts used (omega arith) h in
+      let same : take size w″ ≡ take size (drop used ts) = outside-below f o ∙ ap (take size) q ∙ work-exchanged ts w used size h k in
+      let long : length w″ ≡ length w = o .long ∙ ap length q ∙ copy-outside ts used size w 0 .long in
+      ap (λ (x : List ℕ). copyCells w″ 0 size x used) e
+      ∙ copy-whole w″ 0 size (sets ts used xs) used (omega arith) (omega (arith, length-sets ts used xs))
+      ∙ ap (sets (sets ts used xs) used) same
+      ∙ sets-back ts xs used size l h
+
+-- ---- the check between them
+
+pub result-refused : {A : Type 0} {R : A → Type 0} {Q : A → Type 0} {code left : ℕ} {m : Answer ℕ A} → code ≢ 0 → Result R code left m → Result Q code left m
+result-refused n (passed e h) = absurd (n e)
+result-refused n (refused e) = refused e
+
+-- a row written, with another name for one of its cells
+pub row-with : (t t′ : List ℕ) (i n : ℕ) {x y : ℕ} (row : ℕ → List ℕ) → x ≡ y → (Below n (row x) → t′ ≡ sets t i (row x)) → Below n (row y) → t′ ≡ sets t i (row y)
+row-with t t′ i n row e f b = rw (← e) (f (rw (← e) at b))
+
+kind-small : (limit : ℕ) (k : Kind) → ((m : Expr) → k ≡ abbreviation m → size m ≤ limit) → length (kindCells k) ≤ limit
+unfolding kindCells
+kind-small limit variable h = omega arith
+kind-small limit primitive h = omega arith
+kind-small limit (abbreviation m) h = omega (arith, h m refl, size-is-length m)
+
+module _ {ls : Lines} {l : Line} {limit used middle size : ℕ} {tb ts w : List ℕ} (s : ToStore ls l limit used middle size tb ts w) (h : used + size ≤ length ts) where
+  -- a line's cells are at most two units
+  pub two-units : size ≤ 2 * limit
+  unfolding lineCells
+  two-units =
+      let q = s .sizeIs in
+      let m = kind-small limit (l .kind) (λ m e. s .cells .middleSmall m e .0) in
+      let c = s .cells .categorySmall .0 in
+      omega (arith, q, m, c, size-is-length (l .category), length-append (kindCells (l .kind)) (cells (l .category)))
+
+  pub size-fits : size ≤ length w
+  size-fits = let q = s .enough in omega (arith, two-units)
+
+  pub cells-stored : (ts′ : List ℕ) → ts′ ≡ copyCells w 0 size ts used → ts′ ≡ sets ts used (lineCells l)
+  cells-stored ts′ e = e ∙ terms-exchanged ts w used size h size-fits (s .cellsAt) (s .sizeIs)
+
+  pub category-starts : used + middle < 4294967296
+  unfolding lineCells
+  category-starts =
+      let q = s .sizeIs in
+      let e = s .cells .ends in
+      let f = s .few in
+      omega (arith, q, e, f, length-append (kindCells (l .kind)) (cells (l .category)))
+
+  pub checked : (ts′ w′ w″ : List ℕ) (category budget code left : ℕ) → ts′ ≡ copyCells w 0 size ts used → w′ ≡ copyCells ts used size w 0
+      → (used + middle < 4294967296 → category ≡ used + middle)
+      → CheckCellsPost tb (take (used + size) ts′) used category w′ limit budget w″ code left
+      → Result (λ _. Unit {0}) code left ((checkWritten ls limit (l .category) >>= λ _. checkMiddle ls limit (l .kind) (l .category)) budget)
+  checked ts′ w′ w″ category budget code left p q r post =
+      post .means {ls = ls} {l = l} (rw (cells-stored ts′ p) (s .book)) (let e = s .enough in omega (arith, ap length q, copy-outside ts used size w 0 .long))
+      (rw (cells-stored ts′ p, r category-starts) (s .cells))
+
+  pub put-back : (ts′ w′ w″ : List ℕ) (category budget code left : ℕ) → ts′ ≡ copyCells w 0 size ts used → w′ ≡ copyCells ts used size w 0
+      → CheckCellsPost tb (take (used + size) ts′) used category w′ limit budget w″ code left
+      → {ts″ : List ℕ} → ts″ ≡ copyCells w″ 0 size ts′ used → ts″ ≡ ts
+  unfolding unitAt
+  put-back ts′ w′ w″ category budget code left p q post e =
+      e ∙ exchanged-back ts w used size h size-fits ts′ w′ w″ p q (omega (arith, two-units)) (post .frame (s .book .limit))

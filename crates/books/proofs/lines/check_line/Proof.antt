@@ -1,0 +1,167 @@
+-- `check_line`: each of its four ends is one of LineLaws.
+use Prim.Native.Nat.{suc, _+_, _*_, _≤_, _<_}
+use native.Mathlib.Omega.{arith}
+use lib.ListN.{length}
+use Rattle.books.proofs.RowLaws.{room-facts}
+use Rattle.books.proofs.LineLaws.{line-as, ends-unread, ends-full, ends-refused, ends-passed}
+use borrow.Author.Needs.{needs}
+use Rattle.books.proofs.lines.check_line.Statement.{statement}
+use Rattle.books.proofs.lines.check_line.Tie as tie
+
+line-end-requires : tie.Need-line-end-requires
+line-end-requires c κs = search needs
+
+sub-read-line : tie.Need-sub-read-line
+sub-read-line c = omega (arith, c .line-end .ensures .from (c .before .before .before .before .before .pre))
+
+part-read-line-start : tie.Need-part-read-line-start
+part-read-line-start c = omega (arith, c .line-end .ensures .from (c .before .before .before .before .before .pre))
+
+part-read-line-end : tie.Need-part-read-line-end
+part-read-line-end c = c .line-end .ensures .within (omega (arith, c .before .before .before .before .before .pre))
+
+read-line-requires : tie.Need-read-line-requires
+read-line-requires c κs = search needs
+
+stopped-requires : tie.Need-stopped-requires
+stopped-requires c κs = search needs
+
+same-length : tie.Need-same-length
+same-length c = search needs
+
+same-length-2 : tie.Need-same-length-2
+same-length-2 c = search needs
+
+returns : tie.Need-returns
+returns c =
+    let a = c .before .before .before .before .before .before .before .before .before .before .before .before .before .before .args in
+    let e = c .before .before .before .before .before .before .before .before .before .line-end in
+    let r = c .before .before .before .before .before .read-line in
+    line-as (c .stopped .ensures)
+    (record {
+      onward = λ z. absurd (c .before .if1 .taken z);
+      means = λ f t h. ends-unread h (a .p .budget) (c .before .before .before .before .before .before .before .before .before .before .before .before .before .before .pre) (e .ensures) f t (r .ensures) (c .before .if1 .taken);
+    })
+
+has-room-requires : tie.Need-has-room-requires
+has-room-requires c κs = search needs
+
+stopped-requires-2 : tie.Need-stopped-requires-2
+stopped-requires-2 c κs = search needs
+
+same-length-3 : tie.Need-same-length-3
+same-length-3 c = search needs
+
+same-length-4 : tie.Need-same-length-4
+same-length-4 c = search needs
+
+returns-2 : tie.Need-returns-2
+returns-2 c =
+    let a = c .before .before .before .before .before .before .before .before .before .before .before .before .before .before .before .before .args in
+    let e = c .before .before .before .before .before .before .before .before .before .before .before .line-end in
+    let r = c .before .before .before .before .before .before .before .read-line in
+    line-as (c .stopped2 .ensures)
+    (record {
+      onward = λ z. absurd (omega arith);
+      means = λ f t h. ends-full h (a .p .budget) (c .before .before .before .before .before .before .before .before .before .before .before .before .before .before .before .before .pre) (e .ensures) f t (r .ensures) (c .before .before .before .if1 .left) (c .before .if2 .taken) (c .before .before .has-room .ensures);
+    })
+
+sum-requires : tie.Need-sum-requires
+sum-requires c κs = search needs
+
+-- what is known where there is room
+room-here : (c : tie.Else2)
+    → let a = c .before .before .before .before .before .before .before .before .before .before .before .before .before .before .before .args in
+    (suc (a .p .lines) < 8192) × (8 * suc (a .p .lines) ≤ length (a .table .now)) × (a .p .used + c .before .before .before .before .before .before .read-line .result .size ≤ length (a .store .now))
+room-here c =
+    let a = c .before .before .before .before .before .before .before .before .before .before .before .before .before .before .before .args in
+    room-facts (length (a .table .now)) (length (a .store .now)) (a .p .lines) (a .p .used) (c .before .before .before .before .before .before .read-line .result .size) (c .if2 .left) (c .before .has-room .ensures)
+
+check-stored-requires : tie.Need-check-stored-requires
+check-stored-requires c κs = room-here (c .before .before .before .before) .2
+
+stopped-requires-3 : tie.Need-stopped-requires-3
+stopped-requires-3 c κs = search needs
+
+same-length-5 : tie.Need-same-length-5
+same-length-5 c = search needs
+
+same-length-6 : tie.Need-same-length-6
+same-length-6 c = search needs
+
+same-length-7 : tie.Need-same-length-7
+same-length-7 c = search needs
+
+returns-3 : tie.Need-returns-3
+returns-3 c =
+    let a = c .before .before .before .before .before .before .before .before .before .before .before .before .before .before .before .before .before .before .before .before .before .before .before .before .before .before .before .before .before .args in
+    let e = c .before .before .before .before .before .before .before .before .before .before .before .before .before .before .before .before .before .before .before .before .before .before .before .before .line-end in
+    let r = c .before .before .before .before .before .before .before .before .before .before .before .before .before .before .before .before .before .before .before .before .read-line in
+    let k = c .before .before .before .before .before .before .before .before .before .check-stored in
+    line-as (c .stopped3 .ensures)
+    (record {
+      onward = λ z. absurd (c .before .if3 .taken z);
+      means =
+          λ f t h. ends-refused h (a .p .budget) (c .before .before .before .before .before .before .before .before .before .before .before .before .before .before .before .before .before .before .before .before .before .before .before .before .before .before .before .before .before .pre) (e .ensures) f t (r .ensures) (c .before .before .before .before .before .before .before .before .before .before .before .before .before .before .before .before .if1 .left) (c .before .before .before .before .before .before .before .before .before .before .before .before .before .before .if2 .left) (c .before .before .before .before .before .before .before .before .before .before .before .before .before .before .before .has-room .ensures)
+          (c .before .before .before .before .before .before .before .before .before .before .before .before .before .sum .ensures) (k .ensures) (c .before .if3 .taken);
+    })
+
+add-t25 : tie.Need-add-t25
+add-t25 c = omega (arith, room-here (c .before .before .before .before .before .before .before .before .before .before .before .before .before) .0)
+
+add-t17 : tie.Need-add-t17
+add-t17 c = omega (arith, c .before .before .before .before .before .before .before .before .before .before .before .before .before .before .before .before .before .before .before .before .before .before .before .before .before .before .before .before .before .good .1 .1 .1 .0 .0, room-here (c .before .before .before .before .before .before .before .before .before .before .before .before .before .before) .2)
+
+same-length-8 : tie.Need-same-length-8
+same-length-8 c = search needs
+
+same-length-9 : tie.Need-same-length-9
+same-length-9 c = search needs
+
+same-length-10 : tie.Need-same-length-10
+same-length-10 c = search needs
+
+returns-4 : tie.Need-returns-4
+returns-4 c =
+    let a = c .before .before .before .before .before .before .before .before .before .before .before .before .before .before .before .before .before .before .before .before .before .before .before .before .before .before .before .before .before .args in
+    let e = c .before .before .before .before .before .before .before .before .before .before .before .before .before .before .before .before .before .before .before .before .before .before .before .before .line-end in
+    let r = c .before .before .before .before .before .before .before .before .before .before .before .before .before .before .before .before .before .before .before .before .read-line in
+    let k = c .before .before .before .before .before .before .before .before .before .check-stored in
+    record {
+      onward = λ z. (e .ensures .from (c .before .before .before .before .before .before .before .before .before .before .before .before .before .before .before .before .before .before .before .before .before .before .before .before .before .before .before .before .before .pre), e .ensures .within (omega (arith, c .before .before .before .before .before .before .before .before .before .before .before .before .before .before .before .before .before .before .before .before .before .before .before .before .before .before .before .before .before .pre)));
+      means =
+          λ f t h. ends-passed h (a .p .budget) (c .before .before .before .before .before .before .before .before .before .before .before .before .before .before .before .before .before .before .before .before .before .before .before .before .before .before .before .before .before .pre) (e .ensures) f t (r .ensures) (c .before .before .before .before .before .before .before .before .before .before .before .before .before .before .before .before .if1 .left) (c .before .before .before .before .before .before .before .before .before .before .before .before .before .before .if2 .left) (c .before .before .before .before .before .before .before .before .before .before .before .before .before .before .before .has-room .ensures)
+          (c .before .before .before .before .before .before .before .before .before .before .before .before .before .sum .ensures) (k .ensures) (c .before .if3 .left);
+    }
+
+pub check-line-spec : {M : Type 1} → statement M
+check-line-spec =
+    tie.close
+    (tie.spec
+    line-end-requires
+    sub-read-line
+    part-read-line-start
+    part-read-line-end
+    read-line-requires
+    stopped-requires
+    same-length
+    same-length-2
+    returns
+    has-room-requires
+    stopped-requires-2
+    same-length-3
+    same-length-4
+    returns-2
+    sum-requires
+    check-stored-requires
+    stopped-requires-3
+    same-length-5
+    same-length-6
+    same-length-7
+    returns-3
+    add-t25
+    add-t17
+    same-length-8
+    same-length-9
+    same-length-10
+    returns-4)

@@ -1,0 +1,104 @@
+-- `check_stored`: the exchange, the check of the categories, the exchange back or the row.
+use mathlib.Core.Path.{refl, sym}
+use mathlib.Core.List.{[], _∷_}
+use Prim.Native.Nat.{_+_, _*_}
+use native.Mathlib.Omega.{arith}
+use lib.Seq.{length-take-le}
+use Rattle.cells.specs.Results.{result-map}
+use Rattle.books.proofs.StoreLaws.{result-refused, row-with, category-starts, cells-stored, checked, put-back}
+use borrow.Author.Needs.{needs}
+use Rattle.books.proofs.lines.check_stored.Statement.{statement}
+use Rattle.books.proofs.lines.check_stored.Tie as tie
+
+exchange-requires : tie.Need-exchange-requires
+exchange-requires c κs = search needs
+
+add-stop : tie.Need-add-stop
+add-stop c = search needs
+
+sum-requires : tie.Need-sum-requires
+sum-requires c κs = search needs
+
+slice-reshare-prefix-check-cells : tie.Need-slice-reshare-prefix-check-cells
+slice-reshare-prefix-check-cells c = search needs
+
+slice-aggregate-check-cells : tie.Need-slice-aggregate-check-cells
+slice-aggregate-check-cells c = sym (length-take-le _ _ (omega (arith, c .before .before .before .before .before .before .before .exchange .kept .0)))
+
+check-cells-requires : tie.Need-check-cells-requires
+check-cells-requires c κs = search needs
+
+exchange-requires-2 : tie.Need-exchange-requires-2
+exchange-requires-2 c κs = search needs
+
+same-length : tie.Need-same-length
+same-length c = search needs
+
+same-length-2 : tie.Need-same-length-2
+same-length-2 c = search needs
+
+same-length-3 : tie.Need-same-length-3
+same-length-3 c = search needs
+
+returns : tie.Need-returns
+returns c =
+    let a = c .before .before .before .before .before .before .before .before .before .before .before .before .before .before .before .before .before .before .before .before .before .before .before .before .before .before .args in
+    let x = c .before .before .before .before .before .before .before .before .before .before .before .before .before .before .before .before .before .before .before .before .exchange in
+    let k = c .before .before .before .before .before .before .before .before .before .before .before .check-cells in
+    let m = c .before .before .before .before .before .before .before .before .before .before .before .before .before .before .before .sum in
+    let fits = c .before .before .before .before .before .before .before .before .before .before .before .before .before .before .before .before .before .before .before .before .before .before .before .before .before .before .pre in
+    record {
+      means = λ s. result-refused (c .before .before .before .before .before .before .before .if1 .taken) (checked s fits (x .last .0) (x .last .1 .1 .0) (k .last .1 .1 .1 .1 .0) (m .result) (a .budget) (k .result .code) (k .result .budget) (x .ensures .0) (x .ensures .1) (m .ensures) (k .ensures));
+      restored = λ s n. (refl, put-back s fits (x .last .0) (x .last .1 .1 .0) (k .last .1 .1 .1 .1 .0) (m .result) (a .budget) (k .result .code) (k .result .budget) (x .ensures .0) (x .ensures .1) (k .ensures) (c .before .before .before .before .exchange2 .ensures .0));
+    }
+
+put-row-requires : tie.Need-put-row-requires
+put-row-requires c κs = search needs
+
+same-length-4 : tie.Need-same-length-4
+same-length-4 c = search needs
+
+same-length-5 : tie.Need-same-length-5
+same-length-5 c = search needs
+
+same-length-6 : tie.Need-same-length-6
+same-length-6 c = search needs
+
+returns-2 : tie.Need-returns-2
+returns-2 c =
+    let a = c .before .before .before .before .before .before .before .before .before .before .before .before .before .before .before .before .before .before .before .before .before .before .before .args in
+    let x = c .before .before .before .before .before .before .before .before .before .before .before .before .before .before .before .before .before .exchange in
+    let k = c .before .before .before .before .before .before .before .before .check-cells in
+    let m = c .before .before .before .before .before .before .before .before .before .before .before .before .sum in
+    let fits = c .before .before .before .before .before .before .before .before .before .before .before .before .before .before .before .before .before .before .before .before .before .before .before .pre in
+    record {
+      means =
+          λ s. result-map
+          (λ u h. record {
+            tableIs = λ n b. row-with (a .table .now) (c .before .before .put-row .last .0) (8 * a .lines) 4294967296 (λ y. a .first ∷ a .l .len ∷ a .l .indicator ∷ a .l .context ∷ a .l .kind ∷ a .used ∷ y ∷ (a .used + a .l .size) ∷ []) (m .ensures (category-starts s fits)) (c .before .before .put-row .ensures n) b;
+            termsAre = cells-stored s fits (x .last .0) (x .ensures .0);
+          })
+          (checked s fits (x .last .0) (x .last .1 .1 .0) (k .last .1 .1 .1 .1 .0) (m .result) (a .budget) (k .result .code) (k .result .budget) (x .ensures .0) (x .ensures .1) (m .ensures) (k .ensures));
+      restored = λ s n. absurd (n (c .before .before .before .before .if1 .left));
+    }
+
+pub check-stored-spec : {M : Type 1} → statement M
+check-stored-spec =
+    tie.close
+    (tie.spec
+    exchange-requires
+    add-stop
+    sum-requires
+    slice-reshare-prefix-check-cells
+    slice-aggregate-check-cells
+    check-cells-requires
+    exchange-requires-2
+    same-length
+    same-length-2
+    same-length-3
+    returns
+    put-row-requires
+    same-length-4
+    same-length-5
+    same-length-6
+    returns-2)

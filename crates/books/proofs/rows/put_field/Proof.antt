@@ -1,0 +1,52 @@
+-- `put_field`: one cell, or nothing past the end of the table.
+use mathlib.Core.Path.{sym}
+use native.Mathlib.Omega.{arith}
+use lib.Seq.{set-out}
+use borrow.Author.Needs.{needs}
+use Rattle.books.proofs.rows.put_field.Statement.{statement}
+use Rattle.books.proofs.rows.put_field.Tie as tie
+
+returns : tie.Need-returns
+returns c = λ h k. absurd (omega arith)
+
+returns-2 : tie.Need-returns-2
+returns-2 c = λ h k. absurd (omega arith)
+
+mul-at : tie.Need-mul-at
+mul-at c = search needs
+
+add-at : tie.Need-add-at
+add-at c = search needs
+
+cast-table : tie.Need-cast-table
+cast-table c = search needs
+
+mul-table : tie.Need-mul-table
+mul-table c = search needs
+
+slice-write-table : tie.Need-slice-write-table
+slice-write-table c = search needs
+
+same-length : tie.Need-same-length
+same-length c = search needs
+
+returns-3 : tie.Need-returns-3
+returns-3 c = search needs
+
+returns-4 : tie.Need-returns-4
+returns-4 c = λ h k. sym (set-out _ _ _ (omega arith))
+
+pub put-field-spec : {M : Type 1} → statement M
+put-field-spec =
+    tie.close
+    (tie.spec
+    returns
+    returns-2
+    mul-at
+    add-at
+    cast-table
+    mul-table
+    slice-write-table
+    same-length
+    returns-3
+    returns-4)

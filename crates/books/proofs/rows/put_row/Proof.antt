@@ -1,0 +1,76 @@
+-- `put_row`: eight cells one after the other.
+use mathlib.Core.Path.{_∙_}
+use Rattle.cells.specs.Cells.{Below}
+use Rattle.books.proofs.RowLaws.{row-put}
+use borrow.Author.Needs.{needs}
+use Rattle.books.proofs.rows.put_row.Statement.{statement}
+use Rattle.books.proofs.rows.put_row.Tie as tie
+
+put-field-requires : tie.Need-put-field-requires
+put-field-requires c κs = search needs
+
+put-field-requires-2 : tie.Need-put-field-requires-2
+put-field-requires-2 c κs = search needs
+
+put-field-requires-3 : tie.Need-put-field-requires-3
+put-field-requires-3 c κs = search needs
+
+put-field-requires-4 : tie.Need-put-field-requires-4
+put-field-requires-4 c κs = search needs
+
+cast-put-field : tie.Need-cast-put-field
+cast-put-field c = search needs
+
+put-field-requires-5 : tie.Need-put-field-requires-5
+put-field-requires-5 c κs = search needs
+
+put-field-requires-6 : tie.Need-put-field-requires-6
+put-field-requires-6 c κs = search needs
+
+put-field-requires-7 : tie.Need-put-field-requires-7
+put-field-requires-7 c κs = search needs
+
+put-field-requires-8 : tie.Need-put-field-requires-8
+put-field-requires-8 c κs = search needs
+
+same-length : tie.Need-same-length
+same-length c =
+    c .before .before .put-field8 .kept .0
+    ∙ c .before .before .before .before .before .before .put-field7 .kept .0
+    ∙ c .before .before .before .before .before .before .before .before .before .before .put-field6 .kept .0
+    ∙ c .before .before .before .before .before .before .before .before .before .before .before .before .before .before .put-field5 .kept .0
+    ∙ c .before .before .before .before .before .before .before .before .before .before .before .before .before .before .before .before .before .before .before .put-field4 .kept .0
+    ∙ c .before .before .before .before .before .before .before .before .before .before .before .before .before .before .before .before .before .before .before .before .before .before .before .put-field3 .kept .0
+    ∙ c .before .before .before .before .before .before .before .before .before .before .before .before .before .before .before .before .before .before .before .before .before .before .before .before .before .before .before .put-field2 .kept .0
+    ∙ c .before .before .before .before .before .before .before .before .before .before .before .before .before .before .before .before .before .before .before .before .before .before .before .before .before .before .before .before .before .before .before .put-field .kept .0
+
+returns : tie.Need-returns
+unfolding Below
+returns c = λ h b.
+    let a = c .before .before .before .before .before .before .before .before .before .before .before .before .before .before .before .before .before .before .before .before .before .before .before .before .before .before .before .before .before .before .before .before .before .before .args in
+    row-put (a .lines) (a .first) (a .l .len) (a .l .indicator) (a .l .context) (a .l .kind) (a .start) (a .category) (a .end) (a .table .now)
+    (c .before .before .before .before .before .before .before .before .before .before .before .before .before .before .before .before .before .before .before .before .before .before .before .before .before .before .before .before .before .before .before .put-field .last .0) (c .before .before .before .before .before .before .before .before .before .before .before .before .before .before .before .before .before .before .before .before .before .before .before .before .before .before .before .put-field2 .last .0) (c .before .before .before .before .before .before .before .before .before .before .before .before .before .before .before .before .before .before .before .before .before .before .before .put-field3 .last .0) (c .before .before .before .before .before .before .before .before .before .before .before .before .before .before .before .before .before .before .before .put-field4 .last .0) (c .before .before .before .before .before .before .before .before .before .before .before .before .before .before .put-field5 .last .0) (c .before .before .before .before .before .before .before .before .before .before .put-field6 .last .0) (c .before .before .before .before .before .before .put-field7 .last .0) (c .before .before .put-field8 .last .0)
+    (c .before .before .before .before .before .before .before .before .before .before .before .before .before .before .before .before .before .before .before .before .before .before .before .before .before .before .before .before .before .before .before .put-field .ensures h (b .0))
+    (c .before .before .before .before .before .before .before .before .before .before .before .before .before .before .before .before .before .before .before .before .before .before .before .before .before .before .before .put-field2 .ensures h (b .1 .0))
+    (c .before .before .before .before .before .before .before .before .before .before .before .before .before .before .before .before .before .before .before .before .before .before .before .put-field3 .ensures h (b .1 .1 .0))
+    (c .before .before .before .before .before .before .before .before .before .before .before .before .before .before .before .before .before .before .before .put-field4 .ensures h (b .1 .1 .1 .0))
+    (c .before .before .before .before .before .before .before .before .before .before .before .before .before .before .put-field5 .ensures h (b .1 .1 .1 .1 .0))
+    (c .before .before .before .before .before .before .before .before .before .before .put-field6 .ensures h (b .1 .1 .1 .1 .1 .0))
+    (c .before .before .before .before .before .before .put-field7 .ensures h (b .1 .1 .1 .1 .1 .1 .0))
+    (c .before .before .put-field8 .ensures h (b .1 .1 .1 .1 .1 .1 .1 .0))
+
+pub put-row-spec : {M : Type 1} → statement M
+put-row-spec =
+    tie.close
+    (tie.spec
+    put-field-requires
+    put-field-requires-2
+    put-field-requires-3
+    put-field-requires-4
+    cast-put-field
+    put-field-requires-5
+    put-field-requires-6
+    put-field-requires-7
+    put-field-requires-8
+    same-length
+    returns)

@@ -1,0 +1,89 @@
+-- What the functions that check a book leave, from one line to the next.
+use mathlib.Core.Path.{_≡_}
+use mathlib.Core.Logic.{_≢_, _⊎_}
+use mathlib.Core.List.{List, _∷_}
+use Prim.Native.Nat.{ℕ, _+_, _-_, _*_, _≤_, _<_}
+use lib.ListN.{length, take, drop}
+use lib.Seq.{sets}
+use Rattle.aut68.specs.Bytes.{Bytes, lines}
+use Rattle.aut68.specs.Lines.{Line, Lines, lineCells}
+use Rattle.aut68.specs.Procedure.Answer.{done, stop, _>>=_, Refusal, codeOf}
+use Rattle.aut68.specs.Procedure.CheckLine.{Passed, checkLine, checkWritten, checkMiddle}
+use Rattle.aut68.specs.Procedure.Run.{Recorded, Ending, nothing, checkLines, codeAt, lineAt, stepsAt, tableEnd, termsEnd}
+use Rattle.cells.specs.Cells.{At, Below}
+use Rattle.cells.specs.Results.{Result}
+use Rattle.kinds.specs.Kinds.{KindsTable}
+use Rattle.reduction.specs.Book.{Book}
+use Rattle.categories.specs.Places.{LineCells}
+use Rattle.records.specs.Reached.{Reached, oneMore}
+
+-- ---- a line whose cells are stored and checked
+
+-- The line l was read after the lines ls: its cells are the first of the working store; in the term store there is room for
+-- them behind `used` cells, and with them the store is as the categories want it.
+pub record ToStore (ls : Lines) (l : Line) (limit used middle size : ℕ) (tb ts w : List ℕ) : Type 0 where
+  pub sizeIs : size ≡ length (lineCells l)
+  pub behind : List ℕ
+  pub cellsAt : At w 0 (lineCells l) behind
+  pub enough : 128 * limit ≤ length w
+  pub few : used + size < 4294967296
+  pub book : Book ls limit tb (take (used + size) (sets ts used (lineCells l)))
+  pub cells : LineCells ls (take (used + size) (sets ts used (lineCells l))) limit used (used + middle) l
+
+-- the row and the cells of a line are written
+pub record Written (l : Line) (n used : ℕ) (row tb ts tb′ ts′ : List ℕ) : Type 0 where
+  pub tableIs : n ≤ 8190 → Below 4294967296 row → tb′ ≡ sets tb (8 * n) row
+  pub termsAre : ts′ ≡ sets ts used (lineCells l)
+
+-- its categories were checked: it is written if they pass, and else table and term store are as they were
+pub record StoredPost (limit n used middle size : ℕ) (row : List ℕ) (budget : ℕ) (tb ts w tb′ ts′ : List ℕ) (code left : ℕ) : Type 0 where
+  pub means : {ls : Lines} {l : Line} → ToStore ls l limit used middle size tb ts w
+      → Result (λ _. Written l n used row tb ts tb′ ts′) code left ((checkWritten ls limit (l .category) >>= λ _. checkMiddle ls limit (l .kind) (l .category)) budget)
+  pub restored : {ls : Lines} {l : Line} → ToStore ls l limit used middle size tb ts w → code ≢ 0 → (tb′ ≡ tb) × (ts′ ≡ ts)
+
+-- ---- a line of the book
+
+-- the limits under which a book is checked
+pub record Fitting (book : Bytes) (limit : ℕ) (w : List ℕ) : Type 0 where
+  pub small : limit ≤ 4096
+  pub enough : 128 * limit ≤ length w
+  pub short : length book ≤ 16777215
+
+-- The line that begins at `at`, after what is recorded in k: if it passes, it is recorded as well; if it is refused, table and
+-- term store are as they were.
+pub data LineResult (book : Bytes) (limit : ℕ) (tb₀ ts₀ : List ℕ) (k : Recorded) (at n budget : ℕ) (tb ts : List ℕ) (code next n′ used′ left : ℕ) (tb′ ts′ : List ℕ) : Type 0 where
+  passed : {bytes : Bytes} {p : Passed}
+      → lines (drop at book) ≡ bytes ∷ lines (drop next book) → next ≡ at + length bytes
+      → checkLine (k .recorded) limit (length tb₀) (length ts₀) bytes budget ≡ done p left
+      → code ≡ 0 → Reached book limit tb₀ ts₀ (oneMore k at p) n′ used′ tb′ ts′
+      → LineResult book limit tb₀ ts₀ k at n budget tb ts code next n′ used′ left tb′ ts′
+  refused : {bytes : Bytes} {more : List Bytes} {r : Refusal}
+      → lines (drop at book) ≡ bytes ∷ more
+      → checkLine (k .recorded) limit (length tb₀) (length ts₀) bytes budget ≡ stop r left
+      → code ≡ codeOf r → n′ ≡ n → tb′ ≡ tb → ts′ ≡ ts
+      → LineResult book limit tb₀ ts₀ k at n budget tb ts code next n′ used′ left tb′ ts′
+
+pub record LinePost (book ks : Bytes) (limit at n used budget : ℕ) (tb ts w : List ℕ) (code next n′ used′ left : ℕ) (tb′ ts′ : List ℕ) : Type 0 where
+  -- the next line begins behind this one
+  pub onward : code ≡ 0 → (at < next) × (next ≤ length book)
+  pub means : {tb₀ ts₀ : List ℕ} {k : Recorded} → Fitting book limit w → KindsTable ks → Reached book limit tb₀ ts₀ k n used tb ts
+      → LineResult book limit tb₀ ts₀ k at n budget tb ts code next n′ used′ left tb′ ts′
+
+-- ---- all lines
+
+-- what is recorded when the check has come to the byte `at`, and that the lines from there on decide how the book ends
+pub record Going (book : Bytes) (limit N : ℕ) (tb₀ ts₀ : List ℕ) (at n used budget : ℕ) (tb ts : List ℕ) : Type 0 where
+  pub recorded : Recorded
+  pub reached : Reached book limit tb₀ ts₀ recorded n used tb ts
+  pub goes : checkLines N limit (length tb₀) (length ts₀) nothing 0 N (lines book) ≡ checkLines N limit (length tb₀) (length ts₀) recorded at budget (lines (drop at book))
+
+-- The lines of the book end so: with code 0 after n lines, else at line n + 1.
+pub record LinesPost (e : Ending) (N : ℕ) (tb ts : List ℕ) (code n left : ℕ) (tb′ ts′ : List ℕ) : Type 0 where
+  pub codeIs : code ≡ codeAt e
+  pub acceptedLine : code ≡ 0 → n ≡ lineAt e
+  pub refusedLine : code ≢ 0 → n + 1 ≡ lineAt e
+  pub published : (code ≡ 0) ⊎ ((3 ≤ code) × (code ≤ 12))
+  pub few : n < 8192
+  pub stepsAre : N - left ≡ stepsAt e
+  pub tableIs : tb′ ≡ tableEnd e tb
+  pub termsAre : ts′ ≡ termsEnd e ts

@@ -1,0 +1,140 @@
+// The lines of a book, one after the other.
+use crate::rows::has_room;
+use crate::rows::put_row;
+use crate::rows::sum;
+use categories::Checked;
+use categories::check_cells;
+use cells::OUT_OF_SPACE;
+use cells::exchange;
+use kinds::kinds_of_bytes;
+use reader::Line;
+use reader::line_end;
+use reader::read_line;
+ghost use mathlib.Core.Path.{_≡_};
+ghost use mathlib.Core.List.{[], _∷_};
+ghost use Prim.Native.Nat.{_+_, _<_, _≤_};
+ghost use lib.ListN.{length};
+ghost use Rattle.aut68.specs.Bytes.{lines};
+ghost use Rattle.aut68.specs.Procedure.Run.{nothing, checkLines};
+ghost use Rattle.books.specs.Progress.{Fitting, StoredPost, LinePost, LinesPost};
+
+// Where the check of a book is. code: 0, or the refusal of line lines + 1. at: the next byte. lines, used: the rows and the
+// term cells of the lines that passed. budget: what is left of it.
+pub struct Progress {
+    pub code: u32,
+    pub at: usize,
+    pub lines: usize,
+    pub used: usize,
+    pub budget: u32,
+}
+
+// The check stops at the line that starts at p.at.
+fn stopped(p: Progress, code: u32, budget: u32) -> Progress
+    ensures { λ r. ⌜ (r .code ≡ code) × (r .at ≡ p .at) × (r .lines ≡ p .lines) × (r .used ≡ p .used) × (r .budget ≡ budget) ⌝ }
+{
+    Progress {
+        code: code,
+        at: p.at,
+        lines: p.lines,
+        used: p.used,
+        budget: budget,
+    }
+}
+
+// A line that was read and has room (checkWritten, checkMiddle). Its cells are exchanged with the next free term cells; they
+// stay there if its categories pass, and its row is written. If not, they are exchanged back.
+fn check_stored(
+    table: &mut [u32],
+    store: &mut [u16],
+    w: &mut [u16],
+    limit: usize,
+    lines: usize,
+    used: usize,
+    first: usize,
+    l: Line,
+    budget: u32,
+) -> Checked
+    requires { ⌜ used + l .size ≤ length (now store) ⌝ }
+    ensures { λ r. ⌜ StoredPost limit lines used (l .middle) (l .size) (first ∷ l .len ∷ l .indicator ∷ l .context ∷ l .kind ∷ used ∷ (used + l .middle) ∷ (used + l .size) ∷ []) budget (now (table .entry)) (now (store .entry)) (now (w .entry)) (now (table .exit)) (now (store .exit)) (r .code) (r .budget) ⌝ }
+{
+    let size = l.size;
+    exchange(store, used, w, 0, size);
+    let stop = used + size;
+    let category = sum(used, l.middle);
+    let c = check_cells(table, &store[..stop], used, category, w, limit, budget);
+    if c.code != 0 {
+        exchange(store, used, w, 0, l.size);
+        return c;
+    }
+    put_row(table, lines, first, l, used, category, stop);
+    c
+}
+
+// The line that starts at p.at (checkLine), behind the first p.lines lines. Passed: its row and its cells are written, and
+// every other cell of table and store is as it was. Refused: table and store are as they were.
+fn check_line(
+    book: &[u8],
+    kinds: &[u8; 256],
+    table: &mut [u32],
+    store: &mut [u16],
+    w: &mut [u16],
+    limit: usize,
+    p: Progress,
+) -> Progress
+    requires { ⌜ p .at < length (now book) ⌝ }
+    ensures { λ r. ⌜ LinePost (now (book .entry)) (now (kinds .entry)) limit (p .at) (p .lines) (p .used) (p .budget) (now (table .entry)) (now (store .entry)) (now (w .entry)) (r .code) (r .at) (r .lines) (r .used) (r .budget) (now (table .exit)) (now (store .exit)) ⌝ }
+{
+    let at = p.at;
+    let lines = p.lines;
+    let used = p.used;
+    let next = line_end(book, at);
+    let l = read_line(&book[at..next], kinds, book, table, lines, w, limit);
+    if l.code != 0 {
+        return stopped(p, l.code, p.budget);
+    }
+    let fits = has_room(table.len(), store.len(), lines, used, l.size);
+    if !fits {
+        return stopped(p, OUT_OF_SPACE, p.budget);
+    }
+    let first = sum(at, l.first);
+    let s = check_stored(table, store, w, limit, lines, used, first, l, p.budget);
+    if s.code != 0 {
+        return stopped(p, s.code, s.budget);
+    }
+    Progress {
+        code: 0,
+        at: next,
+        lines: lines + 1,
+        used: used + l.size,
+        budget: s.budget,
+    }
+}
+
+// The lines of the book, one after the other, up to the first that is refused (checkLines).
+pub fn check_lines(
+    book: &[u8],
+    table: &mut [u32],
+    store: &mut [u16],
+    w: &mut [u16],
+    limit: usize,
+    budget: u32,
+) -> Progress
+    requires { ⌜ Fitting (now book) limit (now w) ⌝ }
+    ensures { λ r. ⌜ LinesPost (checkLines budget limit (length (now (table .entry))) (length (now (store .entry))) nothing 0 budget (lines (now (book .entry)))) budget (now (table .entry)) (now (store .entry)) (r .code) (r .lines) (r .budget) (now (table .exit)) (now (store .exit)) ⌝ }
+{
+    let kinds = kinds_of_bytes();
+    let mut p = Progress {
+        code: 0,
+        at: 0,
+        lines: 0,
+        used: 0,
+        budget: budget,
+    };
+    while p.at < book.len() {
+        p = check_line(book, &kinds, table, store, w, limit, p);
+        if p.code != 0 {
+            return p;
+        }
+    }
+    p
+}

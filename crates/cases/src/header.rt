@@ -1,0 +1,93 @@
+// The header of a case: six decimal numbers, each ended by one byte that is no digit.
+
+ghost use Prim.Native.Nat.{_≤_};
+
+// budget, limit: of the check. table, terms, work: cells of the three stores. shown: how many rows are written at most.
+// start: where the book begins.
+pub struct Header {
+    pub budget: u32,
+    pub limit: u32,
+    pub table: usize,
+    pub terms: usize,
+    pub work: usize,
+    pub shown: u32,
+    pub start: usize,
+}
+
+// A number, and the index behind the byte that ends it.
+struct Scanned {
+    value: u64,
+    next: usize,
+}
+
+// The value of a digit; 0 for any other byte.
+fn digit(b: u8) -> u64
+    ensures { λ r. ⌜ r ≤ 9 ⌝ }
+{
+    if b < 48 {
+        return 0;
+    }
+    if b > 57 {
+        return 0;
+    }
+    (b - 48) as u64
+}
+
+// The number that starts at index `at` of the text: its first ten digits.
+fn number(text: &[u8], at: usize) -> Scanned {
+    let mut value: u64 = 0;
+    let mut i = at;
+    while i < text.len() {
+        let b = text[i];
+        i = i + 1;
+        if b < 48 {
+            return Scanned {
+                value: value,
+                next: i,
+            };
+        }
+        if b > 57 {
+            return Scanned {
+                value: value,
+                next: i,
+            };
+        }
+        if value > 999999999 {
+            return Scanned {
+                value: value,
+                next: i,
+            };
+        }
+        value = 10 * value + digit(b);
+    }
+    Scanned {
+        value: value,
+        next: i,
+    }
+}
+
+// A number below 2^32; 2^32 - 1 for a larger one.
+fn narrow(x: u64) -> u32 {
+    if x > 4294967295 {
+        return 4294967295;
+    }
+    x as u32
+}
+
+pub fn read(text: &[u8]) -> Header {
+    let budget = number(text, 0);
+    let limit = number(text, budget.next);
+    let table = number(text, limit.next);
+    let terms = number(text, table.next);
+    let work = number(text, terms.next);
+    let shown = number(text, work.next);
+    Header {
+        budget: narrow(budget.value),
+        limit: narrow(limit.value),
+        table: table.value as usize,
+        terms: terms.value as usize,
+        work: work.value as usize,
+        shown: narrow(shown.value),
+        start: shown.next,
+    }
+}

@@ -1,0 +1,80 @@
+// The test program. Each argument names a file with one case: a header line of six numbers, then the book. For each case it
+// writes the outcome, what is recorded, and what became of every other cell. All stores hold 7 in each cell beforehand.
+mod header;
+mod report;
+
+use header::Header;
+use libc::STDOUT_FILENO;
+
+// Checks the book and reports.
+fn check(h: Header, book: &[u8], table: &mut [u32], terms: &mut [u16], work: &mut [u16]) {
+    let o = verifier::check_book(book, h.budget, h.limit, table, terms, work);
+    let r = verifier::numbers_of(o);
+    let n = report::recorded(r);
+    report::outcome(r);
+    report::rows(book, table, terms, report::least(n, h.shown));
+    report::other_names(book, table, n);
+    report::other_cells(table, terms, work, n, h.limit);
+}
+
+// A case, with the first cells of these stores, as many as its header gives.
+fn case_of(text: &[u8], table: &mut [u32], terms: &mut [u16], work: &mut [u16]) {
+    let h = header::read(text);
+    let start = h.start;
+    let rows = h.table;
+    let cells = h.terms;
+    let room = h.work;
+    if start > text.len() {
+        return;
+    }
+    if rows > table.len() {
+        return;
+    }
+    if cells > terms.len() {
+        return;
+    }
+    if room > work.len() {
+        return;
+    }
+    check(
+        h,
+        &text[start..],
+        &mut table[..rows],
+        &mut terms[..cells],
+        &mut work[..room],
+    );
+}
+
+// The case in an open file. Line 8,192 has a row in this table, and the largest limit a cell more than it needs.
+fn run(fd: i32) {
+    let mut text = [0u8; 131072];
+    let n = io::read_full(fd, &mut text);
+    let mut table = [7u32; 65536];
+    let mut terms = [7u16; 32768];
+    let mut work = [7u16; 524289];
+    case_of(&text[..n], &mut table, &mut terms, &mut work);
+}
+
+// The case in the file that argument i names.
+fn argument(i: usize) {
+    let mut path = io::buffer();
+    let n = os::arg(i, &mut path);
+    io::write_all(STDOUT_FILENO, &path[..n]);
+    io::write_all(STDOUT_FILENO, &[10]);
+    let fd = os::open_read(&path[..n]);
+    if fd < 0 {
+        os::fail(&path[..n]);
+        return;
+    }
+    run(fd);
+    libc::close(fd);
+}
+
+fn main() {
+    let n = os::arg_count();
+    let mut i = 1;
+    while i < n {
+        argument(i);
+        i = i + 1;
+    }
+}

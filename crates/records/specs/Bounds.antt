@@ -1,0 +1,99 @@
+-- How many cells and variables recorded lines have: every number of a row is below 2^32.
+use mathlib.Core.Path.{_≡_, ap, _∙_}
+use mathlib.Core.List.{List, [], _∷_, _++_}
+use Prim.Native.Nat.{ℕ, suc, _+_, _*_, _≤_}
+use native.Mathlib.Nat.{mul-le-mul-right, add-mul}
+use native.Mathlib.Omega.{arith}
+use lib.ListN.{length, take, drop, length-append}
+use lib.Seq.{sets, take-at}
+use Rattle.aut68.specs.Bytes.{Bytes}
+use Rattle.aut68.specs.Expr.{cells}
+use Rattle.aut68.specs.Lines.{Line, Lines, Kind, variable, primitive, abbreviation, kindCells, kindNumber, lineCells, termsOf, rowOf}
+use Rattle.aut68.specs.Procedure.CheckLine.{Passed}
+use Rattle.aut68.specs.Procedure.Run.{Recorded, over}
+use Rattle.aut68.specs.Rules.Names.{IsLine, first, later, Context, noContext, within}
+use Rattle.cells.specs.Cells.{Below}
+use Rattle.records.specs.Tables.{Holds, over-more}
+use Rattle.records.specs.ReadLines.{LineRead}
+use Rattle.records.specs.Reached.{IndicatorsBefore, indicators-before, SmallLine, Reached, HasRoom, reached-holds, context-before}
+
+-- ---- cells
+
+line-cells-bound : (L : ℕ) (l : Line) → SmallLine L l → length (lineCells l) ≤ 2 * L
+unfolding lineCells
+line-cells-bound L l s =
+    let m = s .middleSize in
+    let c = s .categorySize in
+    omega (arith, m, c, length-append (kindCells (l .kind)) (cells (l .category)))
+
+terms-bound : (L : ℕ) (ls : Lines) → ((v : ℕ) (l : Line) → IsLine ls v l → SmallLine L l) → length (termsOf ls) ≤ length ls * (2 * L)
+unfolding termsOf
+terms-bound L [] h = omega arith
+terms-bound L (l ∷ ls) h =
+    let r = terms-bound L ls (λ v k i. h (suc v) k (later i)) in
+    let c = line-cells-bound L l (h 1 l first) in
+    omega (arith, r, c, length-append (lineCells l) (termsOf ls), add-mul 1 (length ls) (2 * L))
+
+-- ---- contexts
+
+context-short : {ls : Lines} {v : ℕ} {vs : List ℕ} → IndicatorsBefore ls → Context ls v vs → length vs ≤ v
+context-short b noContext = omega arith
+context-short b (within {v} {l} {vs} i k c) = let h = context-short b c in omega (arith, h, b v l i, length-append vs (v ∷ []))
+
+kind-number-small : (k : Kind) → kindNumber k ≤ 2
+unfolding kindNumber
+kind-number-small variable = omega arith
+kind-number-small primitive = omega arith
+kind-number-small (abbreviation m) = omega arith
+
+-- ---- a line read after what is recorded
+
+module _ {book : Bytes} {L : ℕ} {tb₀ ts₀ : List ℕ} {k : Recorded} {n used : ℕ} {tb ts : List ℕ} (h : Reached book L tb₀ ts₀ k n used tb ts) where
+  -- table and term store hold the recorded lines
+  pub reached-stores : Holds book (k .firsts) (k .recorded) tb ts
+  unfolding over
+  reached-stores = reached-holds h ts (drop (length (termsOf (k .recorded))) ts₀) (h .termsAre)
+
+  -- the cells of the lines, with L at most 4,096
+  pub used-small : L ≤ 4096 → used ≤ 67108864
+  used-small l =
+      let t = terms-bound L (k .recorded) (λ v x i. h .small i) in
+      let a : length (k .recorded) * (2 * L) ≤ 8192 * (2 * L) = mul-le-mul-right (2 * L) (let f = h .few in let q = h .linesAre in omega arith) in
+      let u = h .usedIs in
+      omega arith
+
+  module _ {bytes : Bytes} {p : Passed} (r : LineRead (k .recorded) L bytes p) where
+    pub size-small : L ≤ 4096 → length (lineCells (p .line)) ≤ 8192
+    size-small l =
+        let c = line-cells-bound L (p .line) (record { middleSize = r .middleFits; categorySize = r .categoryFits }) in
+        omega arith
+
+    -- the term store with the line's cells, cut behind them
+    pub stored-cells : HasRoom (k .recorded) (length tb₀) (length ts₀) (p .line)
+        → take (used + length (lineCells (p .line))) (sets ts used (lineCells (p .line))) ≡ termsOf (k .recorded) ++ lineCells (p .line)
+    unfolding over
+    stored-cells f =
+        let m = lineCells (p .line) in
+        let t = termsOf (k .recorded) in
+        let e : length (t ++ m) ≡ used + length m = let u = h .usedIs in omega (arith, u, length-append t m) in
+        ap (λ (x : List ℕ). take (used + length m) (sets x used m)) (h .termsAre)
+        ∙ ap (λ (i : ℕ). take (used + length m) (sets (over t ts₀) i m)) (h .usedIs)
+        ∙ ap (take (used + length m)) (over-more t ts₀ m (f .cellsFit))
+        ∙ take-at (t ++ m) (drop (length (t ++ m)) ts₀) (used + length m) e
+
+    -- every number of its row is below 2^32
+    pub row-small : (at : ℕ) → L ≤ 4096 → at + length bytes ≤ 16777215 → Below 4294967296 (rowOf (at + p .before) used (p .line))
+    unfolding Below rowOf lineCells
+    row-small at l b =
+        let i = r .named .within in
+        let x = r .reading .contextIs in
+        let d = h .derived in
+        let c = context-short (indicators-before d) x in
+        let w = context-before x in
+        let f = h .few in
+        let q = h .linesAre in
+        let u = used-small l in
+        let s = size-small l in
+        let z = length-append (kindCells (p .line .kind)) (cells (p .line .category)) in
+        let kn = kind-number-small (p .line .kind) in
+        (omega arith, (omega arith, (omega arith, (omega arith, (omega arith, (omega arith, (omega arith, (omega arith, tt))))))))

@@ -1,0 +1,217 @@
+-- How far the check of a book has come: what is recorded, and what table and term store then hold; one line more.
+use mathlib.Core.Path.{_≡_, refl, sym, ap, _∙_, subst}
+use mathlib.Core.Logic.{_⊎_, inl, inr}
+use mathlib.Core.Bool.{Bool, true, false, _&&_, false≢true}
+use mathlib.Core.List.{List, [], _∷_, _++_}
+use Prim.Native.Nat.{ℕ, zero, suc, _+_, _-_, _*_, _≤_, _<_}
+use native.Mathlib.Nat.{add-assoc}
+use native.Mathlib.Omega.{arith}
+use lib.Dec.{leb, ltb}
+use lib.ListN.{length, take, drop, length-append}
+use lib.Seq.{slice, sets, take-take, drop-drop, take-nil, length-slice}
+use borrow.Author.Tests.{ltb-true, leb-true}
+use Rattle.aut68.specs.Bytes.{Bytes}
+use Rattle.aut68.specs.Expr.{cells}
+use Rattle.aut68.specs.Lines.{Line, Lines, kindCells, lineCells, termsOf, rowOf, rowsFrom, tableOf}
+use Rattle.aut68.specs.Procedure.Answer.{done}
+use Rattle.aut68.specs.Procedure.CheckLine.{Passed, checkLine, room}
+use Rattle.aut68.specs.Procedure.Run.{Recorded, nothing, over}
+use Rattle.aut68.specs.Rules.Names.{IsLine, Context, noContext, within}
+use Rattle.aut68.specs.Rules.Derivation.{Derived, noMore, line}
+use Rattle.lookup.specs.LineNumbers.{no-line, line-within, line-snoc}
+use Rattle.lookup.specs.DerivedBooks.{derived-snoc}
+use Rattle.verdicts.specs.LineVerdicts.{passed-derivation}
+use Rattle.records.specs.Tables.{Spelled, noneSpelled, spelled-long, spelled-snoc, Holds, table-long, table-snoc, terms-snoc, over-more}
+use Rattle.records.specs.ReadLines.{LineRead}
+
+-- ---- lines with derivations
+
+-- each line's indicator is a line before it, or 0
+abbrev pub IndicatorsBefore : Lines → Type 0
+IndicatorsBefore ls = (v : ℕ) (l : Line) → IsLine ls v l → l .indicator < v
+
+pub context-before : {ls : Lines} {v : ℕ} {vs : List ℕ} → Context ls v vs → v ≤ length ls
+context-before noContext = omega arith
+context-before (within i k c) = line-within i
+
+derived-before : {ls all : Lines} {pieces : List Bytes} → Derived ls pieces all → IndicatorsBefore ls → IndicatorsBefore all
+derived-before noMore h = h
+derived-before (line {ls} {l = n} d r) h = derived-before r (λ v l i. at (line-snoc ls i) (λ j. h v l j))
+  where
+    at : {v : ℕ} {l : Line} → IsLine ls v l ⊎ ((l ≡ n) × (v ≡ suc (length ls))) → (IsLine ls v l → l .indicator < v) → l .indicator < v
+    at (inl i) f = f i
+    at (inr (e, q)) f =
+        let b = context-before (d .contextIs) in
+        let k = ap (λ (x : Line). x .indicator) e in
+        omega (arith, b, k, q)
+
+pub indicators-before : {ls : Lines} {pieces : List Bytes} → Derived [] pieces ls → IndicatorsBefore ls
+indicators-before d = derived-before d (λ v l i. absurd (no-line i))
+
+-- ---- room
+
+module _ (ls : Lines) (table terms : ℕ) (l : Line) where
+  pub record HasRoom : Type 0 where
+    pub fewLines : suc (length ls) < 8192
+    pub rowFits : 8 * suc (length ls) ≤ table
+    pub cellsFit : length (termsOf ls) + length (lineCells l) ≤ terms
+
+  pub room-is : room ls table terms l ≡ true → HasRoom
+  unfolding room
+  room-is h = go (ltb (suc (length ls)) 8192) (leb (8 * suc (length ls)) table) (leb (length (termsOf ls) + length (lineCells l)) terms) refl refl refl h
+    where
+      go : (a b c : Bool) → ltb (suc (length ls)) 8192 ≡ a → leb (8 * suc (length ls)) table ≡ b → leb (length (termsOf ls) + length (lineCells l)) terms ≡ c → (a && b && c) ≡ true → HasRoom
+      go true true true p q r h = record { fewLines = ltb-true _ _ p; rowFits = leb-true _ _ q; cellsFit = leb-true _ _ r }
+      go false b c p q r h = absurd (false≢true h)
+      go true false c p q r h = absurd (false≢true h)
+      go true true false p q r h = absurd (false≢true h)
+
+-- ---- parts of the book
+
+take-drop : (m n : ℕ) (l : List ℕ) → take m (drop n l) ≡ drop n (take (n + m) l)
+take-drop m zero l = ap (λ (k : ℕ). take k l) (zero-plus m)
+  where
+    zero-plus : (m : ℕ) → m ≡ 0 + m
+    zero-plus m = omega arith
+take-drop m (suc n) [] = take-nil m ∙ sym (ap (drop (suc n)) (take-nil (suc n + m)))
+take-drop m (suc n) (x ∷ l) = take-drop m n l ∙ sym (ap (λ (k : ℕ). drop (suc n) (take k (x ∷ l))) (suc-plus n m))
+  where
+    suc-plus : (n m : ℕ) → suc n + m ≡ suc (n + m)
+    suc-plus n m = omega arith
+
+-- a part of a part
+slice-slice : (a e : ℕ) (l : List ℕ) (b n : ℕ) → a + (b + n) ≤ e → slice b (b + n) (slice a e l) ≡ slice (a + b) (a + b + n) l
+slice-slice a e l b n h =
+    ap (drop b) (take-drop (b + n) a (take e l) ∙ ap (drop a) (take-take (a + (b + n)) e l h))
+    ∙ drop-drop b a (take (a + (b + n)) l)
+    ∙ ap (λ (k : ℕ). drop (a + b) (take k l)) (sym (add-assoc a b n))
+
+-- the piece of the book from `at` to `next`
+pub slice-is : (at next : ℕ) (book : Bytes) → at ≤ next → take (next - at) (drop at book) ≡ slice at next book
+slice-is at next book h =
+    let e : at + (next - at) ≡ next = omega arith in
+    take-drop (next - at) at book ∙ ap (λ (k : ℕ). drop at (take k book)) e
+
+-- ---- progress
+
+-- a line's middle and category have at most L cells
+pub record SmallLine (L : ℕ) (l : Line) : Type 0 where
+  pub middleSize : length (kindCells (l .kind)) ≤ L
+  pub categorySize : length (cells (l .category)) ≤ L
+
+-- With stores that were table₀ and terms₀, the lines of k are recorded: as many as `lines`, with `used` term cells.
+pub record Reached (book : Bytes) (L : ℕ) (table₀ terms₀ : List ℕ) (k : Recorded) (lines used : ℕ) (table terms : List ℕ) : Type 0 where
+  pub past : List Bytes
+  pub derived : Derived [] past (k .recorded)
+  pub spelled : Spelled book (k .firsts) (k .recorded)
+  pub small : {v : ℕ} {l : Line} → IsLine (k .recorded) v l → SmallLine L l
+  pub linesAre : lines ≡ length (k .recorded)
+  pub usedIs : used ≡ length (termsOf (k .recorded))
+  pub few : lines < 8192
+  pub tableRoom : 8 * lines ≤ length table₀
+  pub termsRoom : used ≤ length terms₀
+  pub tableIs : table ≡ over (tableOf (k .firsts) (k .recorded)) table₀
+  pub termsAre : terms ≡ over (termsOf (k .recorded)) terms₀
+
+pub reached-nothing : (book : Bytes) (L : ℕ) (table terms : List ℕ) → Reached book L table terms nothing 0 0 table terms
+unfolding nothing over tableOf termsOf rowsFrom
+reached-nothing book L table terms =
+    record {
+      past = [];
+      derived = noMore;
+      spelled = noneSpelled;
+      small = λ i. absurd (no-line i);
+      linesAre = refl;
+      usedIs = refl;
+      few = omega arith;
+      tableRoom = omega arith;
+      termsRoom = omega arith;
+      tableIs = refl;
+      termsAre = refl;
+    }
+
+-- what is recorded with the line p behind it, whose bytes start at `at`
+unfoldable pub oneMore : Recorded → ℕ → Passed → Recorded
+oneMore k at p = record { firsts = k .firsts ++ ((at + p .before) ∷ []); recorded = k .recorded ++ (p .line ∷ []) }
+
+module _ {book : Bytes} {L : ℕ} {table₀ terms₀ : List ℕ} {k : Recorded} {lines used : ℕ} {table terms : List ℕ} (h : Reached book L table₀ terms₀ k lines used table terms) where
+  -- table and term store hold the lines, and still do with other cells behind theirs
+  pub reached-holds : (ts rest : List ℕ) → ts ≡ termsOf (k .recorded) ++ rest → Holds book (k .firsts) (k .recorded) table ts
+  unfolding over
+  reached-holds ts rest e =
+      record {
+        spelled = h .spelled;
+        tableRest = drop (length (tableOf (k .firsts) (k .recorded))) table₀;
+        tableIs = h .tableIs;
+        termsRest = rest;
+        termsAre = e;
+      }
+
+  module _ (at next : ℕ) (bytes : Bytes) (p : Passed) (inBook : next ≤ length book) (from : at ≤ next) (bytesAre : bytes ≡ slice at next book) (r : LineRead (k .recorded) L bytes p)
+      (fits : HasRoom (k .recorded) (length table₀) (length terms₀) (p .line)) where
+    one-spelled : Spelled book (oneMore k at p .firsts) (oneMore k at p .recorded)
+    unfolding oneMore
+    one-spelled =
+        let n = r .named in
+        let w = p .line .identifier in
+        let long : length bytes ≡ next - at = ap length bytesAre ∙ length-slice at next book inBook in
+        let i = n .within in
+        spelled-snoc (at + p .before) (p .line) (h .spelled) (omega arith)
+        (sym (slice-slice at next book (p .before) (length w) (omega arith)) ∙ ap (slice (p .before) (p .before + length w)) (sym bytesAre) ∙ n .is)
+
+    one-small : {v : ℕ} {l : Line} → IsLine (oneMore k at p .recorded) v l → SmallLine L l
+    unfolding oneMore
+    one-small i = go (line-snoc (k .recorded) i)
+      where
+        go : {v : ℕ} {l : Line} → IsLine (k .recorded) v l ⊎ ((l ≡ p .line) × (v ≡ suc (length (k .recorded)))) → SmallLine L l
+        go (inl j) = h .small j
+        go (inr (e, q)) = subst (SmallLine L) (sym e) (record { middleSize = r .middleFits; categorySize = r .categoryFits })
+
+    -- the term store with the line's cells
+    pub terms-more : sets terms used (lineCells (p .line)) ≡ over (termsOf (oneMore k at p .recorded)) terms₀
+    unfolding oneMore
+    terms-more =
+        let m = lineCells (p .line) in
+        ap (λ (x : List ℕ). sets x used m) (h .termsAre)
+        ∙ ap (λ (n : ℕ). sets (over (termsOf (k .recorded)) terms₀) n m) (h .usedIs)
+        ∙ over-more (termsOf (k .recorded)) terms₀ m (fits .cellsFit)
+        ∙ ap (λ (x : List ℕ). over x terms₀) (sym (terms-snoc (k .recorded) (p .line)))
+
+    -- the table with the line's row
+    pub table-more : sets table (8 * lines) (rowOf (at + p .before) used (p .line)) ≡ over (tableOf (oneMore k at p .firsts) (oneMore k at p .recorded)) table₀
+    unfolding oneMore rowOf
+    table-more =
+        let long = table-long (k .firsts) (k .recorded) (spelled-long (h .spelled)) in
+        let row = rowOf (at + p .before) (length (termsOf (k .recorded))) (p .line) in
+        let e : 8 * lines ≡ length (tableOf (k .firsts) (k .recorded)) = let q = h .linesAre in omega (arith, q, long) in
+        let f = fits .rowFits in
+        ap (λ (n : ℕ). sets table (8 * lines) (rowOf (at + p .before) n (p .line))) (h .usedIs)
+        ∙ ap (λ (x : List ℕ). sets x (8 * lines) row) (h .tableIs)
+        ∙ ap (λ (n : ℕ). sets (over (tableOf (k .firsts) (k .recorded)) table₀) n row) e
+        ∙ over-more (tableOf (k .firsts) (k .recorded)) table₀ row (omega arith)
+        ∙ ap (λ (x : List ℕ). over x table₀) (sym (table-snoc (k .firsts) (k .recorded) (at + p .before) (p .line) (spelled-long (h .spelled))))
+
+    -- a line that passed is recorded
+    pub reached-more : (b b′ : ℕ) → checkLine (k .recorded) L (length table₀) (length terms₀) bytes b ≡ done p b′
+        → Reached book L table₀ terms₀ (oneMore k at p) (lines + 1) (used + length (lineCells (p .line)))
+        (sets table (8 * lines) (rowOf (at + p .before) used (p .line))) (sets terms used (lineCells (p .line)))
+    unfolding oneMore
+    reached-more b b′ e =
+        let q = h .linesAre in
+        let u = h .usedIs in
+        let f₁ = fits .fewLines in
+        let f₂ = fits .rowFits in
+        let f₃ = fits .cellsFit in
+        record {
+          past = h .past ++ (bytes ∷ []);
+          derived = derived-snoc (h .derived) (passed-derivation (k .recorded) (h .derived) L (length table₀) (length terms₀) bytes b e);
+          spelled = one-spelled;
+          small = λ i. one-small i;
+          linesAre = omega (arith, length-append (k .recorded) (p .line ∷ []));
+          usedIs = omega (arith, ap length (terms-snoc (k .recorded) (p .line)), length-append (termsOf (k .recorded)) (lineCells (p .line)));
+          few = omega arith;
+          tableRoom = omega arith;
+          termsRoom = omega arith;
+          tableIs = table-more;
+          termsAre = terms-more;
+        }

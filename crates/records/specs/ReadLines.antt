@@ -1,0 +1,206 @@
+-- What a line that is read is: its meaning, where its identifier stands, and its sizes.
+use mathlib.Core.Path.{_≡_, refl, sym, ap, ap₂, _∙_, subst}
+use mathlib.Core.Bool.{Bool, true, false}
+use mathlib.Core.Option.{Option, none, some}
+use mathlib.Core.List.{List, [], _∷_, _++_, append-assoc}
+use Prim.Native.Nat.{ℕ, suc, _+_, _-_, _≤_}
+use native.Mathlib.Omega.{arith}
+use lib.Dec.{eqb, leb}
+use lib.ListN.{length, drop, length-append}
+use lib.Seq.{slice, take-at, drop-at}
+use borrow.Author.Tests.{leb-true}
+use Rattle.aut68.specs.Bytes.{Bytes, nameByte}
+use Rattle.aut68.specs.Source.{Src, Srcs, Middle, Written, SourceLine, cellsOfSrc, cellsOfSrcs, middleCells, writtenCells}
+use Rattle.aut68.specs.Expr.{Expr, Exprs, size, sizes, cells}
+use Rattle.aut68.specs.Lines.{Lines, Kind, kindCells}
+use Rattle.aut68.specs.Procedure.Answer.{Answer, done, stop, andThen, malformed}
+use Rattle.aut68.specs.Procedure.Parse.{Placed, aLine, spaces, byte, symbol, starts, wordOf, afterWord, wordAhead, nameFits, aName, anIndicator, bytesLeft}
+use Rattle.aut68.specs.Procedure.Resolve.{found, indicatorLine, contextAt, unused, resolveMiddle, resolveWritten}
+use Rattle.aut68.specs.Procedure.CheckLine.{Passed}
+use Rattle.aut68.specs.Rules.Names.{Means, MeanAll, aBound, aVariable, aConstant, anApplication, anAbstraction, noMore, oneMore, MiddleMeans, isEB, isPN, isMeaning, CategoryMeans, isType, isExpression}
+use Rattle.lookup.specs.Answers.{stop≢done, done-value, done-rest, after}
+use Rattle.lookup.specs.Identifiers.{unused-sound}
+use Rattle.lookup.specs.Contexts.{RightContexts, indicator-sound}
+use Rattle.lookup.specs.Resolving.{middle-sound, written-sound}
+use Rattle.reading.specs.Symbols.{run-whole}
+use Rattle.reading.specs.Sound.{parse-sound}
+use Rattle.reading.specs.Depths.{lineDepth}
+use Rattle.reading.specs.Readings.{Reading}
+use Rattle.cells.specs.Forests.{size-is-length}
+
+-- ---- where the identifier stands
+
+-- b is what is left of a
+record Ending (a b : Bytes) : Type 0 where
+  ahead : Bytes
+  is : a ≡ ahead ++ b
+
+ending-same : {a : Bytes} → Ending a a
+ending-same = record { ahead = []; is = refl }
+
+ending-cons : (x : ℕ) {a b : Bytes} → Ending a b → Ending (x ∷ a) b
+ending-cons x e = record { ahead = x ∷ e .ahead; is = ap (_∷_ x) (e .is) }
+
+ending-then : {a b c : Bytes} → Ending a b → Ending b c → Ending a c
+ending-then {c = c} e f =
+    record { ahead = e .ahead ++ f .ahead; is = e .is ∙ ap (λ (x : Bytes). e .ahead ++ x) (f .is) ∙ sym (append-assoc (e .ahead) (f .ahead) c) }
+
+spaces-ending : (a : Bytes) → Ending a (spaces a)
+unfolding spaces
+spaces-ending [] = ending-same
+spaces-ending (b ∷ bs) = go (eqb b 32) (spaces-ending bs)
+  where
+    go : (t : Bool) → Ending bs (spaces bs) → Ending (b ∷ bs) (elim t [ true ↦ spaces bs | false ↦ b ∷ bs ])
+    go true h = ending-cons b h
+    go false h = ending-same
+
+-- a name is the word that stands next
+name-is : (a : Bytes) {w b : Bytes} → aName a ≡ done w b → (w ≡ wordOf (spaces a)) × (b ≡ afterWord (spaces a))
+unfolding aName wordAhead
+name-is a {w} {b} h = go (nameFits (wordAhead a)) h
+  where
+    go : (t : Bool) → elim t as (λ _. Answer Bytes Bytes) [ true ↦ done (wordOf (spaces a)) (afterWord (spaces a)) | false ↦ stop malformed a ] ≡ done w b
+        → (w ≡ wordOf (spaces a)) × (b ≡ afterWord (spaces a))
+    go true h = (sym (done-value h), sym (done-rest h))
+    go false h = absurd (stop≢done h)
+
+name-ending : (a : Bytes) {w b : Bytes} → aName a ≡ done w b → Ending a b
+name-ending a {b = b} h =
+    let (p, q) = name-is a h in
+    let e : Ending (spaces a) (afterWord (spaces a)) = record { ahead = wordOf (spaces a); is = run-whole (spaces a) } in
+    ending-then (spaces-ending a) (subst (λ (x : Bytes). Ending (spaces a) x) (sym q) e)
+
+byte-ending : (c : ℕ) (a : Bytes) {b : Bytes} {u : Unit {0}} → byte c a ≡ done u b → Ending a b
+unfolding byte
+byte-ending c [] h = absurd (stop≢done h)
+byte-ending c (x ∷ a) {b} {u} h = go (eqb x c) h
+  where
+    go : (t : Bool) → elim t as (λ _. Answer Bytes (Unit {0})) [ true ↦ done tt a | false ↦ stop malformed (x ∷ a) ] ≡ done u b → Ending (x ∷ a) b
+    go true h = ending-cons x (subst (λ (y : Bytes). Ending a y) (done-rest h) ending-same)
+    go false h = absurd (stop≢done h)
+
+symbol-ending : (c : ℕ) (a : Bytes) {b : Bytes} {u : Unit {0}} → symbol c a ≡ done u b → Ending a b
+unfolding symbol
+symbol-ending c a h = ending-then (spaces-ending a) (byte-ending c (spaces a) h)
+
+indicator-ending : (a : Bytes) {o : Option Bytes} {b : Bytes} → anIndicator a ≡ done o b → Ending a b
+unfolding anIndicator
+indicator-ending a {o} {b} h = go (starts nameByte (spaces a)) h
+  where
+    go : (t : Bool) → elim t as (λ _. Answer Bytes (Option Bytes)) [ true ↦ andThen (λ w. λ r. done (some w) r) (aName a) | false ↦ done none a ] ≡ done o b → Ending a b
+    go true h = after _ _ h λ w c e h₁. subst (λ (x : Bytes). Ending a x) (done-rest h₁) (name-ending a e)
+    go false h = subst (λ (x : Bytes). Ending a x) (done-rest h) ending-same
+
+-- the identifier is the part of the line's bytes behind those ahead of it
+pub record Identifies (bytes : Bytes) (before : ℕ) (w : Bytes) : Type 0 where
+  pub within : before + length w ≤ length bytes
+  pub is : slice before (before + length w) bytes ≡ w
+
+identifies : (bytes front w rest : Bytes) (left : ℕ) → bytes ≡ front ++ (w ++ rest) → left ≡ length (w ++ rest) → Identifies bytes (length bytes - left) w
+identifies bytes front w rest left e q =
+    let n : length bytes ≡ length front + (length w + length rest) = ap length e ∙ length-append front (w ++ rest) ∙ ap (λ (k : ℕ). length front + k) (length-append w rest) in
+    let k : length bytes - left ≡ length front = omega (arith, n, q, length-append w rest) in
+    let t : length (front ++ w) ≡ length bytes - left + length w = omega (arith, k, length-append front w) in
+    record {
+      within = omega arith;
+      is =
+          ap (λ (x : Bytes). slice (length bytes - left) (length bytes - left + length w) x) (e ∙ sym (append-assoc front w rest))
+          ∙ ap (drop (length bytes - left)) (take-at (front ++ w) rest (length bytes - left + length w) t)
+          ∙ drop-at front w (length bytes - left) (sym k);
+    }
+
+pub identifier-place : (bytes : Bytes) {p : Placed} {rest : Bytes} → aLine (length bytes) bytes ≡ done p rest → Identifies bytes (p .before) (p .line .identifier)
+unfolding aLine bytesLeft
+identifier-place bytes h =
+    after _ _ h λ o b e₁ h₁.
+    after _ _ h₁ λ u₂ c e₂ h₂.
+    after _ _ h₂ λ left c′ e₃ h₃.
+    after _ _ h₃ λ w d e₄ h₄.
+    after _ _ h₄ λ u₅ e e₅ h₅.
+    after _ _ h₅ λ u₆ f e₆ h₆.
+    after _ _ h₆ λ m g e₇ h₇.
+    after _ _ h₇ λ u₈ i e₈ h₈.
+    after _ _ h₈ λ k j e₉ h₉.
+    after _ _ h₉ λ u₁₀ l e₁₀ h₁₀.
+    after _ _ h₁₀ λ u₁₁ r e₁₁ h₁₁.
+    subst (λ (p : Placed). Identifies bytes (p .before) (p .line .identifier)) (done-value h₁₁)
+    (at b c c′ left w d (ending-then (indicator-ending bytes e₁) (symbol-ending 42 b e₂)) e₃ e₄)
+  where
+    at : (b c c′ : Bytes) (left : ℕ) (w d : Bytes) → Ending bytes c → done (length (spaces c)) c ≡ done left c′ → aName c′ ≡ done w d
+        → Identifies bytes (length bytes - left) w
+    at b c c′ left w d n e₃ e₄ =
+        let (p, q) = name-is c (subst (λ (x : Bytes). aName x ≡ done w d) (sym (done-rest e₃)) e₄) in
+        let s = ending-then n (spaces-ending c) in
+        let z : spaces c ≡ w ++ d = run-whole (spaces c) ∙ ap₂ _++_ (sym p) (sym q) in
+        identifies bytes (s .ahead) w d left (s .is ∙ ap (λ (x : Bytes). s .ahead ++ x) z) (sym (done-value e₃) ∙ ap length z)
+
+-- ---- sizes
+
+module _ (ls : Lines) (vs : List ℕ) where
+  mutual
+    unfolding cellsOfSrc size
+
+    pub means-size : {bs : List Bytes} {x : Src} {e : Expr} → Means ls vs bs x e → size e ≡ cellsOfSrc x
+    means-size (aBound h) = refl
+    means-size (aVariable f i e k m) = refl
+    means-size (aConstant f i e k c h) = ap suc (means-sizes h)
+    means-size (anApplication h k) = ap suc (ap₂ _+_ (means-size h) (means-size k))
+    means-size (anAbstraction h k) = ap suc (ap₂ _+_ (means-size h) (means-size k))
+
+    means-sizes : {bs : List Bytes} {xs : Srcs} {es : Exprs} → MeanAll ls vs bs xs es → sizes es ≡ cellsOfSrcs xs
+    means-sizes noMore = refl
+    means-sizes (oneMore h k) = ap₂ _+_ (means-size h) (means-sizes k)
+
+  pub middle-size : {m : Middle} {k : Kind} → MiddleMeans ls vs m k → length (kindCells k) ≡ middleCells m
+  unfolding kindCells middleCells
+  middle-size isEB = refl
+  middle-size isPN = refl
+  middle-size (isMeaning {m = e} h) = sym (size-is-length e) ∙ means-size h
+
+  pub category-size : {c : Written} {e : Expr} → CategoryMeans ls vs c e → length (cells e) ≡ writtenCells c
+  unfolding writtenCells cells
+  category-size isType = refl
+  category-size (isExpression {c = e} h) = sym (size-is-length e) ∙ means-size h
+
+-- ---- a line that is read
+
+-- everything that is known of a line ahead of its storage and its categories
+pub record LineRead (ls : Lines) (L : ℕ) (bytes : Bytes) (p : Passed) : Type 0 where
+  pub source : SourceLine
+  pub reading : Reading ls bytes source (p .line)
+  -- nested 32 deep at most
+  pub shallow : lineDepth source ≤ 32
+  pub middleFits : length (kindCells (p .line .kind)) ≤ L
+  pub categoryFits : length (cells (p .line .category)) ≤ L
+  pub named : Identifies bytes (p .before) (p .line .identifier)
+
+pub line-read : (ls : Lines) (L : ℕ) (bytes : Bytes) → RightContexts ls → {r : Placed} {rest : Bytes} {v : ℕ} {k : Kind} {c : Expr}
+    → aLine (length bytes) bytes ≡ done r rest
+    → indicatorLine ls (r .line .indicator) ≡ found v
+    → unused (r .line .identifier) ls ≡ true
+    → leb (middleCells (r .line .middle)) L ≡ true
+    → leb (writtenCells (r .line .category)) L ≡ true
+    → resolveMiddle ls (contextAt ls v) (r .line .middle) ≡ found k
+    → resolveWritten ls (contextAt ls v) (r .line .category) ≡ found c
+    → LineRead ls L bytes (record { before = r .before; line = record { identifier = r .line .identifier; indicator = v; context = contextAt ls v; kind = k; category = c } })
+line-read ls L bytes R {r} {v = v} f₁ f₂ f₃ f₄ f₅ f₆ f₇ =
+    let (i, x) = indicator-sound (r .line .indicator) R f₂ in
+    let m = middle-sound ls (contextAt ls v) (r .line .middle) f₆ in
+    let c = written-sound ls (contextAt ls v) (r .line .category) f₇ in
+    record {
+      source = r .line;
+      reading =
+          record {
+            form = parse-sound (length bytes) bytes f₁ .1;
+            identifierIs = refl;
+            indicatorIs = i;
+            contextIs = x;
+            unused = unused-sound f₃;
+            middleIs = m;
+            categoryIs = c;
+          };
+      shallow = parse-sound (length bytes) bytes f₁ .2;
+      middleFits = (let h = leb-true (middleCells (r .line .middle)) L f₄ in omega (arith, h, middle-size ls (contextAt ls v) m));
+      categoryFits = (let h = leb-true (writtenCells (r .line .category)) L f₅ in omega (arith, h, category-size ls (contextAt ls v) c));
+      named = identifier-place bytes f₁;
+    }

@@ -1,0 +1,2 @@
+-- What the contracts of the public library say.
+pub mod Outcomes
