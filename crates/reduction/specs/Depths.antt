@@ -1,7 +1,6 @@
 -- How deep abstractions nest in an expression, and that the cells of what a step makes are 16-bit numbers, however many they
 -- are.
-use mathlib.Core.Path.{_≡_, refl, sym, subst}
-use mathlib.Core.Logic.{inl, inr}
+use mathlib.Core.Path.{_≡_, refl, subst}
 use mathlib.Core.Bool.{Bool, true, false}
 use mathlib.Core.Option.{Option, none, some}
 use mathlib.Core.List.{List, [], _∷_, _++_}
@@ -14,7 +13,7 @@ use Rattle.aut68.specs.Substitution.{lift, lifts, substituteBound, substitute, 
 use Rattle.aut68.specs.Lines.{Lines}
 use Rattle.lookup.specs.LineNumbers.{line-within}
 use Rattle.calculus.specs.Scoped.{Scoped, AllScoped}
-use Rattle.calculus.specs.Resolved.{VariableLine, ConstantOf, Known, KnownCategory}
+use Rattle.calculus.specs.Resolved.{VariableLine, ConstantOf, Known}
 use Rattle.cells.specs.Cells.{Below}
 use Rattle.cells.specs.Forests.{size-positive}
 
@@ -183,15 +182,6 @@ module _ (ls : Lines) (few : length ls < 8192) where
   -- by its size alone
   pub known-sized : (k : ℕ) (e : Expr) → Known ls k e → k + size e ≤ 8192 → Below 65536 (cells e)
   known-sized k e w h = known-below k (size e) e w (deep-size (size e) e (omega arith)) h
-
-  pub category-sized : (k : ℕ) (c : Expr) → KnownCategory ls k c → k + size c ≤ 8192 → Below 65536 (cells c)
-  unfolding cells Below
-  category-sized k c (inl e) h = subst (λ (x : Expr). Below 65536 (cells x)) (sym e) (omega arith, tt)
-  category-sized k c (inr w) h = known-sized k c w h
-
-  -- of at most 4,096 cells
-  pub known-small : (k : ℕ) (e : Expr) → Known ls k e → k ≤ 4096 → size e ≤ 4096 → Below 65536 (cells e)
-  known-small k e w h l = known-below k 2048 e w (deep-size 2048 e (omega arith)) (omega arith)
 
   -- what is made of two such, or of one with such arguments
   pub substituted-below : (k : ℕ) (a t : Expr) → Known ls k (substitute a 0 t) → k ≤ 4096 → size a ≤ 4096 → size t ≤ 4096 → Below 65536 (cells (substitute a 0 t))
