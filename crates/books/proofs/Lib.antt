@@ -2,5 +2,6 @@
 pub mod RowLaws
 pub mod StoreLaws
 pub mod ReadLaws
+pub mod HintLaws
 pub mod LineLaws
 pub mod LoopLaws

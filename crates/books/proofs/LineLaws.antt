@@ -15,7 +15,7 @@ use Rattle.aut68.specs.Lines.{kindCells, lineCells, termsOf, tableOf, rowOf}
 use Rattle.aut68.specs.Procedure.Answer.{done, andThen, codeOf}
 use Rattle.aut68.specs.Procedure.CheckLine.{Passed, checkLine, room}
 use Rattle.aut68.specs.Procedure.Run.{Recorded}
-use Rattle.lookup.specs.DerivedBooks.{right-contexts}
+use Rattle.lookup.specs.DerivedBooks.{right-contexts, distinct-names}
 use Rattle.calculus.specs.Resolved.{resolved-known, category-known}
 use Rattle.calculus.specs.MeansResolved.{line-resolved, derived-resolved}
 use Rattle.cells.specs.Forests.{size-is-length}
@@ -32,14 +32,15 @@ use Rattle.records.specs.Tables.{held-rows, held-stored, held-named, table-long
 use Rattle.records.specs.ReadLines.{LineRead}
 use Rattle.records.specs.Reached.{Reached, HasRoom, room-is, indicators-before, reached-holds, reached-more, slice-is}
 use Rattle.records.specs.Bounds.{reached-stores, used-small, size-small, stored-cells, row-small}
-use Rattle.books.specs.Progress.{Fitting, ToStore, StoredPost, LineResult, LinePost, passed, refused}
+use Rattle.books.specs.Progress.{Fitting, ToStore, StoredPost, NotedLine, HintedIn, LineResult, LinePost, passed, refused}
 use Rattle.books.specs.Progress as P
+use Rattle.books.proofs.HintLaws.{hinted-on}
 use Rattle.books.proofs.ReadLaws.{result-done, result-stop, not-read, no-room, by-categories, reads, middle-shallow, category-shallow}
 
 -- where a line ends, and what is recorded, under other names
-pub line-as : {book ks : Bytes} {limit at n used budget : ℕ} {tb ts w : List ℕ} {code next n′ used′ left : ℕ} {tb′ ts′ : List ℕ} {c a l u b : ℕ}
+pub line-as : {book ks : Bytes} {limit at n used budget : ℕ} {tb ts w : List ℕ} {code next n′ used′ left : ℕ} {tb′ ts′ w′ : List ℕ} {c a l u b : ℕ}
     → (c ≡ code) × (a ≡ next) × (l ≡ n′) × (u ≡ used′) × (b ≡ left)
-    → LinePost book ks limit at n used budget tb ts w code next n′ used′ left tb′ ts′ → LinePost book ks limit at n used budget tb ts w c a l u b tb′ ts′
+    → LinePost book ks limit at n used budget tb ts w code next n′ used′ left tb′ ts′ w′ → LinePost book ks limit at n used budget tb ts w c a l u b tb′ ts′ w′
 line-as (p, q, r, s, t) h = rw (p, q, r, s, t) h
 
 reached-as : {book : Bytes} {limit : ℕ} {tb₀ ts₀ : List ℕ} {k : Recorded} {n u u′ : ℕ} {tb tb′ ts ts′ : List ℕ} → u′ ≡ u → tb′ ≡ tb → ts′ ≡ ts
@@ -70,13 +71,14 @@ module _ {book : Bytes} {limit : ℕ} {tb₀ ts₀ : List ℕ} {k : Recorded} {n
         count = sym (h .linesAre);
         few = h .few;
         contexts = λ i. right-contexts (h .derived) _ _ i;
+        distinct = distinct-names (h .derived);
         behind = λ i. indicators-before (h .derived) _ _ i;
       }
 
   -- what the reader says of it
-  line-result : {bytes ks w w′ : List ℕ} {x : Line} → Fitting book limit w → KindsTable ks → LineReadTo ks bytes book tb n limit w w′ x
-      → (b : ℕ) → Result (Reader.LineRead bytes w′ x) (x .code) b (readLine (k .recorded) limit bytes b)
-  line-result f ks post b = post .read (k .recorded) ks known (let e = f .enough in omega arith) b
+  line-result : {bytes ks w w′ : List ℕ} {x : Line} → Fitting book limit w → KindsTable ks → HintedIn limit book tb n w → LineReadTo ks bytes book tb n limit w w′ x
+      → (b : ℕ) → Result (Reader.LineRead bytes w′ (24 * limit) x) (x .code) b (readLine (k .recorded) limit bytes b)
+  line-result f ks hints post b = post .read (k .recorded) ks known (f .large) (let e = f .enough in omega arith) hints b
 
   -- ---- stored
 
@@ -112,7 +114,7 @@ module _ {book : Bytes} {limit : ℕ} {tb₀ ts₀ : List ℕ} {k : Recorded} {n
           categorySmall = (let f = r .categoryFits in omega (arith, f, size-is-length (l .category)), category-shallow r);
         }
 
-    to-store : {w′ : List ℕ} {x : Line} → 128 * limit ≤ length w′ → Reader.LineRead bytes w′ x p → ToStore (k .recorded) (p .line) limit used (x .middle) (x .size) tb ts w′
+    to-store : {w′ : List ℕ} {x : Line} → 128 * limit ≤ length w′ → Reader.LineRead bytes w′ (24 * limit) x p → ToStore (k .recorded) (p .line) limit used (x .middle) (x .size) tb ts w′
     to-store {x = x} enough a =
         let z = a .sizeIs in
         let e : take (used + x .size) (sets ts used (lineCells (p .line))) ≡ termsOf (k .recorded) ++ lineCells (p .line) =
@@ -131,7 +133,7 @@ module _ {book : Bytes} {limit : ℕ} {tb₀ ts₀ : List ℕ} {k : Recorded} {n
   -- ---- how it ends
 
   module _ (budget : ℕ) {at next : ℕ} (inside : at < length book) (end : LineEnd book at next) {ks w w′ : List ℕ} (f : Fitting book limit w) (table : KindsTable ks)
-      {x : Line} (post : LineReadTo ks (take (next - at) (drop at book)) book tb n limit w w′ x) where
+      (hints : HintedIn limit book tb n w) {x : Line} (post : LineReadTo ks (take (next - at) (drop at book)) book tb n limit w w′ x) where
     abbrev bytes : Bytes
     bytes = take (next - at) (drop at book)
 
@@ -148,14 +150,14 @@ module _ {book : Bytes} {limit : ℕ} {tb₀ ts₀ : List ℕ} {k : Recorded} {n
     ends-at = let a = end .from inside in omega (arith, a, ap length bytes-are, length-slice at next book (within))
 
     -- the reading refuses it
-    pub ends-unread : x .code ≢ 0 → {used′ : ℕ} → LineResult book limit tb₀ ts₀ k at n budget tb ts (x .code) at n used′ budget tb ts
+    pub ends-unread : x .code ≢ 0 → {used′ : ℕ} {w″ : List ℕ} → LineResult book limit tb₀ ts₀ k at n budget tb ts (x .code) at n used′ budget tb ts w″
     ends-unread c =
-        let (r, e, q) = result-stop c (line-result f table post budget) in
+        let (r, e, q) = result-stop c (line-result f table hints post budget) in
         P.refused cut (not-read (k .recorded) limit (length tb₀) (length ts₀) bytes budget e) q refl refl refl
 
     module _ (read : x .code ≡ 0) where
       abbrev Is : Passed → Type 0
-      Is p = Reader.LineRead bytes w′ x p
+      Is p = Reader.LineRead bytes w′ (24 * limit) x p
 
       room-same : {p : Passed} → Is p → (ltb (suc n) 8192 && leb (8 * suc n) (length tb) && leb (used + x .size) (length ts)) ≡ room (k .recorded) (length tb₀) (length ts₀) (p .line)
       unfolding room
@@ -163,11 +165,11 @@ module _ {book : Bytes} {limit : ℕ} {tb₀ ts₀ : List ℕ} {k : Recorded} {n
           λ i. ltb (suc (h .linesAre i)) 8192 && leb (8 * suc (h .linesAre i)) (table-same i) && leb (h .usedIs i + a .sizeIs i) (terms-same i)
 
       -- there is no room for it
-      pub ends-full : {t : Bool} → not t ≡ true → t ≡ (ltb (suc n) 8192 && leb (8 * suc n) (length tb) && leb (used + x .size) (length ts)) → {used′ : ℕ}
-          → LineResult book limit tb₀ ts₀ k at n budget tb ts 12 at n used′ budget tb ts
+      pub ends-full : {t : Bool} → not t ≡ true → t ≡ (ltb (suc n) 8192 && leb (8 * suc n) (length tb) && leb (used + x .size) (length ts)) → {used′ : ℕ} {w″ : List ℕ}
+          → LineResult book limit tb₀ ts₀ k at n budget tb ts 12 at n used′ budget tb ts w″
       unfolding codeOf
       ends-full {t} flag e =
-          let (p, d, a) = result-done read (line-result f table post budget) in
+          let (p, d, a) = result-done read (line-result f table hints post budget) in
           P.refused cut (no-room (k .recorded) limit (length tb₀) (length ts₀) bytes budget d (sym (room-same a) ∙ sym e ∙ not-true t flag)) refl refl refl refl
 
       module _ {t : Bool} (flag : not t ≡ false) (fits : t ≡ (ltb (suc n) 8192 && leb (8 * suc n) (length tb) && leb (used + x .size) (length ts))) where
@@ -182,16 +184,16 @@ module _ {book : Bytes} {limit : ℕ} {tb₀ ts₀ : List ℕ} {k : Recorded} {n
             to-store (is-read d) (room-is (k .recorded) (length tb₀) (length ts₀) (p .line) (has-room a)) (f .small)
             (let e = f .enough in let o = post .outside .long in omega arith) a
 
-        module _ {start left code′ : ℕ} {tb′ ts′ : List ℕ} (sum : at + x .first < 4294967296 → start ≡ at + x .first)
-            (checked : StoredPost limit n used (x .middle) (x .size) (start ∷ x .len ∷ x .indicator ∷ x .context ∷ x .kind ∷ used ∷ (used + x .middle) ∷ (used + x .size) ∷ []) budget tb ts w′ tb′ ts′ code′ left) where
+        module _ {start left code′ : ℕ} {tb′ ts′ w₂ : List ℕ} (sum : at + x .first < 4294967296 → start ≡ at + x .first)
+            (checked : StoredPost limit n used (x .middle) (x .size) (start ∷ x .len ∷ x .indicator ∷ x .context ∷ x .kind ∷ used ∷ (used + x .middle) ∷ (used + x .size) ∷ []) budget tb ts w′ tb′ ts′ w₂ code′ left) where
           abbrev row : List ℕ
           row = start ∷ x .len ∷ x .indicator ∷ x .context ∷ x .kind ∷ used ∷ (used + x .middle) ∷ (used + x .size) ∷ []
 
           -- its categories refuse it
-          pub ends-refused : code′ ≢ 0 → {used′ : ℕ} → LineResult book limit tb₀ ts₀ k at n budget tb ts code′ at n used′ left tb′ ts′
+          pub ends-refused : code′ ≢ 0 → {used′ : ℕ} {w″ : List ℕ} → LineResult book limit tb₀ ts₀ k at n budget tb ts code′ at n used′ left tb′ ts′ w″
           unfolding andThen
           ends-refused c =
-              let (p, d, a) = result-done read (line-result f table post budget) in
+              let (p, d, a) = result-done read (line-result f table hints post budget) in
               let s = stores d a in
               let (r, e, q) = result-stop c (checked .means s) in
               let (t, u) = checked .restored s c in
@@ -203,10 +205,11 @@ module _ {book : Bytes} {limit : ℕ} {tb₀ ts₀ : List ℕ} {k : Recorded} {n
               λ i. (e ∙ ap (λ (j : ℕ). at + j) (a .firstIs)) i ∷ a .lenIs i ∷ a .indicatorIs i ∷ a .contextIs i ∷ a .kindIs i ∷ used ∷ (used + a .middleIs i) ∷ (used + a .sizeIs i) ∷ []
 
           -- it is recorded
-          pub ends-passed : code′ ≡ 0 → LineResult book limit tb₀ ts₀ k at n budget tb ts 0 next (n + 1) (used + x .size) left tb′ ts′
+          pub ends-passed : code′ ≡ 0 → {w₃ : List ℕ} → NotedLine book tb′ n limit w₂ w₃
+              → LineResult book limit tb₀ ts₀ k at n budget tb ts 0 next (n + 1) (used + x .size) left tb′ ts′ w₃
           unfolding andThen
-          ends-passed c =
-              let (p, d, a) = result-done read (line-result f table post budget) in
+          ends-passed c noted =
+              let (p, d, a) = result-done read (line-result f table hints post budget) in
               let s = stores d a in
               let (t, e, z) = result-done c (checked .means s) in
               let R = is-read d in
@@ -219,4 +222,8 @@ module _ {book : Bytes} {limit : ℕ} {tb₀ ts₀ : List ℕ} {k : Recorded} {n
               z .tableIs (let i = room .fewLines in let j = h .linesAre in omega arith) (rw is (row-small h R at (f .small) short)) ∙ ap (sets tb (8 * n)) is
               in
               let more = reached-more h at next bytes p (within) (let x = end .from inside in omega arith) bytes-are R room budget left done in
-              P.passed cut ends-at done refl (reached-as (ap (λ (i : ℕ). used + i) (a .sizeIs)) tables (z .termsAre) more)
+              let hinted =
+              hinted-on (f .large) w₂ (let e = f .enough in omega arith) (rowOf (at + p .before) used (p .line)) (post .outside) (checked .long) (checked .below (f .small)) tables
+              (let i = room .fewLines in let j = h .linesAre in omega arith) (let i = room .rowFits in let j = h .linesAre in omega (arith, table-same)) noted hints
+              in
+              P.passed cut ends-at done refl (reached-as (ap (λ (i : ℕ). used + i) (a .sizeIs)) tables (z .termsAre) more) hinted

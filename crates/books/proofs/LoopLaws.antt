@@ -2,14 +2,15 @@
 use mathlib.Core.Path.{_≡_, refl, sym, ap, _∙_}
 use mathlib.Core.Logic.{_≢_, inl, inr}
 use mathlib.Core.List.{List, _∷_}
-use Prim.Native.Nat.{ℕ, suc, _+_, _-_, _≤_}
+use Prim.Native.Nat.{ℕ, suc, _+_, _-_, _*_, _≤_}
 use native.Mathlib.Omega.{arith}
-use lib.ListN.{length, drop, drop-of-length-le}
+use lib.ListN.{length, take, drop, drop-of-length-le}
 use Rattle.aut68.specs.Bytes.{Bytes, lines}
 use Rattle.aut68.specs.Procedure.Answer.{done, stop, Refusal}
 use Rattle.aut68.specs.Procedure.CheckLine.{Passed, checkLine}
 use Rattle.aut68.specs.Procedure.Run.{Recorded, Ending, refusedAt, nothing, checkLines, codeAt, lineAt, stepsAt, recordedAt, tableEnd, termsEnd}
 use Rattle.cells.specs.Results.{code-nonzero}
+use Rattle.names.specs.HintLaws.{no-line-hinted}
 use Rattle.records.specs.Reached.{reached-nothing, oneMore}
 use Rattle.records.specs.Refusals.{refusal-code, code-most}
 use Rattle.books.specs.Progress.{LineResult, passed, refused, Going, LinesPost, Fitting}
@@ -31,17 +32,19 @@ module _ (book : Bytes) (limit N : ℕ) (tb₀ ts₀ : List ℕ) where
   unfolding checkLines
   one-stops k at b bytes more e = rw (e, checkLines) refl
 
-  pub going-starts : Going book limit N tb₀ ts₀ 0 0 0 N tb₀ ts₀
-  going-starts = record { recorded = nothing; reached = reached-nothing book limit tb₀ ts₀; goes = refl }
+  pub going-starts : (w : List ℕ) → Going book limit N tb₀ ts₀ 0 0 0 N tb₀ ts₀ w
+  going-starts w =
+      record { recorded = nothing; reached = reached-nothing book limit tb₀ ts₀; hinted = no-line-hinted book tb₀ (take (26 * limit) w); goes = refl }
 
-  module _ {at n used b : ℕ} {tb ts : List ℕ} (g : Going book limit N tb₀ ts₀ at n used b tb ts) where
+  module _ {at n used b : ℕ} {tb ts w : List ℕ} (g : Going book limit N tb₀ ts₀ at n used b tb ts w) where
     -- a line that passes
-    pub going-on : {code next n′ used′ left : ℕ} {tb′ ts′ : List ℕ} → code ≡ 0
-        → LineResult book limit tb₀ ts₀ (g .recorded) at n b tb ts code next n′ used′ left tb′ ts′ → Going book limit N tb₀ ts₀ next n′ used′ left tb′ ts′
-    going-on {next = next} {left = left} z (passed {bytes} {p} cut e d c r) =
+    pub going-on : {code next n′ used′ left : ℕ} {tb′ ts′ w′ : List ℕ} → code ≡ 0
+        → LineResult book limit tb₀ ts₀ (g .recorded) at n b tb ts code next n′ used′ left tb′ ts′ w′ → Going book limit N tb₀ ts₀ next n′ used′ left tb′ ts′ w′
+    going-on {next = next} {left = left} z (passed {bytes} {p} cut e d c r i) =
         record {
           recorded = oneMore (g .recorded) at p;
           reached = r;
+          hinted = i;
           goes =
               g .goes
               ∙ ap (from (g .recorded) at b) cut
@@ -51,10 +54,10 @@ module _ (book : Bytes) (limit N : ℕ) (tb₀ ts₀ : List ℕ) where
     going-on z (refused {r = r} cut d c l t u) = absurd (code-nonzero r (sym c ∙ z))
 
     -- a line that is refused
-    pub going-stops : {code next n′ used′ left : ℕ} {tb′ ts′ : List ℕ} → code ≢ 0
-        → LineResult book limit tb₀ ts₀ (g .recorded) at n b tb ts code next n′ used′ left tb′ ts′ → LinesPost ending N tb₀ ts₀ code n′ left tb′ ts′
+    pub going-stops : {code next n′ used′ left : ℕ} {tb′ ts′ w′ : List ℕ} → code ≢ 0
+        → LineResult book limit tb₀ ts₀ (g .recorded) at n b tb ts code next n′ used′ left tb′ ts′ w′ → LinesPost ending N tb₀ ts₀ code n′ left tb′ ts′
     unfolding codeAt lineAt stepsAt tableEnd termsEnd recordedAt
-    going-stops z (passed cut e d c r) = absurd (z c)
+    going-stops z (passed cut e d c r i) = absurd (z c)
     going-stops z (refused {bytes} {more} {r} cut d c l t u) =
         let R = g .reached in
         let q = g .goes ∙ ap (from (g .recorded) at b) cut ∙ one-stops (g .recorded) at b bytes more d in
@@ -93,4 +96,4 @@ ends-as z p = rw z p
 
 -- a working store of the same length serves as well
 pub fitting-as : {book : Bytes} {limit : ℕ} {w w′ : List ℕ} → Fitting book limit w → length w′ ≡ length w → Fitting book limit w′
-fitting-as f e = record { small = f .small; enough = (let h = f .enough in omega arith); short = f .short }
+fitting-as f e = record { large = f .large; small = f .small; enough = (let h = f .enough in omega arith); short = f .short }

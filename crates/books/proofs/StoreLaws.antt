@@ -1,6 +1,6 @@
 -- A line's cells exchanged with term cells, checked there, and exchanged back.
 use mathlib.Core.Path.{_≡_, refl, sym, ap, _∙_}
-use mathlib.Core.Logic.{_≢_}
+use mathlib.Core.Logic.{_≢_, inl}
 use mathlib.Core.List.{List, _++_, append-assoc}
 use Prim.Native.Nat.{ℕ, _+_, _*_, _≤_, _<_}
 use native.Mathlib.Omega.{arith}
@@ -11,9 +11,9 @@ use Rattle.aut68.specs.Lines.{Line, Lines, Kind, variable, primitive, abbreviat
 use Rattle.aut68.specs.Procedure.Answer.{Answer, _>>=_}
 use Rattle.aut68.specs.Procedure.CheckLine.{checkWritten, checkMiddle}
 use Rattle.cells.specs.Cells.{At, Outside, Below, copyCells}
-use Rattle.cells.specs.Layout.{unitAt}
+use Rattle.cells.specs.Layout.{unitAt, lineUnit}
 use Rattle.cells.specs.Results.{Result, passed, refused}
-use Rattle.cells.specs.Stores.{at-taken, at-sets, outside-below}
+use Rattle.cells.specs.Stores.{at-taken, at-sets, at-kept, outside-below}
 use Rattle.cells.specs.CopyLaws.{copied, copied-length, copy-whole, copy-outside}
 use Rattle.cells.specs.Forests.{size-is-length}
 use Rattle.categories.specs.Posts.{CheckCellsPost}
@@ -21,21 +21,22 @@ use Rattle.books.specs.Progress.{ToStore}
 
 -- ---- an exchange and back
 
-module _ (ts w : List ℕ) (used size : ℕ) (h : used + size ≤ length ts) (k : size ≤ length w) where
-  terms-exchanged : {xs behind : List ℕ} → At w 0 xs behind → size ≡ length xs → copyCells w 0 size ts used ≡ sets ts used xs
+module _ (ts w : List ℕ) (used size to : ℕ) (h : used + size ≤ length ts) (k : to + size ≤ length w) where
+  terms-exchanged : {xs behind : List ℕ} → At w to xs behind → size ≡ length xs → copyCells w to size ts used ≡ sets ts used xs
   unfolding copied
   terms-exchanged {xs} a e =
-      copy-whole w 0 size ts used (omega arith) h
-      ∙ ap (sets ts used) (ap (λ (n : ℕ). take n w) e ∙ at-taken a)
+      copy-whole w to size ts used k h
+      ∙ ap (sets ts used) (ap (λ (n : ℕ). take n (drop to w)) e ∙ at-taken a)
 
-  work-exchanged : take size (copyCells ts used size w 0) ≡ take size (drop used ts)
-  unfolding copied
+  -- the term cells that were displaced
+  displaced : List ℕ
+  displaced = take size (drop used ts)
+
+  work-exchanged : At (copyCells ts used size w to) to displaced (drop (to + length displaced) w)
+  unfolding copied displaced
   work-exchanged =
-      let ys = take size (drop used ts) in
-      let l : length ys ≡ size = copied-length ts used size w 0 h in
-      ap (take size) (copy-whole ts used size w 0 h (omega arith))
-      ∙ ap (λ (n : ℕ). take n (sets w 0 ys)) (sym l)
-      ∙ at-taken (at-sets w ys 0 (omega (arith, l)))
+      let l : length displaced ≡ size = copied-length ts used size w to h in
+      rw (copy-whole ts used size w to h k) (at-sets w displaced to (omega (arith, l)))
 
 -- a run written over another, and the first again
 sets-back : (ts xs : List ℕ) (i n : ℕ) → length xs ≡ n → i + n ≤ length ts → sets (sets ts i xs) i (take n (drop i ts)) ≡ ts
@@ -54,21 +55,43 @@ sets-back ts xs i n e h =
     ∙ ap (λ (x : List ℕ). x ++ drop (i + n) ts) (sym (take-add i n ts))
     ∙ take-append-drop (i + n) ts
 
-module _ (ts w : List ℕ) (used size : ℕ) (h : used + size ≤ length ts) (k : size ≤ length w) where
-  -- what was displaced still stands at the front of the working store
-  pub exchanged-back : {from end : ℕ} (ts′ w′ w″ : List ℕ) → ts′ ≡ copyCells w 0 size ts used → w′ ≡ copyCells ts used size w 0
-      → size ≤ from → Outside from end w′ w″ → copyCells w″ 0 size ts′ used ≡ ts
-  unfolding copied
+module _ (ts w : List ℕ) (used size to : ℕ) (h : used + size ≤ length ts) (k : to + size ≤ length w) where
+  -- what was displaced still stands in the working store
+  pub exchanged-back : {from end : ℕ} (ts′ w′ w″ : List ℕ) → ts′ ≡ copyCells w to size ts used → w′ ≡ copyCells ts used size w to
+      → to + size ≤ from → Outside from end w′ w″ → copyCells w″ to size ts′ used ≡ ts
+  unfolding copied displaced
   exchanged-back ts′ w′ w″ p q f o =
-      let xs = take size w in
-      let l : length xs ≡ size = length-take-le size w k in
-      let e : ts′ ≡ sets ts used xs = p ∙ copy-whole w 0 size ts used (omega arith) h in
-      let same : take size w″ ≡ take size (drop used ts) = outside-below f o ∙ ap (take size) q ∙ work-exchanged ts w used size h k in
-      let long : length w″ ≡ length w = o .long ∙ ap length q ∙ copy-outside ts used size w 0 .long in
-      ap (λ (x : List ℕ). copyCells w″ 0 size x used) e
-      ∙ copy-whole w″ 0 size (sets ts used xs) used (omega arith) (omega (arith, length-sets ts used xs))
+      let xs = take size (drop to w) in
+      let l : length xs ≡ size = copied-length w to size ts used k in
+      let m : length (take size (drop used ts)) ≡ size = copied-length ts used size w to h in
+      let e : ts′ ≡ sets ts used xs = p ∙ copy-whole w to size ts used k h in
+      let stood = rw (← q) at (work-exchanged ts w used size to h k) in
+      let same : take size (drop to w″) ≡ take size (drop used ts) =
+      ap (λ (n : ℕ). take n (drop to w″)) (sym m) ∙ at-taken (at-kept o (inl (omega arith)) stood)
+      in
+      let long : length w″ ≡ length w = o .long ∙ ap length q ∙ copy-outside ts used size w to .long in
+      ap (λ (x : List ℕ). copyCells w″ to size x used) e
+      ∙ copy-whole w″ to size (sets ts used xs) used (omega arith) (omega (arith, length-sets ts used xs))
       ∙ ap (sets (sets ts used xs) used) same
       ∙ sets-back ts xs used size l h
+
+-- ---- the hints lie below all that is exchanged and checked
+
+module _ (limit to used size : ℕ) (t : limit ≤ 4096 → to ≡ unitAt limit lineUnit) where
+  below-exchange : (ts w : List ℕ) {w′ : List ℕ} → w′ ≡ copyCells ts used size w to → limit ≤ 4096 → take (24 * limit) w′ ≡ take (24 * limit) w
+  unfolding unitAt
+  below-exchange ts w e small =
+      let q : to ≡ 24 * limit = t small in
+      ap (take (24 * limit)) e ∙ outside-below {n = 24 * limit} (omega arith) (copy-outside ts used size w to)
+
+  module _ (ts w : List ℕ) {w′ w″ : List ℕ} (e : w′ ≡ copyCells ts used size w to)
+      {tb s : List ℕ} {start at budget code left : ℕ} (post : CheckCellsPost tb s start at w′ limit budget w″ code left) where
+    pub hints-stay : limit ≤ 4096 → take (24 * limit) w″ ≡ take (24 * limit) w
+    unfolding unitAt
+    hints-stay small = outside-below {n = 24 * limit} (omega arith) (post .frame small) ∙ below-exchange ts w e small
+
+    pub hints-stay-back : (ts′ : List ℕ) {w‴ : List ℕ} → w‴ ≡ copyCells ts′ used size w″ to → limit ≤ 4096 → take (24 * limit) w‴ ≡ take (24 * limit) w
+    hints-stay-back ts′ f small = below-exchange ts′ w″ f small ∙ hints-stay small
 
 -- ---- the check between them
 
@@ -86,9 +109,14 @@ kind-small limit variable h = omega arith
 kind-small limit primitive h = omega arith
 kind-small limit (abbreviation m) h = omega (arith, h m refl, size-is-length m)
 
-module _ {ls : Lines} {l : Line} {limit used middle size : ℕ} {tb ts w : List ℕ} (s : ToStore ls l limit used middle size tb ts w) (h : used + size ≤ length ts) where
+module _ {ls : Lines} {l : Line} {limit used middle size : ℕ} {tb ts w : List ℕ} (s : ToStore ls l limit used middle size tb ts w) (h : used + size ≤ length ts)
+    {to : ℕ} (t : limit ≤ 4096 → to ≡ unitAt limit lineUnit) where
+  place : to ≡ 24 * limit
+  unfolding unitAt
+  place = t (s .book .limit)
+
   -- a line's cells are at most two units
-  pub two-units : size ≤ 2 * limit
+  two-units : size ≤ 2 * limit
   unfolding lineCells
   two-units =
       let q = s .sizeIs in
@@ -96,11 +124,13 @@ module _ {ls : Lines} {l : Line} {limit used middle size : ℕ} {tb ts w : List 
       let c = s .cells .categorySmall .0 in
       omega (arith, q, m, c, size-is-length (l .category), length-append (kindCells (l .kind)) (cells (l .category)))
 
-  pub size-fits : size ≤ length w
-  size-fits = let q = s .enough in omega (arith, two-units)
+  size-fits : to + size ≤ length w
+  size-fits = let q = s .enough in omega (arith, two-units, place)
 
-  pub cells-stored : (ts′ : List ℕ) → ts′ ≡ copyCells w 0 size ts used → ts′ ≡ sets ts used (lineCells l)
-  cells-stored ts′ e = e ∙ terms-exchanged ts w used size h size-fits (s .cellsAt) (s .sizeIs)
+  pub cells-stored : (ts′ : List ℕ) → ts′ ≡ copyCells w to size ts used → ts′ ≡ sets ts used (lineCells l)
+  cells-stored ts′ e =
+      let a : At w to (lineCells l) (s .behind) = record { is = ap (λ (i : ℕ). drop i w) place ∙ s .cellsAt .is } in
+      e ∙ terms-exchanged ts w used size to h size-fits a (s .sizeIs)
 
   pub category-starts : used + middle < 4294967296
   unfolding lineCells
@@ -110,17 +140,17 @@ module _ {ls : Lines} {l : Line} {limit used middle size : ℕ} {tb ts w : List 
       let f = s .few in
       omega (arith, q, e, f, length-append (kindCells (l .kind)) (cells (l .category)))
 
-  pub checked : (ts′ w′ w″ : List ℕ) (category budget code left : ℕ) → ts′ ≡ copyCells w 0 size ts used → w′ ≡ copyCells ts used size w 0
+  pub checked : (ts′ w′ w″ : List ℕ) (category budget code left : ℕ) → ts′ ≡ copyCells w to size ts used → w′ ≡ copyCells ts used size w to
       → (used + middle < 4294967296 → category ≡ used + middle)
       → CheckCellsPost tb (take (used + size) ts′) used category w′ limit budget w″ code left
       → Result (λ _. Unit {0}) code left ((checkWritten ls limit (l .category) >>= λ _. checkMiddle ls limit (l .kind) (l .category)) budget)
   checked ts′ w′ w″ category budget code left p q r post =
-      post .means {ls = ls} {l = l} (rw (cells-stored ts′ p) (s .book)) (let e = s .enough in omega (arith, ap length q, copy-outside ts used size w 0 .long))
+      post .means {ls = ls} {l = l} (rw (cells-stored ts′ p) (s .book)) (let e = s .enough in omega (arith, ap length q, copy-outside ts used size w to .long))
       (rw (cells-stored ts′ p, r category-starts) (s .cells))
 
-  pub put-back : (ts′ w′ w″ : List ℕ) (category budget code left : ℕ) → ts′ ≡ copyCells w 0 size ts used → w′ ≡ copyCells ts used size w 0
+  pub put-back : (ts′ w′ w″ : List ℕ) (category budget code left : ℕ) → ts′ ≡ copyCells w to size ts used → w′ ≡ copyCells ts used size w to
       → CheckCellsPost tb (take (used + size) ts′) used category w′ limit budget w″ code left
-      → {ts″ : List ℕ} → ts″ ≡ copyCells w″ 0 size ts′ used → ts″ ≡ ts
+      → {ts″ : List ℕ} → ts″ ≡ copyCells w″ to size ts′ used → ts″ ≡ ts
   unfolding unitAt
   put-back ts′ w′ w″ category budget code left p q post e =
-      e ∙ exchanged-back ts w used size h size-fits ts′ w′ w″ p q (omega (arith, two-units)) (post .frame (s .book .limit))
+      e ∙ exchanged-back ts w used size to h size-fits ts′ w′ w″ p q (omega (arith, two-units, place)) (post .frame (s .book .limit))

@@ -5,8 +5,12 @@ use crate::rows::sum;
 use categories::Checked;
 use categories::check_cells;
 use cells::OUT_OF_SPACE;
+use cells::clear;
 use cells::exchange;
+use cells::line_at;
 use kinds::kinds_of_bytes;
+use names::identifier;
+use names::note;
 use reader::Line;
 use reader::line_end;
 use reader::read_line;
@@ -16,7 +20,7 @@ ghost use Prim.Native.Nat.{_+_, _<_, _≤_};
 ghost use lib.ListN.{length};
 ghost use Rattle.aut68.specs.Bytes.{lines};
 ghost use Rattle.aut68.specs.Procedure.Run.{nothing, checkLines};
-ghost use Rattle.books.specs.Progress.{Fitting, StoredPost, LinePost, LinesPost};
+ghost use Rattle.books.specs.Progress.{Fitting, StoredPost, NotedLine, LinePost, LinesPost};
 
 // Where the check of a book is. code: 0, or the refusal of line lines + 1. at: the next byte. lines, used: the rows and the
 // term cells of the lines that passed. budget: what is left of it.
@@ -55,19 +59,36 @@ fn check_stored(
     budget: u32,
 ) -> Checked
     requires { ⌜ used + l .size ≤ length (now store) ⌝ }
-    ensures { λ r. ⌜ StoredPost limit lines used (l .middle) (l .size) (first ∷ l .len ∷ l .indicator ∷ l .context ∷ l .kind ∷ used ∷ (used + l .middle) ∷ (used + l .size) ∷ []) budget (now (table .entry)) (now (store .entry)) (now (w .entry)) (now (table .exit)) (now (store .exit)) (r .code) (r .budget) ⌝ }
+    ensures { λ r. ⌜ StoredPost limit lines used (l .middle) (l .size) (first ∷ l .len ∷ l .indicator ∷ l .context ∷ l .kind ∷ used ∷ (used + l .middle) ∷ (used + l .size) ∷ []) budget (now (table .entry)) (now (store .entry)) (now (w .entry)) (now (table .exit)) (now (store .exit)) (now (w .exit)) (r .code) (r .budget) ⌝ }
 {
     let size = l.size;
-    exchange(store, used, w, 0, size);
+    let to = line_at(limit);
+    exchange(store, used, w, to, size);
     let stop = used + size;
     let category = sum(used, l.middle);
     let c = check_cells(table, &store[..stop], used, category, w, limit, budget);
     if c.code != 0 {
-        exchange(store, used, w, 0, l.size);
+        exchange(store, used, w, to, l.size);
         return c;
     }
     put_row(table, lines, first, l, used, category, stop);
     c
+}
+
+// Notes the line whose row was written behind the first `lines` rows.
+fn note_line(book: &[u8], table: &[u32], lines: usize, w: &mut [u16], limit: usize)
+    ensures { λ _. ⌜ NotedLine (now (book .entry)) (now (table .entry)) lines limit (now (w .entry)) (now (w .exit)) ⌝ }
+{
+    if lines > 8190 {
+        return;
+    }
+    if limit > w.len() / 26 {
+        return;
+    }
+    let n = 26 * limit;
+    let v = lines + 1;
+    let word = identifier(book, table, v as u32);
+    note(&mut w[..n], word, v);
 }
 
 // The line that starts at p.at (checkLine), behind the first p.lines lines. Passed: its row and its cells are written, and
@@ -82,7 +103,7 @@ fn check_line(
     p: Progress,
 ) -> Progress
     requires { ⌜ p .at < length (now book) ⌝ }
-    ensures { λ r. ⌜ LinePost (now (book .entry)) (now (kinds .entry)) limit (p .at) (p .lines) (p .used) (p .budget) (now (table .entry)) (now (store .entry)) (now (w .entry)) (r .code) (r .at) (r .lines) (r .used) (r .budget) (now (table .exit)) (now (store .exit)) ⌝ }
+    ensures { λ r. ⌜ LinePost (now (book .entry)) (now (kinds .entry)) limit (p .at) (p .lines) (p .used) (p .budget) (now (table .entry)) (now (store .entry)) (now (w .entry)) (r .code) (r .at) (r .lines) (r .used) (r .budget) (now (table .exit)) (now (store .exit)) (now (w .exit)) ⌝ }
 {
     let at = p.at;
     let lines = p.lines;
@@ -101,6 +122,7 @@ fn check_line(
     if s.code != 0 {
         return stopped(p, s.code, s.budget);
     }
+    note_line(book, table, lines, w, limit);
     Progress {
         code: 0,
         at: next,
@@ -110,7 +132,8 @@ fn check_line(
     }
 }
 
-// The lines of the book, one after the other, up to the first that is refused (checkLines).
+// The lines of the book, one after the other, up to the first that is refused (checkLines). No line is hinted at first, whatever
+// the cells hold; that they are empty saves searches.
 pub fn check_lines(
     book: &[u8],
     table: &mut [u32],
@@ -123,6 +146,8 @@ pub fn check_lines(
     ensures { λ r. ⌜ LinesPost (checkLines budget limit (length (now (table .entry))) (length (now (store .entry))) nothing 0 budget (lines (now (book .entry)))) budget (now (table .entry)) (now (store .entry)) (r .code) (r .lines) (r .budget) (now (table .exit)) (now (store .exit)) ⌝ }
 {
     let kinds = kinds_of_bytes();
+    let hints = line_at(limit);
+    clear(w, hints);
     let mut p = Progress {
         code: 0,
         at: 0,

@@ -1,6 +1,6 @@
 -- The working store of 128 × limit cells, in units of `limit` cells:
---     0    2  the line's cells before storage; then the term cells that they displaced
---     2   24  free
+--     0   24  hints of name lookup, in its first cells; the rest is free
+--    24    2  the line's cells before storage; then the term cells that they displaced
 --    26   36  categories, one unit a level
 --    62   64  comparison: left and right side at each depth 1 to 32
 --   126    1  scratch: an expression copied from the term store
@@ -14,6 +14,10 @@ use native.Mathlib.Nat.{add-mul, mul-le-mul-right}
 -- where unit k starts
 unfoldable pub unitAt : ℕ → ℕ → ℕ
 unitAt limit k = k * limit
+
+-- the two units of the line's cells
+abbrev pub lineUnit : ℕ
+lineUnit = 24
 
 abbrev pub levelUnit : ℕ → ℕ
 levelUnit level = 26 + level

@@ -1,7 +1,7 @@
 // The units of the working store; specs/Layout has the map.
 ghost use mathlib.Core.Path.{_≡_};
 ghost use Prim.Native.Nat.{ℕ, _+_, _*_, _-_, _≤_, _<_};
-ghost use Rattle.cells.specs.Layout.{unitAt, levelUnit, sideUnit, scratchUnit, resultUnit};
+ghost use Rattle.cells.specs.Layout.{unitAt, lineUnit, levelUnit, sideUnit, scratchUnit, resultUnit};
 
 // Where unit k starts. A limit above 4,096 has no units: 0.
 fn unit_at(limit: usize, k: usize) -> usize
@@ -12,6 +12,13 @@ fn unit_at(limit: usize, k: usize) -> usize
         return 0;
     }
     k * limit
+}
+
+// Where the units of the line's cells start.
+pub fn line_at(limit: usize) -> usize
+    ensures { λ r. ⌜ (limit ≤ 4096 → r ≡ unitAt limit lineUnit) ⌝ }
+{
+    unit_at(limit, 24)
 }
 
 // Where the unit of a category's level starts; there are 36 levels.

@@ -21,6 +21,7 @@ pub use copies::load;
 pub use copies::move_cells;
 pub use copies::same_cells;
 pub use layout::level_at;
+pub use layout::line_at;
 pub use layout::result_at;
 pub use layout::scratch_at;
 pub use layout::side_at;

@@ -20,7 +20,7 @@ use Rattle.expressions.specs.Posts.{Ready, Refusing, ExpressionRead, Cou
 use Rattle.expressions.proofs.StoreLaws.{below-same, below-then}
 use Rattle.expressions.proofs.ReadLaws.{then-refused, then-passed, then-done, then-stop, then-give, read-is, comma-read, close-read, neither-read}
 use Rattle.expressions.proofs.WrittenLaws.{no-arguments-written, argument-written}
-use Rattle.expressions.proofs.ExpressionLaws.{onward-refused, symbol-read, symbol-missing, symbol-kinds, code-malformed}
+use Rattle.expressions.proofs.ExpressionLaws.{ready-on, onward-refused, symbol-read, symbol-missing, symbol-kinds, code-malformed}
 use Rattle.expressions.proofs.PairLaws.{goOn}
 
 -- `count` arguments were read from r on; what is read of the rest, from `at` on, is read of the whole
@@ -29,14 +29,14 @@ pub record ArgumentsSoFar (ks s : Bytes) (scope : Scope) (book tb : List ℕ) (l
   pub up : r .to ≤ to
   pub from : r .at ≤ at
   pub inside : at ≤ length s
-  pub fewer : to ≤ at
+  pub fewer : to ≤ length w₀ + at
   pub few : count ≤ at
-  pub left : (ls : Lines) → Ready ls ks book tb lines indicator scope → (n : ℕ) → length s - r .at < n
+  pub left : (ls : Lines) → Ready ls ks book tb lines indicator scope w₀ (r .to) → (n : ℕ) → length s - r .at < n
       → (m : ℕ) × (length s - at < m) × ((w′ : List ℕ) (r′ : Reading) → SameBelow to w w′
       → ReadTo s (Counted ls s indicator scope w w′ to fault count r′) (r′ .code) (r′ .at) (arguments (anExpression (32 - scope .depth)) m (drop at s))
       → ReadTo s (Counted ls s indicator scope w₀ w′ (r .to) (r .fault) 0 r′) (r′ .code) (r′ .at) (arguments (anExpression (32 - scope .depth)) n (drop (r .at) s)))
 
-pub arguments-start : {ks s : Bytes} {scope : Scope} {book tb : List ℕ} {lines indicator : ℕ} {w : List ℕ} {r : Reading} → r .to ≤ r .at → r .at ≤ length s
+pub arguments-start : {ks s : Bytes} {scope : Scope} {book tb : List ℕ} {lines indicator : ℕ} {w : List ℕ} {r : Reading} → r .to ≤ length w + r .at → r .at ≤ length s
     → ArgumentsSoFar ks s scope book tb lines indicator w w r (r .at) (r .to) (r .fault) 0
 arguments-start {w = w} {r} f i =
     record {
@@ -62,13 +62,13 @@ module _ {ks s : Bytes} {scope : Scope} {book tb : List ℕ} {lines indicator : 
               up = omega (arith, h .up, A .onward .up);
               from = omega (arith, h .from, A .onward .from);
               inside = A .onward .inside;
-              fewer = A .onward .fewer;
+              fewer = omega (arith, A .onward .fewer, h .below .long);
             };
         read = λ ls ready k l.
             let (m, b, f) = h .left ls ready k l in
             let e : m ≡ suc (m - 1) = omega arith in
             f wA a (A .onward .below)
-            (read-is (ap (λ i. arguments (anExpression (32 - scope .depth)) i (drop at s)) e) (then-refused _ n (A .read ls ready)));
+            (read-is (ap (λ i. arguments (anExpression (32 - scope .depth)) i (drop at s)) e) (then-refused _ n (A .read ls (ready-on (h .below) (h .up) ready))));
       }
 
   module _ (z : a .code ≡ 0) {comma : ℕ} (p : PastSymbol ks s (a .at) 7 comma) where
@@ -81,7 +81,7 @@ module _ {ks s : Bytes} {scope : Scope} {book tb : List ℕ} {lines indicator : 
           up = omega (arith, h .up, A .onward .up);
           from = omega (arith, h .from, A .onward .from);
           inside = i;
-          fewer = omega (arith, A .onward .fewer);
+          fewer = omega (arith, A .onward .fewer, h .below .long);
           few = omega (arith, h .few, A .onward .from);
           left = λ ls ready k l.
               let (m, b, f) = h .left ls ready k l in
@@ -91,7 +91,7 @@ module _ {ks s : Bytes} {scope : Scope} {book tb : List ℕ} {lines indicator : 
                 λ w′ r′ below rest.
                     f w′ r′ (below-then (A .onward .below) (A .onward .up) below)
                     (read-is (ap (λ i. arguments (anExpression (32 - scope .depth)) i (drop at s)) e)
-                    (then-passed _ z (A .read ls ready) (λ x X.
+                    (then-passed _ z (A .read ls (ready-on (h .below) (h .up) ready)) (λ x X.
                     then-done _ (comma-read (drop (a .at) s) (symbol-read 44 p (symbol-kinds .2) (omega arith) i (ready .table)))
                     (then-give (cons x) rest (λ xs Y.
                     record {
@@ -107,14 +107,14 @@ module _ {ks s : Bytes} {scope : Scope} {book tb : List ℕ} {lines indicator : 
       arguments-unclosed {r′} v g =
           record {
             onward =
-                onward-refused (below-then (h .below) (h .up) (A .onward .below)) g (omega (arith, h .up, A .onward .up)) (A .onward .fewer)
+                onward-refused (below-then (h .below) (h .up) (A .onward .below)) g (omega (arith, h .up, A .onward .up)) (omega (arith, A .onward .fewer, h .below .long))
                 (omega (arith, h .from, A .onward .from)) (A .onward .inside);
             read = λ ls ready k l.
                 let (m, b, f) = h .left ls ready k l in
                 let e : m ≡ suc (m - 1) = omega arith in
                 f wA r′ (A .onward .below)
                 (read-is (ap (λ i. arguments (anExpression (32 - scope .depth)) i (drop at s)) e)
-                (then-passed _ z (A .read ls ready) (λ x X.
+                (then-passed _ z (A .read ls (ready-on (h .below) (h .up) ready)) (λ x X.
                 then-stop _
                 (neither-read (drop (a .at) s) (symbol-missing 44 p (symbol-kinds .2) (omega arith) u (ready .table))
                 (symbol-missing 41 q (symbol-kinds .4) (omega arith) v (ready .table)))
@@ -133,14 +133,14 @@ module _ {ks s : Bytes} {scope : Scope} {book tb : List ℕ} {lines indicator : 
                   up = omega (arith, h .up, A .onward .up);
                   from = omega (arith, h .from, A .onward .from);
                   inside = v;
-                  fewer = omega (arith, A .onward .fewer);
+                  fewer = omega (arith, A .onward .fewer, h .below .long);
                 };
             read = λ ls ready k l.
                 let (m, b, f) = h .left ls ready k l in
                 let e : m ≡ suc (m - 1) = omega arith in
                 f wA (record { code = 0; at = close; to = a .to; fault = a .fault; count = count + 1 }) (A .onward .below)
                 (read-is (ap (λ i. arguments (anExpression (32 - scope .depth)) i (drop at s)) e)
-                (then-passed _ z (A .read ls ready) (λ x X.
+                (then-passed _ z (A .read ls (ready-on (h .below) (h .up) ready)) (λ x X.
                 then-done _
                 (close-read (drop (a .at) s) (symbol-missing 44 p (symbol-kinds .2) (omega arith) u (ready .table))
                 (symbol-read 41 q (symbol-kinds .4) (omega arith) v (ready .table)))

@@ -19,12 +19,28 @@ use Rattle.symbols.specs.Symbols.{firstKind, PastSpaces, KindAt, PastSymbol}
 use Rattle.cells.specs.declared.scope.Scope.{Scope}
 use Rattle.cells.specs.Posts.{Bound}
 use Rattle.names.specs.Known.{partOf, bindingOnto, boundNames}
+use Rattle.names.specs.Hints.{slots}
+use Rattle.names.specs.HintLaws.{hinted-same}
 use Rattle.names.proofs.PartLaws.{part-whole, onto-none, onto-one, bound-names}
 use Rattle.expressions.specs.declared.parts.Reading.{Reading}
 use Rattle.expressions.specs.Walk.{ReadTo, SameBelow, Written}
 use Rattle.expressions.specs.Posts.{Sized, Ready, Refusing, Onward, WrittenOne, ExpressionRead}
 use Rattle.expressions.proofs.StoreLaws.{below-same}
 use Rattle.expressions.proofs.ReadLaws.{read-is, read-stop, choose-application, choose-abstraction, choose-named, too-deep, opens-nothing}
+
+-- ---- names are looked up further on, where nothing is written below
+
+pub ready-on : {ls : Lines} {ks book tb : List ℕ} {lines indicator : ℕ} {scope : Scope} {w w′ : List ℕ} {to to′ : ℕ} → SameBelow to w w′ → to ≤ to′
+    → Ready ls ks book tb lines indicator scope w to → Ready ls ks book tb lines indicator scope w′ to′
+ready-on {to = to} s l h =
+    record {
+      table = h .table;
+      known = h .known;
+      hinted = hinted-same to (h .below) (s .long) (s .is) (h .hinted);
+      below = omega (arith, h .below, ap slots (s .long));
+      earlier = h .earlier;
+      sized = h .sized;
+    }
 
 -- ---- one level deeper
 
@@ -36,15 +52,17 @@ sized-inner {scope} {inner} {start} {len} b l z =
       deep = omega (arith, b .deeper l);
     }
 
-module _ {ls : Lines} {ks book tb : List ℕ} {lines indicator : ℕ} {scope inner : Scope} {start len : ℕ} (b : Bound scope start len inner) (l : scope .depth < 32) where
-  pub ready-inner : Ready ls ks book tb lines indicator scope → Ready ls ks book tb lines indicator inner
-  ready-inner h = record { table = h .table; known = h .known; earlier = h .earlier; sized = sized-inner b l (h .sized) }
+module _ {ls : Lines} {ks book tb : List ℕ} {lines indicator : ℕ} {scope inner : Scope} {start len : ℕ} {w : List ℕ} {to : ℕ}
+    (b : Bound scope start len inner) (l : scope .depth < 32) where
+  pub ready-inner : Ready ls ks book tb lines indicator scope w to → Ready ls ks book tb lines indicator inner w to
+  ready-inner h =
+      record { table = h .table; known = h .known; hinted = h .hinted; below = h .below; earlier = h .earlier; sized = sized-inner b l (h .sized) }
 
 module _ {ks s book tb : List ℕ} {lines indicator : ℕ} {scope inner : Scope} {start len : ℕ} {w w′ : List ℕ} {r r′ : Reading}
     (b : Bound scope start len inner) (l : scope .depth < 32)
     (h : ExpressionRead (anExpression (32 - inner .depth)) ks s inner book tb lines indicator w w′ r r′) where
   -- the part one level deeper, under the names that are bound there
-  deeper-read : (ls : Lines) → Ready ls ks book tb lines indicator scope → (bs : List Bytes) → bindingOnto len (partOf s start len) (boundNames s scope) ≡ bs
+  deeper-read : (ls : Lines) → Ready ls ks book tb lines indicator scope w (r .to) → (bs : List Bytes) → bindingOnto len (partOf s start len) (boundNames s scope) ≡ bs
       → ReadTo s (Written cellsOfSrc cells (resolve ls (contextAt ls indicator) bs) w w′ (r .to) (r′ .to) (r .fault) (r′ .fault)) (r′ .code) (r′ .at)
       (anExpression (31 - scope .depth) (drop (r .at) s))
   deeper-read ls ready bs e =
@@ -56,12 +74,12 @@ module _ {ks s book tb : List ℕ} {lines indicator : ℕ} {scope inner : Scope}
       (h .read ls (ready-inner b l ready)))
 
   -- a level that binds nothing
-  pub level-read : len ≡ 0 → (ls : Lines) → Ready ls ks book tb lines indicator scope
+  pub level-read : len ≡ 0 → (ls : Lines) → Ready ls ks book tb lines indicator scope w (r .to)
       → ReadTo s (WrittenOne ls s indicator scope w w′ (r .to) (r′ .to) (r .fault) (r′ .fault)) (r′ .code) (r′ .at) (anExpression (31 - scope .depth) (drop (r .at) s))
   level-read z ls ready = deeper-read ls ready (boundNames s scope) (onto-none len _ _ z)
 
   -- a level that binds a name of the line
-  pub body-read : len ≢ 0 → start + len ≤ length s → (ls : Lines) → Ready ls ks book tb lines indicator scope
+  pub body-read : len ≢ 0 → start + len ≤ length s → (ls : Lines) → Ready ls ks book tb lines indicator scope w (r .to)
       → ReadTo s (Written cellsOfSrc cells (resolve ls (contextAt ls indicator) (slice start (start + len) s ∷ boundNames s scope)) w w′ (r .to) (r′ .to) (r .fault) (r′ .fault)) (r′ .code) (r′ .at)
       (anExpression (31 - scope .depth) (drop (r .at) s))
   body-read n e ls ready =
@@ -91,7 +109,7 @@ code-tooLarge = refl
 
 -- ---- refusals
 
-pub onward-refused : {s : Bytes} {w w′ : List ℕ} {r r′ : Reading} {code at to : ℕ} → SameBelow (r .to) w w′ → Refusing code at to r′ → r .to ≤ to → to ≤ at → r .at ≤ at → at ≤ length s → Onward s w w′ r r′
+pub onward-refused : {s : Bytes} {w w′ : List ℕ} {r r′ : Reading} {code at to : ℕ} → SameBelow (r .to) w w′ → Refusing code at to r′ → r .to ≤ to → to ≤ length w + at → r .at ≤ at → at ≤ length s → Onward s w w′ r r′
 onward-refused b h u f l m =
     record { below = b; up = omega (arith, h .toIs); from = omega (arith, h .atIs); inside = omega (arith, h .atIs); fewer = omega (arith, h .toIs, h .atIs) }
 
@@ -107,7 +125,7 @@ some-level : (d : ℕ) → d < 32 → 32 - d ≡ suc (31 - d)
 some-level d l = omega arith
 
 module _ {ks s book tb : List ℕ} {lines indicator : ℕ} {scope : Scope} {w : List ℕ} {r r′ : Reading} {at k : ℕ}
-    (p : PastSpaces s (r .at) at) (q : KindAt ks s at k) (fewer : r .to ≤ r .at) (inside : r .at ≤ length s) where
+    (p : PastSpaces s (r .at) at) (q : KindAt ks s at k) (fewer : r .to ≤ length w + r .at) (inside : r .at ≤ length s) where
   module _ (deep : 32 ≤ scope .depth) where
     pub expression-too-deep : {t : Bool} → t ≡ opensKind k → t ≡ true → Refusing 10 at (r .to) r′
         → ExpressionRead (anExpression (32 - scope .depth)) ks s scope book tb lines indicator w w r r′

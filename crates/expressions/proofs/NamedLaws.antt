@@ -25,7 +25,7 @@ use Rattle.expressions.specs.Posts.{Ready, Refusing, ExpressionRead, Cou
 use Rattle.expressions.proofs.StoreLaws.{below-same, below-then, below-put}
 use Rattle.expressions.proofs.ReadLaws.{then-done, then-stop, then-give-on, then-map, read-is, no-arguments, some-arguments}
 use Rattle.expressions.proofs.WrittenLaws.{no-arguments-written, name-written}
-use Rattle.expressions.proofs.ExpressionLaws.{ready-inner, onward-refused, symbol-read, symbol-missing, symbol-kinds, code-malformed}
+use Rattle.expressions.proofs.ExpressionLaws.{ready-on, ready-inner, onward-refused, symbol-read, symbol-missing, symbol-kinds, code-malformed}
 use Rattle.expressions.proofs.PairLaws.{goOn}
 
 -- ---- a name's cell
@@ -45,20 +45,20 @@ module _ {s : Bytes} {scope : Scope} {book tb : List ℕ} {lines indicator : ℕ
       }
 
   pub put-meaning : {w′ word : List ℕ} {m : Meaning} → fault ≡ 0 → CellPut w w′ to (m .cell) → word ≡ slice start (start + len) s → start + len ≤ length s
-      → MeaningFound s scope book tb lines indicator word (m .fault) (m .cell) (m .wanted) → NamePut s scope book tb lines indicator w w′ to fault start len m
+      → MeaningFound s scope book tb lines indicator w word (m .fault) (m .cell) (m .wanted) → NamePut s scope book tb lines indicator w w′ to fault start len m
   put-meaning {m = m} z put e l h =
       record {
         below = below-put put;
         kept = λ n. absurd (n z);
         stored = λ z m. put;
-        meant = λ z r p q ls k i d.
+        meant = λ z r p q ls k hinted i d.
             subst (λ x. Meant ls (contextAt ls indicator) (m .fault) (m .cell) (m .wanted) (meaning ls (contextAt ls indicator) x (boundNames s scope))) e
-            (h .is ls k i d (omega (arith, ap length e, length-slice start (start + len) s l)));
+            (h .is ls k hinted i d (omega (arith, ap length e, length-slice start (start + len) s l)));
       }
 
 -- the argument string one level deeper, with the names that are bound around it
 level-arguments : {ks s book tb : List ℕ} {lines indicator : ℕ} {scope inner : Scope} {w w′ : List ℕ} {r r′ : Reading} → Bound scope 0 0 inner → scope .depth < 32
-    → ArgumentsRead ks s inner book tb lines indicator w w′ r r′ → (ls : Lines) → Ready ls ks book tb lines indicator scope → (n : ℕ) → length s - r .at < n
+    → ArgumentsRead ks s inner book tb lines indicator w w′ r r′ → (ls : Lines) → Ready ls ks book tb lines indicator scope w (r .to) → (n : ℕ) → length s - r .at < n
     → ReadTo s (Counted ls s indicator scope w w′ (r .to) (r .fault) 0 r′) (r′ .code) (r′ .at) (arguments (anExpression (31 - scope .depth)) n (drop (r .at) s))
 level-arguments {s = s} {indicator = indicator} {scope} {inner} {w} {w′} {r} {r′} b l h ls ready n m =
     let names : boundNames s inner ≡ boundNames s scope = bound-names s b l (ready .sized .starts) (ready .sized .lens) ∙ onto-none 0 _ _ refl in
@@ -71,7 +71,7 @@ level-arguments {s = s} {indicator = indicator} {scope} {inner} {w} {w′} {r} {
     }))
 
 module _ {ks s book tb : List ℕ} {lines indicator : ℕ} {scope : Scope} {w : List ℕ} {r : Reading} {start len : ℕ}
-    (fewer : r .to ≤ r .at) (inside : r .at ≤ length s) (l : scope .depth < 32) (n : NameAt ks s (r .at) start len) where
+    (fewer : r .to ≤ length w + r .at) (inside : r .at ≤ length s) (l : scope .depth < 32) (n : NameAt ks s (r .at) start len) where
   pub named-unnamed : {r′ : Reading} → len ≡ 0 → Refusing 3 (r .at) (r .to) r′
       → ExpressionRead (named (anExpression (31 - scope .depth))) ks s scope book tb lines indicator w w r r′
   unfolding named
@@ -100,7 +100,7 @@ module _ {ks s book tb : List ℕ} {lines indicator : ℕ} {scope : Scope} {w : 
               then-done _ (n .read (ready .table) inside e)
               (then-done _ (no-arguments (anExpression (31 - scope .depth)) (drop (start + len) s) (symbol-missing 40 p (symbol-kinds .3) (omega arith) i (ready .table)))
               (passed (h .code) (ap (λ i. drop i s) (h .at))
-              (name-written ls put (ready .known) (ready .earlier) (ready .sized .deep) (omega arith) (n .within inside) (below-same (r .to + 1) w₁) nil h refl refl
+              (name-written ls put (ready .known) (ready .hinted) (ready .earlier) (ready .sized .deep) (omega arith) (n .within inside) (below-same (r .to + 1) w₁) nil h refl refl
               (no-arguments-written ls (contextAt ls indicator) (boundNames s scope) w₁ (r .to + 1) (m .fault)))));
         }
 
@@ -117,14 +117,14 @@ module _ {ks s book tb : List ℕ} {lines indicator : ℕ} {scope : Scope} {w : 
                 up = omega (arith, h .to, A .onward .up);
                 from = omega (arith, h .at, n .from, A .onward .from, from);
                 inside = omega (arith, h .at, A .onward .inside);
-                fewer = omega (arith, h .at, h .to, A .onward .fewer);
+                fewer = omega (arith, h .at, h .to, A .onward .fewer, put .below .long);
               };
           read = λ ls ready.
               then-done _ (n .read (ready .table) inside e)
               (then-give-on (name (slice start (start + len) s)) (h .code) (h .at)
               (read-is (some-arguments (anExpression (31 - scope .depth)) (drop (start + len) s) (symbol-read 40 p (symbol-kinds .3) (omega arith) i (ready .table)))
-              (level-arguments b l A ls ready (length (drop (start + len) s)) (omega (arith, length-drop (start + len) s, from))))
+              (level-arguments b l A ls (ready-on (put .below) (omega arith) ready) (length (drop (start + len) s)) (omega (arith, length-drop (start + len) s, from))))
               (λ xs z X.
-              name-written ls put (ready .known) (ready .earlier) (ready .sized .deep) (omega arith) (n .within inside) (A .onward .below) xs h z
+              name-written ls put (ready .known) (ready .hinted) (ready .earlier) (ready .sized .deep) (omega arith) (n .within inside) (A .onward .below) xs h z
               (X .number ∙ omega arith) (X .written)));
         }

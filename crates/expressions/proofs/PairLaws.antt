@@ -8,6 +8,7 @@ use lib.ListN.{length}
 use lib.Seq.{slice}
 use Rattle.aut68.specs.Bytes.{Bytes}
 use Rattle.aut68.specs.Source as Source
+use Rattle.aut68.specs.Lines.{Lines}
 use Rattle.aut68.specs.Procedure.Parse.{application, abstraction, anExpression}
 use Rattle.aut68.specs.Procedure.Resolve.{contextAt}
 use Rattle.symbols.specs.Symbols.{PastSymbol, NameAt}
@@ -16,11 +17,11 @@ use Rattle.cells.specs.Posts.{Bound}
 use Rattle.names.specs.Known.{boundNames}
 use Rattle.expressions.specs.declared.parts.Reading.{Reading}
 use Rattle.expressions.specs.Walk.{CellPut}
-use Rattle.expressions.specs.Posts.{Refusing, Onward, ExpressionRead}
+use Rattle.expressions.specs.Posts.{Ready, Refusing, Onward, ExpressionRead}
 use Rattle.expressions.proofs.StoreLaws.{below-same, below-then, below-put}
 use Rattle.expressions.proofs.ReadLaws.{then-refused, then-passed, then-done, then-stop, then-give}
 use Rattle.expressions.proofs.WrittenLaws.{application-written, abstraction-written}
-use Rattle.expressions.proofs.ExpressionLaws.{level-read, body-read, onward-refused, symbol-read, symbol-missing, symbol-kinds, code-malformed}
+use Rattle.expressions.proofs.ExpressionLaws.{ready-on, level-read, body-read, onward-refused, symbol-read, symbol-missing, symbol-kinds, code-malformed}
 
 -- where a walk goes on
 abbrev pub goOn : ℕ → ℕ → ℕ → Reading
@@ -29,14 +30,35 @@ goOn at to fault = record { code = 0; at = at; to = to; fault = fault; count = 0
 -- the steps of a walk, one after the other
 pub onward-then : {s : Bytes} {w w₁ w₂ : List ℕ} {r r₁ r₂ r₃ : Reading} → Onward s w w₁ r r₁ → r₁ .at ≤ r₂ .at → r .to ≤ r₂ .to → Onward s w₁ w₂ r₂ r₃ → Onward s w w₂ r r₃
 onward-then h l m k =
-    record { below = below-then (h .below) m (k .below); up = omega (arith, k .up); from = omega (arith, h .from, k .from); inside = k .inside; fewer = k .fewer }
+    record {
+      below = below-then (h .below) m (k .below);
+      up = omega (arith, k .up);
+      from = omega (arith, h .from, k .from);
+      inside = k .inside;
+      fewer = omega (arith, k .fewer, h .below .long);
+    }
 
 pub onward-put : {s : Bytes} {w w₁ w₂ : List ℕ} {r r₂ r₃ : Reading} {x : ℕ} → CellPut w w₁ (r .to) x → r .at ≤ r₂ .at → r .to ≤ r₂ .to → Onward s w₁ w₂ r₂ r₃ → Onward s w w₂ r r₃
 onward-put put l m k =
-    record { below = below-then (below-put put) m (k .below); up = omega (arith, k .up); from = omega (arith, k .from); inside = k .inside; fewer = k .fewer }
+    record {
+      below = below-then (below-put put) m (k .below);
+      up = omega (arith, k .up);
+      from = omega (arith, k .from);
+      inside = k .inside;
+      fewer = omega (arith, k .fewer, below-put put .long);
+    }
+
+-- names are looked up behind the cell of a pair, and behind its first part
+module _ {ls : Lines} {ks book tb : List ℕ} {lines indicator : ℕ} {scope : Scope} {w w₁ : List ℕ} {to x : ℕ} (put : CellPut w w₁ to x) where
+  ready-first : Ready ls ks book tb lines indicator scope w to → Ready ls ks book tb lines indicator scope w₁ (to + 1)
+  ready-first h = ready-on (below-put put) (omega arith) h
+
+  ready-second : {s : Bytes} {wA : List ℕ} {o fault : ℕ} {a : Reading} → Onward s w₁ wA (goOn o (to + 1) fault) a
+      → Ready ls ks book tb lines indicator scope w to → Ready ls ks book tb lines indicator scope wA (a .to)
+  ready-second A h = ready-on (A .below) (A .up) (ready-first h)
 
 module _ {ks s book tb : List ℕ} {lines indicator : ℕ} {scope : Scope} {w : List ℕ} {r : Reading} {o : ℕ}
-    (fewer : r .to ≤ r .at) (inside : r .at ≤ length s) (l : scope .depth < 32) where
+    (fewer : r .to ≤ length w + r .at) (inside : r .at ≤ length s) (l : scope .depth < 32) where
   module _ (p : PastSymbol ks s (r .at) 2 o) where
     pub application-unopened : {r′ : Reading} → length s < o → Refusing 3 (r .at) (r .to) r′
         → ExpressionRead (application (anExpression (31 - scope .depth))) ks s scope book tb lines indicator w w r r′
@@ -55,7 +77,7 @@ module _ {ks s book tb : List ℕ} {lines indicator : ℕ} {scope : Scope} {w : 
           record {
             onward = onward-put put (omega (arith, p .from inside)) (omega arith) (A .onward);
             read = λ ls ready.
-                then-done _ (symbol-read 60 p (symbol-kinds .0) (omega arith) i (ready .table)) (then-refused _ n (level-read b l A refl ls ready));
+                then-done _ (symbol-read 60 p (symbol-kinds .0) (omega arith) i (ready .table)) (then-refused _ n (level-read b l A refl ls (ready-first put ready)));
           }
 
       module _ (z : a .code ≡ 0) {close : ℕ} (q : PastSymbol ks s (a .at) 10 close) where
@@ -69,7 +91,7 @@ module _ {ks s book tb : List ℕ} {lines indicator : ℕ} {scope : Scope} {w : 
                   (omega (arith, p .from inside, A .onward .from)) (omega (arith, p .from inside, A .onward .from)) (A .onward .inside);
               read = λ ls ready.
                   then-done _ (symbol-read 60 p (symbol-kinds .0) (omega arith) i (ready .table))
-                  (then-passed _ z (level-read b l A refl ls ready) (λ x X.
+                  (then-passed _ z (level-read b l A refl ls (ready-first put ready)) (λ x X.
                   then-stop _ (symbol-missing 62 q (symbol-kinds .5) (omega arith) m (ready .table)) (h .codeIs ∙ sym code-malformed)));
             }
 
@@ -84,9 +106,9 @@ module _ {ks s book tb : List ℕ} {lines indicator : ℕ} {scope : Scope} {w : 
                   (omega (arith, A .onward .up)) (B .onward);
               read = λ ls ready.
                   then-done _ (symbol-read 60 p (symbol-kinds .0) (omega arith) i (ready .table))
-                  (then-passed _ z (level-read b l A refl ls ready) (λ x X.
+                  (then-passed _ z (level-read b l A refl ls (ready-first put ready)) (λ x X.
                   then-done _ (symbol-read 62 q (symbol-kinds .5) (omega arith) c (ready .table))
-                  (then-give (Source.app x) (level-read b l B refl ls ready) (λ y Y.
+                  (then-give (Source.app x) (level-read b l B refl ls (ready-second put (A .onward) ready)) (λ y Y.
                   application-written ls (contextAt ls indicator) (boundNames s scope) put (A .onward .below) (omega (arith, A .onward .up)) (B .onward .below) X Y))));
             }
 
@@ -136,7 +158,7 @@ module _ {ks s book tb : List ℕ} {lines indicator : ℕ} {scope : Scope} {w : 
                     then-done _ (symbol-read 91 p (symbol-kinds .1) (omega arith) i (ready .table))
                     (then-done _ (n .read (ready .table) i e)
                     (then-done _ (symbol-read 44 k (symbol-kinds .2) (omega arith) j (ready .table))
-                    (then-refused _ x (level-read b l A refl ls ready))));
+                    (then-refused _ x (level-read b l A refl ls (ready-first put ready)))));
               }
 
           module _ (z : a .code ≡ 0) {close : ℕ} (q : PastSymbol ks s (a .at) 11 close) where
@@ -153,7 +175,7 @@ module _ {ks s book tb : List ℕ} {lines indicator : ℕ} {scope : Scope} {w : 
                       then-done _ (symbol-read 91 p (symbol-kinds .1) (omega arith) i (ready .table))
                       (then-done _ (n .read (ready .table) i e)
                       (then-done _ (symbol-read 44 k (symbol-kinds .2) (omega arith) j (ready .table))
-                      (then-passed _ z (level-read b l A refl ls ready) (λ x X.
+                      (then-passed _ z (level-read b l A refl ls (ready-first put ready)) (λ x X.
                       then-stop _ (symbol-missing 93 q (symbol-kinds .6) (omega arith) m (ready .table)) (h .codeIs ∙ sym code-malformed)))));
                 }
 
@@ -170,9 +192,9 @@ module _ {ks s book tb : List ℕ} {lines indicator : ℕ} {scope : Scope} {w : 
                       then-done _ (symbol-read 91 p (symbol-kinds .1) (omega arith) i (ready .table))
                       (then-done _ (n .read (ready .table) i e)
                       (then-done _ (symbol-read 44 k (symbol-kinds .2) (omega arith) j (ready .table))
-                      (then-passed _ z (level-read b l A refl ls ready) (λ x X.
+                      (then-passed _ z (level-read b l A refl ls (ready-first put ready)) (λ x X.
                       then-done _ (symbol-read 93 q (symbol-kinds .6) (omega arith) c (ready .table))
-                      (then-give (Source.abs (slice start (start + len) s) x) (body-read b′ l B e (n .within i) ls ready) (λ y Y.
+                      (then-give (Source.abs (slice start (start + len) s) x) (body-read b′ l B e (n .within i) ls (ready-second put (A .onward) ready)) (λ y Y.
                       abstraction-written ls (contextAt ls indicator) (boundNames s scope) put (A .onward .below) (omega (arith, A .onward .up))
                       (B .onward .below) X Y))))));
                 }

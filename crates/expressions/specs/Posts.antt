@@ -14,6 +14,7 @@ use Rattle.aut68.specs.Procedure.Resolve.{resolve, resolves, meaning, contextAt
 use Rattle.kinds.specs.Kinds.{KindsTable}
 use Rattle.cells.specs.declared.scope.Scope.{Scope}
 use Rattle.names.specs.Known.{Known, boundNames}
+use Rattle.names.specs.Hints.{slots, Hinted}
 use Rattle.names.specs.Posts.{Meant}
 use Rattle.names.specs.declared.names.Meaning.{Meaning}
 use Rattle.expressions.specs.declared.parts.Reading.{Reading}
@@ -25,10 +26,13 @@ pub record Sized (scope : Scope) : Type 0 where
   pub lens : length (scope .lens) ≡ 32
   pub deep : scope .depth ≤ 32
 
--- what the names are looked up in: the table of kinds, the earlier lines, the line's indicator, the bindings around
-pub record Ready (ls : Lines) (ks book tb : List ℕ) (lines indicator : ℕ) (scope : Scope) : Type 0 where
+-- what the names are looked up in: the table of kinds, the earlier lines, their hints, which lie below the cell `to`, the line's
+-- indicator, the bindings around
+pub record Ready (ls : Lines) (ks book tb : List ℕ) (lines indicator : ℕ) (scope : Scope) (w : List ℕ) (to : ℕ) : Type 0 where
   pub table : KindsTable ks
   pub known : Known ls book tb lines
+  pub hinted : Hinted book tb lines w
+  pub below : slots (length w) + 32 ≤ to
   pub earlier : indicator ≤ lines
   pub sized : Sized scope
 
@@ -38,14 +42,14 @@ pub record Refusing (code at to : ℕ) (r : Reading) : Type 0 where
   pub atIs : r .at ≡ at
   pub toIs : r .to ≡ to
 
--- Whatever was read: nothing is written below the first cell, the walk goes on from there, inside the line, and it has no more
--- cells than bytes.
+-- Whatever was read: nothing is written below the first cell, the walk goes on from there, inside the line, and it counts no more
+-- cells than the store has and bytes were read.
 pub record Onward (s : Bytes) (w w′ : List ℕ) (r r′ : Reading) : Type 0 where
   pub below : SameBelow (r .to) w w′
   pub up : r .to ≤ r′ .to
   pub from : r .at ≤ r′ .at
   pub inside : r′ .at ≤ length s
-  pub fewer : r′ .to ≤ r′ .at
+  pub fewer : r′ .to ≤ length w + r′ .at
 
 module _ (ls : Lines) (s : Bytes) (indicator : ℕ) (scope : Scope) (w w′ : List ℕ) (to end fault fault′ : ℕ) where
   -- the cells of an expression, and of an argument string
@@ -58,7 +62,7 @@ module _ (ls : Lines) (s : Bytes) (indicator : ℕ) (scope : Scope) (w w′ : Li
 -- the reader m read an expression from r on, and came to r′
 pub record ExpressionRead (m : Read Src) (ks s : Bytes) (scope : Scope) (book tb : List ℕ) (lines indicator : ℕ) (w w′ : List ℕ) (r r′ : Reading) : Type 0 where
   pub onward : Onward s w w′ r r′
-  pub read : (ls : Lines) → Ready ls ks book tb lines indicator scope
+  pub read : (ls : Lines) → Ready ls ks book tb lines indicator scope w (r .to)
       → ReadTo s (WrittenOne ls s indicator scope w w′ (r .to) (r′ .to) (r .fault) (r′ .fault)) (r′ .code) (r′ .at) (m (drop (r .at) s))
 
 -- the arguments xs, counted from `count` on, with their cells
@@ -69,7 +73,7 @@ pub record Counted (ls : Lines) (s : Bytes) (indicator : ℕ) (scope : Scope) (w
 -- the argument string behind `(` was read from r on, up to its `)`; n bounds how many arguments there can be
 pub record ArgumentsRead (ks s : Bytes) (scope : Scope) (book tb : List ℕ) (lines indicator : ℕ) (w w′ : List ℕ) (r r′ : Reading) : Type 0 where
   pub onward : Onward s w w′ r r′
-  pub read : (ls : Lines) → Ready ls ks book tb lines indicator scope → (n : ℕ) → length s - r .at < n
+  pub read : (ls : Lines) → Ready ls ks book tb lines indicator scope w (r .to) → (n : ℕ) → length s - r .at < n
       → ReadTo s (Counted ls s indicator scope w w′ (r .to) (r .fault) 0 r′) (r′ .code) (r′ .at)
       (arguments (anExpression (32 - scope .depth)) n (drop (r .at) s))
 
@@ -79,7 +83,7 @@ pub record NamePut (s : Bytes) (scope : Scope) (book tb : List ℕ) (lines indic
   pub kept : fault ≢ 0 → m .fault ≡ fault
   pub stored : fault ≡ 0 → to < length w → CellPut w w′ to (m .cell)
   pub meant : fault ≡ 0 → to < length w → 1 ≤ len → start + len ≤ length s
-      → (ls : Lines) → Known ls book tb lines → indicator ≤ lines → scope .depth ≤ 32
+      → (ls : Lines) → Known ls book tb lines → Hinted book tb lines w → indicator ≤ lines → scope .depth ≤ 32
       → Meant ls (contextAt ls indicator) (m .fault) (m .cell) (m .wanted)
       (meaning ls (contextAt ls indicator) (slice start (start + len) s) (boundNames s scope))
 

@@ -11,7 +11,7 @@ use symbols::kind_at;
 use symbols::name_at;
 use symbols::spaces;
 use symbols::symbol;
-ghost use Prim.Native.Nat.{_-_, _≤_, _<_};
+ghost use Prim.Native.Nat.{_+_, _-_, _≤_, _<_};
 ghost use lib.ListN.{length};
 ghost use Rattle.aut68.specs.Procedure.Parse.{anExpression, named, application, abstraction};
 ghost use Rattle.expressions.specs.Posts.{ExpressionRead, ArgumentsRead};
@@ -29,7 +29,7 @@ pub fn expression(
     r: Reading,
     scope: Scope,
 ) -> Reading
-    requires { ⌜ (r .to ≤ r .at) × (r .at ≤ length (now line)) ⌝ }
+    requires { ⌜ (r .to ≤ length (now w) + r .at) × (r .at ≤ length (now line)) ⌝ }
     ensures { λ r′. ⌜ ExpressionRead (anExpression (32 - scope .depth)) (now (kinds .entry)) (now (line .entry)) scope (now (book .entry)) (now (table .entry)) lines indicator (now (w .entry)) (now (w .exit)) r r′ ⌝ }
 {
     let at = spaces(line, r.at);
@@ -59,7 +59,7 @@ fn named(
     r: Reading,
     scope: Scope,
 ) -> Reading
-    requires { ⌜ (r .to ≤ r .at) × (r .at ≤ length (now line)) × (scope .depth < 32) ⌝ }
+    requires { ⌜ (r .to ≤ length (now w) + r .at) × (r .at ≤ length (now line)) × (scope .depth < 32) ⌝ }
     ensures { λ r′. ⌜ ExpressionRead (named (anExpression (31 - scope .depth))) (now (kinds .entry)) (now (line .entry)) scope (now (book .entry)) (now (table .entry)) lines indicator (now (w .entry)) (now (w .exit)) r r′ ⌝ }
 {
     let n = name_at(line, kinds, r.at);
@@ -120,7 +120,7 @@ fn arguments(
     r: Reading,
     inner: Scope,
 ) -> Reading
-    requires { ⌜ (r .to ≤ r .at) × (r .at ≤ length (now line)) ⌝ }
+    requires { ⌜ (r .to ≤ length (now w) + r .at) × (r .at ≤ length (now line)) ⌝ }
     ensures { λ r′. ⌜ ArgumentsRead (now (kinds .entry)) (now (line .entry)) inner (now (book .entry)) (now (table .entry)) lines indicator (now (w .entry)) (now (w .exit)) r r′ ⌝ }
 {
     let mut at = r.at;
@@ -173,7 +173,7 @@ fn application(
     r: Reading,
     scope: Scope,
 ) -> Reading
-    requires { ⌜ (r .to ≤ r .at) × (r .at ≤ length (now line)) × (scope .depth < 32) ⌝ }
+    requires { ⌜ (r .to ≤ length (now w) + r .at) × (r .at ≤ length (now line)) × (scope .depth < 32) ⌝ }
     ensures { λ r′. ⌜ ExpressionRead (application (anExpression (31 - scope .depth))) (now (kinds .entry)) (now (line .entry)) scope (now (book .entry)) (now (table .entry)) lines indicator (now (w .entry)) (now (w .exit)) r r′ ⌝ }
 {
     let open = symbol(line, kinds, r.at, kinds::LESS);
@@ -219,7 +219,7 @@ fn abstraction(
     r: Reading,
     scope: Scope,
 ) -> Reading
-    requires { ⌜ (r .to ≤ r .at) × (r .at ≤ length (now line)) × (scope .depth < 32) ⌝ }
+    requires { ⌜ (r .to ≤ length (now w) + r .at) × (r .at ≤ length (now line)) × (scope .depth < 32) ⌝ }
     ensures { λ r′. ⌜ ExpressionRead (abstraction (anExpression (31 - scope .depth))) (now (kinds .entry)) (now (line .entry)) scope (now (book .entry)) (now (table .entry)) lines indicator (now (w .entry)) (now (w .exit)) r r′ ⌝ }
 {
     let open = symbol(line, kinds, r.at, kinds::BRACKET);

@@ -14,7 +14,7 @@ use Rattle.aut68.specs.Rules.Names.{IsLine, first, later}
 use Rattle.cells.specs.Cells.{rowCell}
 use Rattle.cells.specs.RowLaws.{row-cell-is}
 use Rattle.names.specs.Known.{Known, partOf}
-use Rattle.names.specs.Posts.{numberOr, LineFound}
+use Rattle.names.specs.Posts.{numberOr, LineSought}
 use Rattle.names.proofs.PartLaws.{part-whole}
 
 pub line-at : (ls : Lines) (v : ℕ) → v < length ls → IsLine ls (suc v) (getD ls v noLine)
@@ -72,7 +72,7 @@ module _ {book tb : List ℕ} {lines v at : ℕ} {word : Bytes} (h : FindSoFar b
     wholeRow = omega (arith, k .rows .row (line-at ls v inList) .whole, h .row)
 
   -- a table that ends too soon is not that of the lines
-  pub find-short : v < lines → length tb - at < 8 → LineFound book tb lines word 0
+  pub find-short : v < lines → length tb - at < 8 → LineSought book tb lines word 0
   find-short l z =
       record {
         within = omega arith;
@@ -80,7 +80,7 @@ module _ {book tb : List ℕ} {lines v at : ℕ} {word : Bytes} (h : FindSoFar b
       }
 
   module _ (l : v < lines) {first len : ℕ} (ef : first ≡ getD tb at 0) (el : len ≡ getD tb (at + 1) 0) where
-    pub find-here : (1 ≤ length word → sameBytes word (partOf book first len) ≡ true) → LineFound book tb lines word (v + 1)
+    pub find-here : (1 ≤ length word → sameBytes word (partOf book first len) ≡ true) → LineSought book tb lines word (v + 1)
     unfolding numberOr
     find-here e =
         record {
@@ -106,7 +106,7 @@ module _ {book tb : List ℕ} {lines v at : ℕ} {word : Bytes} (h : FindSoFar b
               ∙ ap (λ m. numberFrom (suc m) word (drop m ls)) (sym (add-one v));
         }
 
-  pub find-nothing : lines ≤ v → LineFound book tb lines word 0
+  pub find-nothing : lines ≤ v → LineSought book tb lines word 0
   unfolding numberOr numberFrom
   find-nothing l =
       record {

@@ -1,5 +1,7 @@
 -- Laws that the proofs of this crate share.
 pub mod PartLaws
+pub mod HashLaws
 pub mod FindLaws
 pub mod ContextLaws
+pub mod ProbeLaws
 pub mod MeaningLaws

@@ -10,6 +10,7 @@ use lib.Seq.{slice}
 use Rattle.aut68.specs.Bytes.{Bytes}
 use Rattle.aut68.specs.Lines.{Line, Lines}
 use Rattle.aut68.specs.Rules.Names.{IsLine, Context}
+use Rattle.lookup.specs.Identifiers.{DistinctNames}
 use Rattle.cells.specs.Cells.{rowCell}
 use Rattle.cells.specs.Rows.{Rows, Named}
 use Rattle.cells.specs.declared.scope.Scope.{Scope}
@@ -21,6 +22,7 @@ pub record Known (ls : Lines) (book tb : List ℕ) (lines : ℕ) : Type 0 where
   pub count : length ls ≡ lines
   pub few : lines < 8192
   pub contexts : {v : ℕ} {l : Line} → IsLine ls v l → Context ls (l .indicator) (l .context)
+  pub distinct : DistinctNames ls
   pub behind : {v : ℕ} {l : Line} → IsLine ls v l → l .indicator < v
 
 -- the len bytes of s from `start` on; the empty part where they are not whole in s

@@ -1,6 +1,7 @@
 -- What the functions on names leave.
 use mathlib.Core.Path.{_≡_}
-use mathlib.Core.Bool.{Bool}
+use mathlib.Core.Bool.{Bool, true, false}
+use mathlib.Core.Logic.{_≢_}
 use mathlib.Core.Option.{Option, none, some}
 use mathlib.Core.List.{List}
 use Prim.Native.Nat.{ℕ, _+_, _*_, _≤_, _<_}
@@ -11,16 +12,22 @@ use Rattle.aut68.specs.Procedure.Answer.{Refusal, codeOf}
 use Rattle.aut68.specs.Procedure.Resolve.{Found, Meaning, aBound, aVariable, aConstant, member, placeFrom, meaning, wanted, contextAt}
 use Rattle.cells.specs.declared.scope.Scope.{Scope}
 use Rattle.names.specs.Known.{Known, boundNames}
+use Rattle.names.specs.Hints.{Hinted, Noted, nameAt}
 
 -- the number, or the given one where there is none
 unfoldable pub numberOr : ℕ → Option ℕ → ℕ
 numberOr n none = n
 numberOr n (some v) = v
 
--- r is the line whose identifier is the word; 0: none
-pub record LineFound (book tb : List ℕ) (lines : ℕ) (word : Bytes) (r : ℕ) : Type 0 where
+-- r is the line whose identifier is the word; 0: none. Looked for in all rows
+pub record LineSought (book tb : List ℕ) (lines : ℕ) (word : Bytes) (r : ℕ) : Type 0 where
   pub within : r ≤ lines
   pub is : (ls : Lines) → Known ls book tb lines → 1 ≤ length word → r ≡ numberOr 0 (numberOf word ls)
+
+-- the same by the hints in w
+pub record LineFound (book tb : List ℕ) (lines : ℕ) (w : List ℕ) (word : Bytes) (r : ℕ) : Type 0 where
+  pub within : r ≤ lines
+  pub is : (ls : Lines) → Known ls book tb lines → Hinted book tb lines w → 1 ≤ length word → r ≡ numberOr 0 (numberOf word ls)
 
 -- r is the number of bindings between a name and its innermost binding; 32: it is not bound
 pub record BindingFound (s : Bytes) (scope : Scope) (word : Bytes) (r : ℕ) : Type 0 where
@@ -44,6 +51,17 @@ pub data Meant (ls : Lines) (context : List ℕ) (fault cell count : ℕ) : Foun
   meansNothing : {r : Refusal} → fault ≡ codeOf r → Meant ls context fault cell count (Found.refused r)
 
 -- the meaning of a word, with the indicator of its line
-pub record MeaningFound (s : Bytes) (scope : Scope) (book tb : List ℕ) (lines indicator : ℕ) (word : Bytes) (fault cell count : ℕ) : Type 0 where
-  pub is : (ls : Lines) → Known ls book tb lines → indicator ≤ lines → scope .depth ≤ 32 → 1 ≤ length word
+pub record MeaningFound (s : Bytes) (scope : Scope) (book tb : List ℕ) (lines indicator : ℕ) (w : List ℕ) (word : Bytes) (fault cell count : ℕ) : Type 0 where
+  pub is : (ls : Lines) → Known ls book tb lines → Hinted book tb lines w → indicator ≤ lines → scope .depth ≤ 32 → 1 ≤ length word
       → Meant ls (contextAt ls indicator) fault cell count (meaning ls (contextAt ls indicator) word (boundNames s scope))
+
+-- does the row of line v, of the first `lines`, point to the word?
+pub record LineIs (book tb : List ℕ) (lines v : ℕ) (word : Bytes) (r : Bool) : Type 0 where
+  pub within : r ≡ true → v ≤ lines
+  pub yes : 1 ≤ length word → r ≡ true → nameAt book tb v ≡ word
+  pub no : 1 ≤ length word → r ≡ false → v ≤ lines → nameAt book tb v ≢ word
+
+-- v was noted as the line of the word
+pub record NotePost (w w′ : List ℕ) (word : Bytes) (v : ℕ) : Type 0 where
+  pub long : length w′ ≡ length w
+  pub is : v < 65536 → Noted w w′ word v

@@ -1,6 +1,8 @@
 // What names mean, and the identifiers of recorded lines.
+mod hints;
 mod names;
 
+pub use hints::note;
 pub use names::Meaning;
 pub use names::find;
 pub use names::identifier;

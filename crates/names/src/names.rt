@@ -1,4 +1,6 @@
 // What names mean. specs/Posts has the contracts.
+use crate::hints::PROBES;
+use crate::hints::slot_of;
 use cells::Scope;
 use cells::field;
 use symbols::same_bytes;
@@ -7,7 +9,7 @@ ghost use Prim.Native.Nat.{_≤_};
 ghost use lib.ListN.{length};
 ghost use Rattle.aut68.specs.Bytes.{sameBytes};
 ghost use Rattle.names.specs.Known.{partOf, PartLent, identifierPart, identifierStart};
-ghost use Rattle.names.specs.Posts.{LineFound, BindingFound, InContext, MeaningFound};
+ghost use Rattle.names.specs.Posts.{LineSought, LineIs, LineFound, BindingFound, InContext, MeaningFound};
 
 // Is the word the n bytes of s from `first` on? No, where they are not whole in s.
 fn part_is(s: &[u8], first: usize, n: usize, word: &[u8]) -> bool
@@ -26,9 +28,9 @@ fn part_is(s: &[u8], first: usize, n: usize, word: &[u8]) -> bool
     same_bytes(word, &s[first..end])
 }
 
-// The line, of the first `lines` of the table, whose identifier is the word (numberOf); 0: none.
-pub fn find(book: &[u8], table: &[u32], lines: usize, word: &[u8]) -> usize
-    ensures { λ r. ⌜ LineFound (now (book .entry)) (now (table .entry)) lines (now (word .entry)) r ⌝ }
+// The line, of the first `lines` of the table, whose identifier is the word (numberOf), looked for in all rows; 0: none.
+fn search(book: &[u8], table: &[u32], lines: usize, word: &[u8]) -> usize
+    ensures { λ r. ⌜ LineSought (now (book .entry)) (now (table .entry)) lines (now (word .entry)) r ⌝ }
 {
     let mut v = 0;
     let mut at = 0;
@@ -45,6 +47,41 @@ pub fn find(book: &[u8], table: &[u32], lines: usize, word: &[u8]) -> usize
         at = at + 8;
     }
     0
+}
+
+// Does the row of line v, of the first `lines`, point to the word?
+fn line_is(book: &[u8], table: &[u32], lines: usize, v: usize, word: &[u8]) -> bool
+    ensures { λ r. ⌜ LineIs (now (book .entry)) (now (table .entry)) lines v (now (word .entry)) r ⌝ }
+{
+    if v > lines {
+        return false;
+    }
+    let first = field(table, v, 0);
+    let n = field(table, v, 1);
+    part_is(book, first, n, word)
+}
+
+// The line, of the first `lines` of the table, whose identifier is the word (numberOf), by the hints in w; 0: none.
+pub fn find(book: &[u8], table: &[u32], lines: usize, w: &[u16], word: &[u8]) -> usize
+    ensures { λ r. ⌜ LineFound (now (book .entry)) (now (table .entry)) lines (now (w .entry)) (now (word .entry)) r ⌝ }
+{
+    let first = slot_of(word, w.len());
+    let mut i = 0;
+    while i < PROBES {
+        let at = first + i;
+        if at >= w.len() {
+            return search(book, table, lines, word);
+        }
+        let v = w[at] as usize;
+        if v == 0 {
+            return 0;
+        }
+        if line_is(book, table, lines, v, word) {
+            return v;
+        }
+        i = i + 1;
+    }
+    search(book, table, lines, word)
 }
 
 // The number of bindings between a name and its innermost binding (placeFrom); 32: it is not bound.
@@ -104,9 +141,10 @@ pub fn meaning_of(
     table: &[u32],
     lines: usize,
     indicator: usize,
+    w: &[u16],
     word: &[u8],
 ) -> Meaning
-    ensures { λ r. ⌜ MeaningFound (now (line .entry)) scope (now (book .entry)) (now (table .entry)) lines indicator (now (word .entry)) (r .fault) (r .cell) (r .wanted) ⌝ }
+    ensures { λ r. ⌜ MeaningFound (now (line .entry)) scope (now (book .entry)) (now (table .entry)) lines indicator (now (w .entry)) (now (word .entry)) (r .fault) (r .cell) (r .wanted) ⌝ }
 {
     let b = binding(line, scope, word);
     if b < 32 {
@@ -116,7 +154,7 @@ pub fn meaning_of(
             wanted: 0,
         };
     }
-    let v = find(book, table, lines, word);
+    let v = find(book, table, lines, w, word);
     if v == 0 {
         return Meaning {
             fault: cells::UNKNOWN_NAME,

@@ -21,12 +21,14 @@ use Rattle.kinds.specs.Kinds.{KindsTable, kindOf, placeOr0}
 use Rattle.symbols.specs.Symbols.{PastSpaces, PastSymbol, WordEnd}
 use Rattle.symbols.proofs.Laws.{part, word-ahead, past-word}
 use Rattle.cells.specs.declared.scope.Scope.{Scope}
+use Rattle.names.specs.Hints.{slots}
+use Rattle.names.specs.HintLaws.{hinted-same}
 use Rattle.names.proofs.PartLaws.{no-names}
 use Rattle.expressions.specs.declared.parts.Reading.{Reading}
 use Rattle.expressions.specs.Walk as Walk
 use Rattle.expressions.specs.Walk.{ReadTo, passed, Faulted, whole, faulty, CellPut}
 use Rattle.expressions.specs.Posts.{Ready, Refusing, ExpressionRead}
-use Rattle.expressions.proofs.StoreLaws.{below-same, below-put, part-put}
+use Rattle.expressions.proofs.StoreLaws.{below-same, below-then, below-put, part-put}
 use Rattle.expressions.proofs.ReadLaws.{then-refused, then-passed, then-done, then-stop, then-give, read-is}
 use Rattle.expressions.proofs.ExpressionLaws.{code-malformed}
 use Rattle.expressions.proofs.PairLaws.{goOn}
@@ -78,14 +80,16 @@ NoEntry scope = (scope .depth ≡ 0) × (scope .starts ≡ replicate 32 0) × (s
 module _ {ks s book tb : List ℕ} {lines indicator : ℕ} {scope : Scope} {w w′ : List ℕ} {r r′ : Reading}
     (n : NoEntry scope)
     (E : ExpressionRead (anExpression (32 - scope .depth)) ks s scope book tb lines indicator w w′ r r′) where
-  pub outer-read : (ls : Lines) → Lookup ls ks book tb lines indicator
+  pub outer-read : (ls : Lines) → Lookup ls ks book tb lines indicator w (r .to)
       → ReadTo s (Walk.Written cellsOfSrc cells (resolve ls (contextAt ls indicator) []) w w′ (r .to) (r′ .to) (r .fault) (r′ .fault)) (r′ .code) (r′ .at)
       (anExpression 32 (drop (r .at) s))
   outer-read ls l =
-      let ready : Ready ls ks book tb lines indicator scope =
+      let ready : Ready ls ks book tb lines indicator scope w (r .to) =
       record {
         table = l .table;
         known = l .known;
+        hinted = l .hinted;
+        below = l .below;
         earlier = l .earlier;
         sized = record { starts = ap length (n .1) ∙ length-replicate {A = ℕ} 32 0; lens = ap length (n .2) ∙ length-replicate {A = ℕ} 32 0; deep = omega (arith, n .0) };
       } in
@@ -127,41 +131,44 @@ module _ (ls : Lines) (indicator : ℕ) {w w′ : List ℕ} {to end fault fault�
   unfolding writtenCells resolveWritten
   category-written h = record { size = h .size; kept = h .kept; names = h .names }
 
-variable-written : (ls : Lines) (indicator : ℕ) (w : List ℕ) → WrittenMiddle ls indicator w w 0 0 0 0 variable
+variable-written : (ls : Lines) (indicator : ℕ) (w : List ℕ) (to : ℕ) → WrittenMiddle ls indicator w w to to 0 0 variable
 unfolding middleCells kindCells resolveMiddle
-variable-written ls indicator w = record { size = refl; kept = λ n. refl; names = λ z r. whole refl (slice-empty 0 w) }
+variable-written ls indicator w to = record { size = omega arith; kept = λ n. refl; names = λ z r. whole refl (slice-empty to w) }
 
-primitive-written : (ls : Lines) (indicator : ℕ) (w : List ℕ) → WrittenMiddle ls indicator w w 0 0 0 0 primitive
+primitive-written : (ls : Lines) (indicator : ℕ) (w : List ℕ) (to : ℕ) → WrittenMiddle ls indicator w w to to 0 0 primitive
 unfolding middleCells kindCells resolveMiddle
-primitive-written ls indicator w = record { size = refl; kept = λ n. refl; names = λ z r. whole refl (slice-empty 0 w) }
+primitive-written ls indicator w to = record { size = omega arith; kept = λ n. refl; names = λ z r. whole refl (slice-empty to w) }
 
-module _ {ks s book tb : List ℕ} {lines indicator : ℕ} {w : List ℕ} {at kind : ℕ} (b : at ≤ length s) where
-  pub middle-word : {start end : ℕ} → kind < 2 → PastSpaces s at start → WordEnd ks s start end → MiddleRead ks s book tb lines indicator w w at kind (goOn end 0 0)
+module _ {ks s book tb : List ℕ} {lines indicator : ℕ} {w : List ℕ} {at to kind : ℕ} (b : at ≤ length s) where
+  pub middle-word : {start end : ℕ} → to ≤ length w → kind < 2 → PastSpaces s at start → WordEnd ks s start end
+      → MiddleRead ks s book tb lines indicator w w at to kind (goOn end to 0)
   unfolding middleNumber
-  middle-word {end = end} l p q =
+  middle-word {end = end} t l p q =
       record {
-        below = below-same 0 w;
+        below = below-same to w;
+        up = omega arith;
         from = omega (arith, p .from, q .from);
         inside = q .within (p .within b);
         fewer = omega arith;
         read = λ ls k m. by-kind ls k m kind refl;
       }
     where
-      by-kind : (ls : Lines) → Lookup ls ks book tb lines indicator → MiddleKind ks s at kind → (n : ℕ) → kind ≡ n
-          → ReadTo s (λ m. (middleNumber m ≡ kind) × WrittenMiddle ls indicator w w 0 0 0 0 m) 0 end (aMiddle (drop at s))
+      by-kind : (ls : Lines) → Lookup ls ks book tb lines indicator w to → MiddleKind ks s at kind → (n : ℕ) → kind ≡ n
+          → ReadTo s (λ m. (middleNumber m ≡ kind) × WrittenMiddle ls indicator w w to to 0 0 m) 0 end (aMiddle (drop at s))
       by-kind ls k m zero e =
-          read-is (middle-EB (drop at s) (m .isEB (k .table) e)) (passed refl (sym (past-word p q (k .table) b)) (sym e, variable-written ls indicator w))
+          read-is (middle-EB (drop at s) (m .isEB (k .table) e)) (passed refl (sym (past-word p q (k .table) b)) (sym e, variable-written ls indicator w to))
       by-kind ls k m (suc zero) e =
           let (f, g) = m .isPN (k .table) e in
-          read-is (middle-PN (drop at s) f g) (passed refl (sym (past-word p q (k .table) b)) (sym e, primitive-written ls indicator w))
+          read-is (middle-PN (drop at s) f g) (passed refl (sym (past-word p q (k .table) b)) (sym e, primitive-written ls indicator w to))
       by-kind ls k m (suc (suc n)) e = absurd (omega arith)
 
   pub middle-expression : {scope : Scope} {w′ : List ℕ} {r′ : Reading} → 2 ≤ kind → NoEntry scope
-      → ExpressionRead (anExpression (32 - scope .depth)) ks s scope book tb lines indicator w w′ (goOn at 0 0) r′ → MiddleRead ks s book tb lines indicator w w′ at kind r′
+      → ExpressionRead (anExpression (32 - scope .depth)) ks s scope book tb lines indicator w w′ (goOn at to 0) r′ → MiddleRead ks s book tb lines indicator w w′ at to kind r′
   unfolding middleNumber
   middle-expression l n E =
       record {
         below = E .onward .below;
+        up = E .onward .up;
         from = E .onward .from;
         inside = E .onward .inside;
         fewer = E .onward .fewer;
@@ -185,13 +192,13 @@ type-written : (ls : Lines) (indicator : ℕ) {w w′ : List ℕ} {to fault : �
 unfolding writtenCells cells resolveWritten
 type-written ls indicator put = record { size = refl; kept = λ n. refl; names = λ z r. whole z (part-put put (omega arith)) }
 
-module _ {ks s book tb : List ℕ} {lines indicator : ℕ} {w w′ : List ℕ} {r : Reading} (fewer : r .to ≤ r .at) (b : r .at ≤ length s)
+module _ {ks s book tb : List ℕ} {lines indicator : ℕ} {w w′ : List ℕ} {r : Reading} (fewer : r .to ≤ length w + r .at) (b : r .at ≤ length s)
     {start end : ℕ} (p : PastSpaces s (r .at) start) (q : WordEnd ks s start end) {t : Bool} (e : t ≡ sameBytes (take (end - start) (drop start s)) wordType) where
   pub category-type : t ≡ true → CellPut w w′ (r .to) 0 → CategoryRead ks s book tb lines indicator w w′ r (goOn end (r .to + 1) (r .fault))
   unfolding wordType
   category-type f put =
       let four = ap length (same-true (take (end - start) (drop start s)) wordType (sym e ∙ f)) in
-      let l : r .to < end = omega (arith, four, length-take (end - start) (drop start s), p .from) in
+      let l : r .to < length w + end = omega (arith, four, length-take (end - start) (drop start s), p .from) in
       record {
         onward =
             record {
@@ -238,18 +245,29 @@ unfolding lineEnd
 line-goes-on [] n = absurd (n refl)
 line-goes-on (b ∷ bs) n = refl
 
-module _ {ks s book tb : List ℕ} {lines indicator : ℕ} {w w₁ : List ℕ} {at kind : ℕ} {m : Reading} (M : MiddleRead ks s book tb lines indicator w w₁ at kind m) where
-  pub body-middle-refused : m .code ≢ 0 → BodyRead ks s book tb lines indicator w w₁ at kind m
+module _ {ks s book tb : List ℕ} {lines indicator : ℕ} {w w₁ : List ℕ} {at to kind : ℕ} {m : Reading} (M : MiddleRead ks s book tb lines indicator w w₁ at to kind m) where
+  -- behind the middle, names are looked up in the same
+  lookup-on : {ls : Lines} → Lookup ls ks book tb lines indicator w to → Lookup ls ks book tb lines indicator w₁ (m .to)
+  lookup-on k =
+      record {
+        table = k .table;
+        known = k .known;
+        hinted = hinted-same to (k .below) (M .below .long) (M .below .is) (k .hinted);
+        below = omega (arith, k .below, M .up, ap slots (M .below .long));
+        earlier = k .earlier;
+      }
+
+  pub body-middle-refused : m .code ≢ 0 → BodyRead ks s book tb lines indicator w w₁ at to kind m
   unfolding afterHeading
   body-middle-refused n =
-      record { long = M .below .long; upward = λ z. absurd (n z); read = λ ls k h i before name. then-refused _ n (M .read ls k h) }
+      record { below = M .below; upward = λ z. absurd (n z); read = λ ls k h i before name. then-refused _ n (M .read ls k h) }
 
   module _ (z : m .code ≡ 0) {colon : ℕ} (p : PastSymbol ks s (m .at) 5 colon) where
-    pub body-no-colon : {r′ : Reading} {place to : ℕ} → length s < colon → Refusing 3 place to r′ → BodyRead ks s book tb lines indicator w w₁ at kind r′
+    pub body-no-colon : {r′ : Reading} {place end : ℕ} → length s < colon → Refusing 3 place end r′ → BodyRead ks s book tb lines indicator w w₁ at to kind r′
     unfolding afterHeading
     body-no-colon l h =
         record {
-          long = M .below .long;
+          below = M .below;
           upward = λ y. absurd (omega (arith, h .codeIs));
           read = λ ls k g i before name.
               then-passed _ z (M .read ls k g) (λ x X.
@@ -257,49 +275,49 @@ module _ {ks s book tb : List ℕ} {lines indicator : ℕ} {w w₁ : List ℕ} {
         }
 
     module _ (o : colon ≤ length s) {w₂ : List ℕ} {c : Reading} (C : CategoryRead ks s book tb lines indicator w₁ w₂ (goOn colon (m .to) (m .fault)) c) where
-      pub body-category-refused : c .code ≢ 0 → BodyRead ks s book tb lines indicator w w₂ at kind c
+      pub body-category-refused : c .code ≢ 0 → BodyRead ks s book tb lines indicator w w₂ at to kind c
       unfolding afterHeading
       body-category-refused n =
           record {
-            long = C .onward .below .long ∙ M .below .long;
+            below = below-then (M .below) (M .up) (C .onward .below);
             upward = λ y. absurd (n y);
             read = λ ls k g i before name.
                 then-passed _ z (M .read ls k g) (λ x X.
-                then-done _ (p .read (k .table) 58 (body-kinds .0) (omega arith) o) (then-refused _ n (C .read ls k)));
+                then-done _ (p .read (k .table) 58 (body-kinds .0) (omega arith) o) (then-refused _ n (C .read ls (lookup-on k))));
           }
 
       module _ (y : c .code ≡ 0) {next : ℕ} (q : PastSymbol ks s (c .at) 13 next) where
-        pub body-not-ended : {r′ : Reading} {place to : ℕ} → next ≢ length s → Refusing 3 place to r′ → BodyRead ks s book tb lines indicator w w₂ at kind r′
+        pub body-not-ended : {r′ : Reading} {place end : ℕ} → next ≢ length s → Refusing 3 place end r′ → BodyRead ks s book tb lines indicator w w₂ at to kind r′
         unfolding afterHeading
         body-not-ended {r′} n h =
             record {
-              long = C .onward .below .long ∙ M .below .long;
+              below = below-then (M .below) (M .up) (C .onward .below);
               upward = λ x. absurd (omega (arith, h .codeIs));
               read = λ ls k g i before name.
                   then-passed _ z (M .read ls k g) (λ x X.
                   then-done _ (p .read (k .table) 58 (body-kinds .0) (omega arith) o)
-                  (then-passed _ y (C .read ls k) (λ d D.
-                  ends _ k (decide next (length s)))));
+                  (then-passed _ y (C .read ls (lookup-on k)) (λ d D.
+                  ends _ (k .table) (decide next (length s)))));
             }
           where
-            ends : {ls : Lines} {B : Type 0} {Q : B → Type 0} (f : Unit {0} → Read B) → Lookup ls ks book tb lines indicator → (next ≤ length s) ⊎ (length s < next)
+            ends : {B : Type 0} {Q : B → Type 0} (f : Unit {0} → Read B) → KindsTable ks → (next ≤ length s) ⊎ (length s < next)
                 → ReadTo s Q (r′ .code) (r′ .at) (andThen (λ _. λ t. andThen f (lineEnd t)) (symbol 10 (drop (c .at) s)))
             ends f k (inl l) =
-                then-done _ (q .read (k .table) 10 (body-kinds .1) (omega arith) l)
+                then-done _ (q .read k 10 (body-kinds .1) (omega arith) l)
                 (then-stop _ (line-goes-on (drop next s) (λ e. omega (arith, length-drop next s))) (h .codeIs ∙ sym code-malformed))
-            ends f k (inr l) = then-stop _ (q .missing (k .table) 10 (body-kinds .1) (omega arith) l) (h .codeIs ∙ sym code-malformed)
+            ends f k (inr l) = then-stop _ (q .missing k 10 (body-kinds .1) (omega arith) l) (h .codeIs ∙ sym code-malformed)
 
         pub body-read : next ≡ length s
-            → BodyRead ks s book tb lines indicator w w₂ at kind (record { code = 0; at = next; to = c .to; fault = c .fault; count = m .to })
+            → BodyRead ks s book tb lines indicator w w₂ at to kind (record { code = 0; at = next; to = c .to; fault = c .fault; count = m .to })
         unfolding afterHeading
         body-read e =
             record {
-              long = C .onward .below .long ∙ M .below .long;
-              upward = λ x. C .onward .up;
+              below = below-then (M .below) (M .up) (C .onward .below);
+              upward = λ x. (M .up, C .onward .up);
               read = λ ls k g i before name.
                   then-passed _ z (M .read ls k g) (λ x X.
                   then-done _ (p .read (k .table) 58 (body-kinds .0) (omega arith) o)
-                  (then-passed _ y (C .read ls k) (λ d D.
+                  (then-passed _ y (C .read ls (lookup-on k)) (λ d D.
                   then-done _ (q .read (k .table) 10 (body-kinds .1) (omega arith) (omega arith))
                   (then-done _ (line-ends s next (omega arith))
                   (passed refl refl

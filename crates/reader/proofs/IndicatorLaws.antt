@@ -15,6 +15,7 @@ use Rattle.lookup.specs.LineNumbers.{line-lineOf}
 use Rattle.symbols.proofs.Laws.{part}
 use Rattle.cells.specs.Cells.{rowCell}
 use Rattle.names.specs.Known.{Known}
+use Rattle.names.specs.Hints.{Hinted}
 use Rattle.names.specs.Posts.{LineFound}
 use Rattle.names.proofs.MeaningLaws.{option-none, option-some, number-positive}
 use Rattle.names.proofs.ContextLaws.{lineAt}
@@ -49,37 +50,38 @@ looked-up s start len n i =
     let e = part s start (start + len) (omega arith) in
     (e, omega (arith, ap length e, length-slice start (start + len) s i))
 
-number-is : (s : Bytes) (start len : ℕ) {book tb : List ℕ} {lines v : ℕ} {ls : Lines} → len ≢ 0 → start + len ≤ length s
-    → LineFound book tb lines (take (start + len - start) (drop start s)) v → v ≢ 0 → Known ls book tb lines → numberOf (slice start (start + len) s) ls ≡ some v
-number-is s start len {ls = ls} n i L m k =
+number-is : (s : Bytes) (start len : ℕ) {book tb w : List ℕ} {lines v : ℕ} {ls : Lines} → len ≢ 0 → start + len ≤ length s
+    → LineFound book tb lines w (take (start + len - start) (drop start s)) v → v ≢ 0 → Known ls book tb lines → Hinted book tb lines w
+    → numberOf (slice start (start + len) s) ls ≡ some v
+number-is s start len {ls = ls} n i L m k H =
     let (e, l) = looked-up s start len n i in
-    ap (λ w. numberOf w ls) (sym e) ∙ option-some 0 (numberOf (take (start + len - start) (drop start s)) ls) (L .is ls k l) m
+    ap (λ w. numberOf w ls) (sym e) ∙ option-some 0 (numberOf (take (start + len - start) (drop start s)) ls) (L .is ls k H l) m
 
-module _ (s : Bytes) (start len : ℕ) {book tb : List ℕ} {lines : ℕ} where
-  pub indicator-empty : len ≡ 0 → (ls : Lines) → Known ls book tb lines → IndicatorFound lines 0 (indicatorLine ls (nameOr s start len))
-  indicator-empty e ls k = subst (λ f. IndicatorFound lines 0 f) (sym (ap (indicatorLine ls) (name-none s start len e) ∙ indicator-none ls)) (isLine refl (omega arith))
+module _ (s : Bytes) (start len : ℕ) {book tb w : List ℕ} {lines : ℕ} where
+  pub indicator-empty : len ≡ 0 → (ls : Lines) → Known ls book tb lines → Hinted book tb lines w → IndicatorFound lines 0 (indicatorLine ls (nameOr s start len))
+  indicator-empty e ls k H = subst (λ f. IndicatorFound lines 0 f) (sym (ap (indicatorLine ls) (name-none s start len e) ∙ indicator-none ls)) (isLine refl (omega arith))
 
-  module _ (n : len ≢ 0) (i : start + len ≤ length s) {v : ℕ} (L : LineFound book tb lines (take (start + len - start) (drop start s)) v) where
-    pub indicator-unknown : v ≡ 0 → (ls : Lines) → Known ls book tb lines → IndicatorFound lines 8192 (indicatorLine ls (nameOr s start len))
-    indicator-unknown z ls k =
+  module _ (n : len ≢ 0) (i : start + len ≤ length s) {v : ℕ} (L : LineFound book tb lines w (take (start + len - start) (drop start s)) v) where
+    pub indicator-unknown : v ≡ 0 → (ls : Lines) → Known ls book tb lines → Hinted book tb lines w → IndicatorFound lines 8192 (indicatorLine ls (nameOr s start len))
+    indicator-unknown z ls k H =
         let (e, l) = looked-up s start len n i in
-        let q = option-none (numberOf (take (start + len - start) (drop start s)) ls) (number-positive ls _) (sym z ∙ L .is ls k l) in
+        let q = option-none (numberOf (take (start + len - start) (drop start s)) ls) (number-positive ls _) (sym z ∙ L .is ls k H l) in
         subst (λ f. IndicatorFound lines 8192 f)
         (sym (ap (indicatorLine ls) (name-some s start len n) ∙ indicator-nowhere ls _ (ap (λ w. numberOf w ls) (sym e) ∙ q))) (noLine refl)
 
     module _ (m : v ≢ 0) {kind : ℕ} (ek : kind ≡ rowCell tb v 4) where
-      pub indicator-no-variable : kind ≢ 0 → (ls : Lines) → Known ls book tb lines → IndicatorFound lines 8192 (indicatorLine ls (nameOr s start len))
-      indicator-no-variable z ls k =
+      pub indicator-no-variable : kind ≢ 0 → (ls : Lines) → Known ls book tb lines → Hinted book tb lines w → IndicatorFound lines 8192 (indicatorLine ls (nameOr s start len))
+      indicator-no-variable z ls k H =
           let (x, h) = lineAt k v (omega arith) (L .within) in
           subst (λ f. IndicatorFound lines 8192 f)
           (sym (ap (indicatorLine ls) (name-some s start len n)
-          ∙ indicator-constant ls _ v (x .kind) (number-is s start len n i L m k) (ap (λ (y : Line). y .kind) (line-lineOf h)) (λ y. z (ek ∙ k .rows .row h .kindIs ∙ y))))
+          ∙ indicator-constant ls _ v (x .kind) (number-is s start len n i L m k H) (ap (λ (y : Line). y .kind) (line-lineOf h)) (λ y. z (ek ∙ k .rows .row h .kindIs ∙ y))))
           (noLine refl)
 
-      pub indicator-found : kind ≡ 0 → (ls : Lines) → Known ls book tb lines → IndicatorFound lines v (indicatorLine ls (nameOr s start len))
-      indicator-found z ls k =
+      pub indicator-found : kind ≡ 0 → (ls : Lines) → Known ls book tb lines → Hinted book tb lines w → IndicatorFound lines v (indicatorLine ls (nameOr s start len))
+      indicator-found z ls k H =
           let (x, h) = lineAt k v (omega arith) (L .within) in
           subst (λ f. IndicatorFound lines v f)
           (sym (ap (indicatorLine ls) (name-some s start len n)
-          ∙ indicator-variable ls _ v (x .kind) (number-is s start len n i L m k) (ap (λ (y : Line). y .kind) (line-lineOf h)) (sym (k .rows .row h .kindIs) ∙ sym ek ∙ z)))
+          ∙ indicator-variable ls _ v (x .kind) (number-is s start len n i L m k H) (ap (λ (y : Line). y .kind) (line-lineOf h)) (sym (k .rows .row h .kindIs) ∙ sym ek ∙ z)))
           (isLine refl (L .within))

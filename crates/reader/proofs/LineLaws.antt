@@ -6,8 +6,8 @@ use mathlib.Core.Option.{Option, none, some}
 use mathlib.Core.List.{List, [], _∷_, _++_, append-assoc}
 use Prim.Native.Nat.{ℕ, zero, suc, _+_, _-_, _*_, _≤_, _<_}
 use native.Mathlib.Omega.{arith}
-use lib.ListN.{length, getD, drop, take, length-append, length-drop, take-append-drop}
-use lib.Seq.{slice, length-slice, length-take-le, getD-append-add, getD-drop}
+use lib.ListN.{length, getD, drop, take, List·getD-append, length-append, length-drop, take-append-drop}
+use lib.Seq.{slice, length-slice, length-take-le, take-take, drop-append-le, getD-append-add, getD-take, getD-drop}
 use borrow.Author.Tests.{le-leb, lt-leb}
 use Rattle.aut68.specs.Bytes.{Bytes}
 use Rattle.aut68.specs.Source.{Middle, variable, primitive, meaning, middleCells, writtenCells}
@@ -22,16 +22,18 @@ use Rattle.lookup.specs.LineNumbers.{line-lineOf}
 use Rattle.lookup.specs.Answers.{found-value}
 use Rattle.symbols.proofs.Laws.{part}
 use Rattle.kinds.specs.Kinds.{KindsTable}
-use Rattle.cells.specs.Cells.{rowCell, At}
+use Rattle.cells.specs.Cells.{rowCell, At, Outside}
 use Rattle.cells.specs.Results.{Result, code-nonzero}
 use Rattle.cells.specs.Results as Results
 use Rattle.names.specs.Known.{Known}
+use Rattle.names.specs.Hints.{slots, Hinted}
+use Rattle.names.specs.HintLaws.{slots-fit, hinted-same}
 use Rattle.names.specs.Posts.{LineFound}
 use Rattle.names.proofs.MeaningLaws.{option-none, option-some, number-positive}
 use Rattle.names.proofs.ContextLaws.{lineAt}
 use Rattle.expressions.specs.declared.parts.Reading.{Reading}
 use Rattle.expressions.specs.Walk.{ReadTo, passed, refused, Faulted, whole, faulty, SameBelow}
-use Rattle.expressions.proofs.StoreLaws.{part-append, part-stays}
+use Rattle.expressions.proofs.StoreLaws.{below-same, part-append, part-stays}
 use Rattle.expressions.proofs.ReadLaws.{read-is}
 use Rattle.reader.specs.declared.heading.Head.{Head}
 use Rattle.reader.specs.declared.lines.Line.{Line as LineOf}
@@ -95,12 +97,13 @@ unfolding unused
 unused-is w ls none e = rw (e, unused)
 unused-is w ls (some v) e = rw (e, unused)
 
-module _ {book tb : List ℕ} {lines taken : ℕ} {word : Bytes} {ls : Lines} (h : LineFound book tb lines word taken) (k : Known ls book tb lines) (l : 1 ≤ length word) where
+module _ {book tb w : List ℕ} {lines taken : ℕ} {word : Bytes} {ls : Lines} (h : LineFound book tb lines w word taken) (k : Known ls book tb lines)
+    (hints : Hinted book tb lines w) (l : 1 ≤ length word) where
   name-unused : taken ≡ 0 → unused word ls ≡ true
-  name-unused z = unused-is word ls none (option-none (numberOf word ls) (number-positive ls word) (sym z ∙ h .is ls k l))
+  name-unused z = unused-is word ls none (option-none (numberOf word ls) (number-positive ls word) (sym z ∙ h .is ls k hints l))
 
   name-taken : taken ≢ 0 → unused word ls ≡ false
-  name-taken n = unused-is word ls (some taken) (option-some 0 (numberOf word ls) (h .is ls k l) n)
+  name-taken n = unused-is word ls (some taken) (option-some 0 (numberOf word ls) (h .is ls k hints l) n)
 
 -- ---- kinds and contexts
 
@@ -138,13 +141,19 @@ zero-or-not (suc n) = inr (λ e. omega arith)
 
 -- ---- the cells of a line
 
-module _ {w₁ w₂ : List ℕ} {middle end : ℕ} {xs ys : List ℕ} (below : SameBelow middle w₁ w₂) (l : middle ≤ end) (m : end ≤ length w₂)
-    (p : slice 0 middle w₁ ≡ xs) (q : slice middle end w₂ ≡ ys) where
-  cells-both : take end w₂ ≡ xs ++ ys
-  cells-both = part-append w₂ 0 middle end (omega arith) l m ∙ ap₂ _++_ (part-stays below 0 middle (omega arith) ∙ p) q
+module _ {w₁ w₂ : List ℕ} {to middle end : ℕ} {xs ys : List ℕ} (below : SameBelow middle w₁ w₂) (k : to ≤ middle) (l : middle ≤ end) (m : end ≤ length w₂)
+    (p : slice to middle w₁ ≡ xs) (q : slice middle end w₂ ≡ ys) where
+  cells-both : slice to end w₂ ≡ xs ++ ys
+  cells-both = part-append w₂ to middle end k l m ∙ ap₂ _++_ (part-stays below to middle (omega arith) ∙ p) q
 
-  cells-lie : At w₂ 0 (xs ++ ys) (drop end w₂)
-  cells-lie = record { is = sym (take-append-drop end w₂) ∙ ap (λ x. x ++ drop end w₂) cells-both }
+  cells-lie : At w₂ to (xs ++ ys) (drop end w₂)
+  cells-lie =
+      record {
+        is =
+            ap (drop to) (sym (take-append-drop end w₂))
+            ∙ drop-append-le to (take end w₂) (drop end w₂) (omega (arith, length-take-le end w₂ m))
+            ∙ ap (λ x. x ++ drop end w₂) cells-both;
+      }
 
 -- ---- a line whose heading was refused
 
@@ -153,107 +162,116 @@ module _ {ks s book tb : List ℕ} {lines limit : ℕ} {w : List ℕ} {h : Head}
   unfolding readLine fromReading codeOf
   line-heading-refused n e =
       record {
-        long = refl;
-        read = λ ls t k room b.
+        below = below-same (24 * limit) w;
+        read = λ ls t k large long hints b.
             let (rest, c, q) = H .missing t n in
             step-stopped _ (ap (λ m. fromReading m b) q) (e ∙ c);
       }
 
 -- ---- a line whose heading was read
 
-module _ {ks s book tb : List ℕ} {lines : ℕ} {w w′ : List ℕ} {h : Head} (H : HeadRead ks s h) (hz : h .code ≡ 0) {found indicator kind : ℕ} {r : Reading}
-    (F : (ls : Lines) → Known ls book tb lines → IndicatorFound lines found (indicatorLine ls (nameOr s (h .start) (h .len))))
-    (I : (8191 < found → indicator ≡ 0) × (found ≤ 8191 → indicator ≡ found))
-    (M : MiddleKind ks s (h .at) kind) (B : BodyRead ks s book tb lines indicator w w′ (h .at) kind r) where
-  reading : (ls : Lines) → KindsTable ks → Known ls book tb lines
-      → ReadTo s (LineWritten ls indicator w w′ kind (r .count) (r .to) (r .fault) (h .first) (nameOr s (h .start) (h .len)) (slice (h .first) (h .first + h .size) s))
-      (r .code) (r .at) (aLine (length s) s)
-  reading ls t k =
-      read-is (H .read t hz)
-      (B .read ls (record { table = t; known = k; earlier = indicator-within (F ls k) (k .few) I }) M (nameOr s (h .start) (h .len)) (h .first)
-      (slice (h .first) (h .first + h .size) s))
+-- a search for a name stays below the line's cells
+hints-below : {limit n : ℕ} → 16 ≤ limit → n ≡ 26 * limit → slots n + 32 ≤ 24 * limit
+hints-below {limit} large long = omega (arith, ap slots long, slots-fit limit large)
 
-  pub line-body-refused : {limit : ℕ} {l : LineOf} → r .code ≢ 0 → l .code ≡ r .code → LineReadInto ks s book tb lines limit w w′ l
+-- the name of the line p, as it was looked up
+looked-up : {ks s : Bytes} {h : Head} → HeadRead ks s h → h .code ≡ 0 → {ls : Lines} {p : Placed} {w w′ : List ℕ} {indicator to kind middle end fault before : ℕ} {i : Option Bytes}
+    → LineWritten ls indicator w w′ to kind middle end fault before i (slice (h .first) (h .first + h .size) s) p
+    → (take (h .first + h .size - h .first) (drop (h .first) s) ≡ p .line .identifier) × (1 ≤ length (take (h .first + h .size - h .first) (drop (h .first) s)))
+looked-up {s = s} {h} H hz P =
+    let e = part s (h .first) (h .first + h .size) (omega arith) in
+    (e ∙ sym (P .identifierIs), omega (arith, ap length e, length-slice (h .first) (h .first + h .size) s (H .named), H .sized hz))
+
+module _ {ks s book tb : List ℕ} {lines limit : ℕ} {w w′ : List ℕ} {h : Head} (H : HeadRead ks s h) (hz : h .code ≡ 0) {found indicator kind : ℕ} {r : Reading}
+    (F : (ls : Lines) → Known ls book tb lines → Hinted book tb lines w → IndicatorFound lines found (indicatorLine ls (nameOr s (h .start) (h .len))))
+    (I : (8191 < found → indicator ≡ 0) × (found ≤ 8191 → indicator ≡ found))
+    (M : MiddleKind ks s (h .at) kind) (B : BodyRead ks s book tb lines indicator w w′ (h .at) (24 * limit) kind r) where
+  reading : (ls : Lines) → KindsTable ks → Known ls book tb lines → 16 ≤ limit → length w ≡ 26 * limit → Hinted book tb lines w
+      → ReadTo s (LineWritten ls indicator w w′ (24 * limit) kind (r .count) (r .to) (r .fault) (h .first) (nameOr s (h .start) (h .len)) (slice (h .first) (h .first + h .size) s))
+      (r .code) (r .at) (aLine (length s) s)
+  reading ls t k large long hints =
+      read-is (H .read t hz)
+      (B .read ls
+      (record { table = t; known = k; hinted = hints; below = hints-below large long; earlier = indicator-within (F ls k hints) (k .few) I }) M
+      (nameOr s (h .start) (h .len)) (h .first) (slice (h .first) (h .first + h .size) s))
+
+  -- the hints are where they were
+  hints-stay : 16 ≤ limit → length w ≡ 26 * limit → Hinted book tb lines w → Hinted book tb lines w′
+  hints-stay large long hints = hinted-same (24 * limit) (hints-below large long) (B .below .long) (B .below .is) hints
+
+  pub line-body-refused : {l : LineOf} → r .code ≢ 0 → l .code ≡ r .code → LineReadInto ks s book tb lines limit w w′ l
   unfolding readLine
-  line-body-refused {limit} {l} n e =
+  line-body-refused {l} n e =
       record {
-        long = B .long;
-        read = λ ls t k room b.
-            subst (λ c. Result (LineRead s w′ l) c b (readLine ls limit s b)) (sym e) (Results.then-refused _ n (reading-result b (reading ls t k)));
+        below = B .below;
+        read = λ ls t k large long hints b.
+            subst (λ c. Result (LineRead s w′ (24 * limit) l) c b (readLine ls limit s b)) (sym e) (Results.then-refused _ n (reading-result b (reading ls t k large long hints)));
       }
 
   module _ (rz : r .code ≡ 0) where
-    pub line-no-indicator : {limit : ℕ} {l : LineOf} → 8191 < found → l .code ≡ 5 → LineReadInto ks s book tb lines limit w w′ l
+    pub line-no-indicator : {l : LineOf} → 8191 < found → l .code ≡ 5 → LineReadInto ks s book tb lines limit w w′ l
     unfolding readLine
     line-no-indicator g e =
         record {
-          long = B .long;
-          read = λ ls t k room b.
-              Results.then-passed _ rz (reading-result b (reading ls t k)) (λ p P.
-              step-no-indicator _ (subst (λ o. IndicatorFound lines found (indicatorLine ls o)) (sym (P .indicatorIs)) (F ls k)) (k .few) g e);
+          below = B .below;
+          read = λ ls t k large long hints b.
+              Results.then-passed _ rz (reading-result b (reading ls t k large long hints)) (λ p P.
+              step-no-indicator _ (subst (λ o. IndicatorFound lines found (indicatorLine ls o)) (sym (P .indicatorIs)) (F ls k hints)) (k .few) g e);
         }
 
-    module _ (le : found ≤ 8191) {taken : ℕ} (T : LineFound book tb lines (take (h .first + h .size - h .first) (drop (h .first) s)) taken) where
-      -- the name of the line p, as it was looked up
-      looked-up : {i : Option Bytes} {before : ℕ} {ls : Lines} {p : Placed} {v u : List ℕ} {a b c d : ℕ}
-          → LineWritten ls indicator v u a b c d before i (slice (h .first) (h .first + h .size) s) p
-          → (take (h .first + h .size - h .first) (drop (h .first) s) ≡ p .line .identifier) × (1 ≤ length (take (h .first + h .size - h .first) (drop (h .first) s)))
-      looked-up P =
-          let e = part s (h .first) (h .first + h .size) (omega arith) in
-          (e ∙ sym (P .identifierIs), omega (arith, ap length e, length-slice (h .first) (h .first + h .size) s (H .named), H .sized hz))
-
-      pub line-taken : {limit : ℕ} {l : LineOf} → taken ≢ 0 → l .code ≡ 4 → LineReadInto ks s book tb lines limit w w′ l
+    module _ (le : found ≤ 8191) {taken : ℕ} (T : LineFound book tb lines w′ (take (h .first + h .size - h .first) (drop (h .first) s)) taken) where
+      pub line-taken : {l : LineOf} → taken ≢ 0 → l .code ≡ 4 → LineReadInto ks s book tb lines limit w w′ l
       unfolding readLine codeOf
       line-taken n e =
           record {
-            long = B .long;
-            read = λ ls t k room b.
-                Results.then-passed _ rz (reading-result b (reading ls t k)) (λ p P.
-                let (q, m) = looked-up P in
-                step-indicator _ (subst (λ o. IndicatorFound lines found (indicatorLine ls o)) (sym (P .indicatorIs)) (F ls k)) le (I .1 le)
-                (step-wrong _ duplicate (ap (λ x. unused x ls) (sym q) ∙ name-taken T k m n) e));
+            below = B .below;
+            read = λ ls t k large long hints b.
+                Results.then-passed _ rz (reading-result b (reading ls t k large long hints)) (λ p P.
+                let (q, m) = looked-up H hz P in
+                step-indicator _ (subst (λ o. IndicatorFound lines found (indicatorLine ls o)) (sym (P .indicatorIs)) (F ls k hints)) le (I .1 le)
+                (step-wrong _ duplicate (ap (λ x. unused x ls) (sym q) ∙ name-taken T k (hints-stay large long hints) m n) e));
           }
 
       module _ (free : taken ≡ 0) where
-        pub line-large-middle : {limit : ℕ} {l : LineOf} → limit < r .count → l .code ≡ 10 → LineReadInto ks s book tb lines limit w w′ l
+        pub line-large-middle : {l : LineOf} → limit < r .count - 24 * limit → l .code ≡ 10 → LineReadInto ks s book tb lines limit w w′ l
         unfolding readLine codeOf
-        line-large-middle {limit} g e =
+        line-large-middle g e =
             record {
-              long = B .long;
-              read = λ ls t k room b.
-                  Results.then-passed _ rz (reading-result b (reading ls t k)) (λ p P.
-                  let (q, m) = looked-up P in
-                  step-indicator _ (subst (λ o. IndicatorFound lines found (indicatorLine ls o)) (sym (P .indicatorIs)) (F ls k)) le (I .1 le)
-                  (step-right _ duplicate (ap (λ x. unused x ls) (sym q) ∙ name-unused T k m free)
+              below = B .below;
+              read = λ ls t k large long hints b.
+                  Results.then-passed _ rz (reading-result b (reading ls t k large long hints)) (λ p P.
+                  let (q, m) = looked-up H hz P in
+                  step-indicator _ (subst (λ o. IndicatorFound lines found (indicatorLine ls o)) (sym (P .indicatorIs)) (F ls k hints)) le (I .1 le)
+                  (step-right _ duplicate (ap (λ x. unused x ls) (sym q) ∙ name-unused T k (hints-stay large long hints) m free)
                   (step-wrong _ tooLarge (lt-leb (middleCells (p .line .middle)) limit (omega (arith, P .middleWritten .size))) e)));
             }
 
-        pub line-large-category : {limit : ℕ} {l : LineOf} → r .count ≤ limit → limit < r .to - r .count → l .code ≡ 10 → LineReadInto ks s book tb lines limit w w′ l
+        pub line-large-category : {l : LineOf} → r .count - 24 * limit ≤ limit → limit < r .to - 24 * limit - (r .count - 24 * limit) → l .code ≡ 10 → LineReadInto ks s book tb lines limit w w′ l
         unfolding readLine codeOf
-        line-large-category {limit} f g e =
+        line-large-category f g e =
             record {
-              long = B .long;
-              read = λ ls t k room b.
-                  Results.then-passed _ rz (reading-result b (reading ls t k)) (λ p P.
-                  let (q, m) = looked-up P in
-                  step-indicator _ (subst (λ o. IndicatorFound lines found (indicatorLine ls o)) (sym (P .indicatorIs)) (F ls k)) le (I .1 le)
-                  (step-right _ duplicate (ap (λ x. unused x ls) (sym q) ∙ name-unused T k m free)
+              below = B .below;
+              read = λ ls t k large long hints b.
+                  Results.then-passed _ rz (reading-result b (reading ls t k large long hints)) (λ p P.
+                  let (q, m) = looked-up H hz P in
+                  step-indicator _ (subst (λ o. IndicatorFound lines found (indicatorLine ls o)) (sym (P .indicatorIs)) (F ls k hints)) le (I .1 le)
+                  (step-right _ duplicate (ap (λ x. unused x ls) (sym q) ∙ name-unused T k (hints-stay large long hints) m free)
                   (step-right _ tooLarge (le-leb (middleCells (p .line .middle)) limit (omega (arith, P .middleWritten .size)))
                   (step-wrong _ tooLarge (lt-leb (writtenCells (p .line .category)) limit (omega (arith, P .categoryWritten .size))) e))));
             }
 
-        module _ {limit : ℕ} (f : r .count ≤ limit) (g : r .to - r .count ≤ limit) where
+        module _ (f : r .count - 24 * limit ≤ limit) (g : r .to - 24 * limit - (r .count - 24 * limit) ≤ limit) where
           pub line-fault : {l : LineOf} → r .fault ≢ 0 → l .code ≡ r .fault → LineReadInto ks s book tb lines limit w w′ l
           unfolding readLine
           line-fault n e =
               record {
-                long = B .long;
-                read = λ ls t k room b.
-                    Results.then-passed _ rz (reading-result b (reading ls t k)) (λ p P.
-                    let (q, m) = looked-up P in
+                below = B .below;
+                read = λ ls t k large long hints b.
+                    Results.then-passed _ rz (reading-result b (reading ls t k large long hints)) (λ p P.
+                    let (q, m) = looked-up H hz P in
                     let middle = P .middleWritten .names refl (omega arith) in
-                    step-indicator _ (subst (λ o. IndicatorFound lines found (indicatorLine ls o)) (sym (P .indicatorIs)) (F ls k)) le (I .1 le)
-                    (step-right _ duplicate (ap (λ x. unused x ls) (sym q) ∙ name-unused T k m free)
+                    step-indicator _ (subst (λ o. IndicatorFound lines found (indicatorLine ls o)) (sym (P .indicatorIs)) (F ls k hints)) le (I .1 le)
+                    (step-right _ duplicate (ap (λ x. unused x ls) (sym q) ∙ name-unused T k (hints-stay large long hints) m free)
                     (step-right _ tooLarge (le-leb (middleCells (p .line .middle)) limit (omega (arith, P .middleWritten .size)))
                     (step-right _ tooLarge (le-leb (writtenCells (p .line .category)) limit (omega (arith, P .categoryWritten .size)))
                     (⊎-elim
@@ -264,19 +282,20 @@ module _ {ks s book tb : List ℕ} {lines : ℕ} {w w′ : List ℕ} {h : Head} 
 
           pub line-read : {context : ℕ} → r .fault ≡ 0 → (indicator ≡ 0 → context ≡ 0) × (1 ≤ indicator → context ≡ rowCell tb indicator 3 + 1)
               → LineReadInto ks s book tb lines limit w w′
-              (record { code = 0; first = h .first; len = h .size; indicator = indicator; context = context; kind = kind; middle = r .count; size = r .to })
+              (record { code = 0; first = h .first; len = h .size; indicator = indicator; context = context; kind = kind; middle = r .count - 24 * limit; size = r .to - 24 * limit })
           unfolding readLine lineCells
           line-read {context} n c =
               record {
-                long = B .long;
-                read = λ ls t k room b.
-                    Results.then-passed _ rz (reading-result b (reading ls t k)) (λ p P.
-                    let (q, m) = looked-up P in
+                below = B .below;
+                read = λ ls t k large long hints b.
+                    Results.then-passed _ rz (reading-result b (reading ls t k large long hints)) (λ p P.
+                    let (q, m) = looked-up H hz P in
                     let z : P .faultBetween ≡ 0 = ⊎-elim (λ z. z) (λ y. absurd (y (sym (P .categoryWritten .kept y) ∙ n))) (zero-or-not (P .faultBetween)) in
                     let lengths = P .long in
-                    let end : r .to ≤ length w′ = omega (arith, B .long) in
-                    step-indicator _ (subst (λ o. IndicatorFound lines found (indicatorLine ls o)) (sym (P .indicatorIs)) (F ls k)) le (I .1 le)
-                    (step-right _ duplicate (ap (λ x. unused x ls) (sym q) ∙ name-unused T k m free)
+                    let (start, more) = B .upward rz in
+                    let end : r .to ≤ length w′ = omega (arith, B .below .long) in
+                    step-indicator _ (subst (λ o. IndicatorFound lines found (indicatorLine ls o)) (sym (P .indicatorIs)) (F ls k hints)) le (I .1 le)
+                    (step-right _ duplicate (ap (λ x. unused x ls) (sym q) ∙ name-unused T k (hints-stay large long hints) m free)
                     (step-right _ tooLarge (le-leb (middleCells (p .line .middle)) limit (omega (arith, P .middleWritten .size)))
                     (step-right _ tooLarge (le-leb (writtenCells (p .line .category)) limit (omega (arith, P .categoryWritten .size)))
                     (step-names _ (P .middleWritten .names refl (omega arith)) z (λ x ex sx.
@@ -288,38 +307,61 @@ module _ {ks s book tb : List ℕ} {lines : ℕ} {w w′ : List ℕ} {h : Head} 
                       within = H .named;
                       identifierIs = sym (P .identifierIs);
                       indicatorIs = refl;
-                      contextIs = context-length k (indicator-within (F ls k) (k .few) I) c;
+                      contextIs = context-length k (indicator-within (F ls k hints) (k .few) I) c;
                       kindIs = sym (P .kindIs) ∙ sym (kind-number ls (contextAt ls indicator) (p .line .middle) ex);
-                      middleIs = omega (arith, ap length sx, length-slice 0 (r .count) (P .between) (omega arith));
-                      sizeIs = omega (arith, ap length (cells-both (P .below) (B .upward rz) end sx sd), length-take-le (r .to) w′ end);
+                      middleIs = omega (arith, ap length sx, length-slice (24 * limit) (r .count) (P .between) (omega arith));
+                      sizeIs = omega (arith, ap length (cells-both (P .below) start more end sx sd), length-slice (24 * limit) (r .to) w′ end);
                       after = drop (r .to) w′;
-                      cellsAt = cells-lie (P .below) (B .upward rz) end sx sd;
+                      cellsAt = cells-lie (P .below) start more end sx sd;
                     }))))))));
               }
 
 -- ---- a line in the first cells of a larger store
 
+-- the first m cells were lent, and of them those below n are as they were
+module _ (w part : List ℕ) (n m : ℕ) (l : n ≤ m) (fits : m ≤ length w) (h : SameBelow n (take m w) part) where
+  long : length part ≡ m
+  long = h .long ∙ length-take-le m w fits
+
+  before : (i : ℕ) → i < n → getD (part ++ drop m w) i 0 ≡ getD w i 0
+  before i y =
+      List·getD-append part (drop m w) 0 i (omega (arith, long))
+      ∙ sym (getD-take n part i 0 y)
+      ∙ ap (λ x. getD x i 0) (h .is ∙ take-take n m w l)
+      ∙ getD-take n w i 0 y
+
+  behind : (i : ℕ) → m ≤ i → getD (part ++ drop m w) i 0 ≡ getD w i 0
+  behind i y =
+      let e : i ≡ length part + (i - m) = omega (arith, long) in
+      ap (λ j. getD (part ++ drop m w) j 0) e
+      ∙ getD-append-add part (drop m w) (i - m) 0
+      ∙ getD-drop m w (i - m) 0
+      ∙ ap (λ j. getD w j 0) (omega arith)
+
+  front-outside : Outside n m w (part ++ drop m w)
+  front-outside =
+      record {
+        long = length-append part (drop m w) ∙ omega (arith, long, length-drop m w);
+        same = λ i x. ⊎-elim (λ y. before i y) (λ y. behind i y) x;
+      }
+
 module _ {ks s book tb : List ℕ} {lines limit : ℕ} {w : List ℕ} {l : LineOf} where
-  pub line-no-room : length w < 2 * limit → l .code ≡ 10 → LineReadTo ks s book tb lines limit w w l
+  pub line-no-room : length w < 26 * limit → l .code ≡ 10 → LineReadTo ks s book tb lines limit w w l
   line-no-room m e =
       record {
         outside = record { long = refl; same = λ i h. refl };
         noRoom = λ n. (refl, e);
-        read = λ ls t k room. absurd (omega arith);
+        read = λ ls t k large room. absurd (omega arith);
       }
 
-  pub line-in-front : {part : List ℕ} → 2 * limit ≤ length w → LineReadInto ks s book tb lines limit (take (2 * limit) w) part l
-      → LineReadTo ks s book tb lines limit w (part ++ drop (2 * limit) w) l
+  pub line-in-front : {part : List ℕ} → 26 * limit ≤ length w → LineReadInto ks s book tb lines limit (take (26 * limit) w) part l
+      → LineReadTo ks s book tb lines limit w (part ++ drop (26 * limit) w) l
   line-in-front {part} m h =
-      let n : length part ≡ 2 * limit = h .long ∙ length-take-le (2 * limit) w m in
+      let long : length part ≡ 26 * limit = h .below .long ∙ length-take-le (26 * limit) w m in
       record {
-        outside =
-            record {
-              long = length-append part (drop (2 * limit) w) ∙ omega (arith, length-drop (2 * limit) w);
-              same = λ i x. ⊎-elim (λ y. absurd (omega arith)) (λ y. behind i y) x;
-            };
+        outside = front-outside w part (24 * limit) (26 * limit) (omega arith) m (h .below);
         noRoom = λ z. absurd (omega arith);
-        read = λ ls t k room b.
+        read = λ ls t k large room hints b.
             Results.result-map (λ p P.
             record {
               firstIs = P .firstIs;
@@ -331,16 +373,13 @@ module _ {ks s book tb : List ℕ} {lines limit : ℕ} {w : List ℕ} {l : LineO
               kindIs = P .kindIs;
               middleIs = P .middleIs;
               sizeIs = P .sizeIs;
-              after = P .after ++ drop (2 * limit) w;
-              cellsAt = record { is = ap (λ x. x ++ drop (2 * limit) w) (P .cellsAt .is) ∙ append-assoc (lineCells (p .line)) (P .after) (drop (2 * limit) w) };
-            }) (h .read ls t k (omega (arith, length-take-le (2 * limit) w m)) b);
+              after = P .after ++ drop (26 * limit) w;
+              cellsAt =
+                  record {
+                    is =
+                        drop-append-le (24 * limit) part (drop (26 * limit) w) (omega (arith, long))
+                        ∙ ap (λ x. x ++ drop (26 * limit) w) (P .cellsAt .is)
+                        ∙ append-assoc (lineCells (p .line)) (P .after) (drop (26 * limit) w);
+                  };
+            }) (h .read ls t k large (length-take-le (26 * limit) w m) hints b);
       }
-    where
-      behind : (i : ℕ) → 2 * limit ≤ i → getD (part ++ drop (2 * limit) w) i 0 ≡ getD w i 0
-      behind i y =
-          let n : length part ≡ 2 * limit = h .long ∙ length-take-le (2 * limit) w m in
-          let e : i ≡ length part + (i - 2 * limit) = omega arith in
-          ap (λ j. getD (part ++ drop (2 * limit) w) j 0) e
-          ∙ getD-append-add part (drop (2 * limit) w) (i - 2 * limit) 0
-          ∙ getD-drop (2 * limit) w (i - 2 * limit) 0
-          ∙ ap (λ j. getD w j 0) (omega arith)

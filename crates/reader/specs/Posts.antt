@@ -19,6 +19,7 @@ use Rattle.cells.specs.Cells.{At, Outside}
 use Rattle.cells.specs.Results.{Result}
 use Rattle.kinds.specs.Kinds.{KindsTable}
 use Rattle.names.specs.Known.{Known}
+use Rattle.names.specs.Hints.{slots, Hinted}
 use Rattle.expressions.specs.declared.parts.Reading.{Reading}
 use Rattle.expressions.specs.Walk as Walk
 use Rattle.expressions.specs.Walk.{ReadTo, SameBelow}
@@ -57,10 +58,12 @@ middleNumber variable = 0
 middleNumber primitive = 1
 middleNumber (meaning e) = 2
 
--- what names are looked up in, outside every binding
-pub record Lookup (ls : Lines) (ks book tb : List ℕ) (lines indicator : ℕ) : Type 0 where
+-- what names are looked up in, outside every binding: hints lie below the cell `to`
+pub record Lookup (ls : Lines) (ks book tb : List ℕ) (lines indicator : ℕ) (w : List ℕ) (to : ℕ) : Type 0 where
   pub table : KindsTable ks
   pub known : Known ls book tb lines
+  pub hinted : Hinted book tb lines w
+  pub below : slots (length w) + 32 ≤ to
   pub earlier : indicator ≤ lines
 
 module _ (ls : Lines) (indicator : ℕ) (w w′ : List ℕ) (to end fault fault′ : ℕ) where
@@ -71,48 +74,49 @@ module _ (ls : Lines) (indicator : ℕ) (w w′ : List ℕ) (to end fault fault�
   abbrev pub WrittenCategory : Written → Type 0
   WrittenCategory = Walk.Written writtenCells cells (resolveWritten ls (contextAt ls indicator)) w w′ to end fault fault′
 
--- a middle of this kind was read from `at` on, its cells from 0 on
-pub record MiddleRead (ks s book tb : List ℕ) (lines indicator : ℕ) (w w′ : List ℕ) (at kind : ℕ) (r′ : Reading) : Type 0 where
-  pub below : SameBelow 0 w w′
+-- a middle of this kind was read from `at` on, its cells from `to` on
+pub record MiddleRead (ks s book tb : List ℕ) (lines indicator : ℕ) (w w′ : List ℕ) (at to kind : ℕ) (r′ : Reading) : Type 0 where
+  pub below : SameBelow to w w′
+  pub up : to ≤ r′ .to
   pub from : at ≤ r′ .at
   pub inside : r′ .at ≤ length s
-  pub fewer : r′ .to ≤ r′ .at
-  pub read : (ls : Lines) → Lookup ls ks book tb lines indicator → MiddleKind ks s at kind
-      → ReadTo s (λ m. (middleNumber m ≡ kind) × WrittenMiddle ls indicator w w′ 0 (r′ .to) 0 (r′ .fault) m) (r′ .code) (r′ .at) (aMiddle (drop at s))
+  pub fewer : r′ .to ≤ length w + r′ .at
+  pub read : (ls : Lines) → Lookup ls ks book tb lines indicator w to → MiddleKind ks s at kind
+      → ReadTo s (λ m. (middleNumber m ≡ kind) × WrittenMiddle ls indicator w w′ to (r′ .to) 0 (r′ .fault) m) (r′ .code) (r′ .at) (aMiddle (drop at s))
 
 -- a written category was read from r on
 pub record CategoryRead (ks s book tb : List ℕ) (lines indicator : ℕ) (w w′ : List ℕ) (r r′ : Reading) : Type 0 where
   pub onward : Onward s w w′ r r′
-  pub read : (ls : Lines) → Lookup ls ks book tb lines indicator
+  pub read : (ls : Lines) → Lookup ls ks book tb lines indicator w (r .to)
       → ReadTo s (WrittenCategory ls indicator w w′ (r .to) (r′ .to) (r .fault) (r′ .fault)) (r′ .code) (r′ .at) (aCategory (drop (r .at) s))
 
--- the cells of the line p: the middle's below index `middle`, the category's behind them up to `end`
-pub record LineWritten (ls : Lines) (indicator : ℕ) (w w′ : List ℕ) (kind middle end fault : ℕ) (before : ℕ) (i : Option Bytes) (name : Bytes) (p : Placed) : Type 0 where
+-- the cells of the line p: the middle's from `to` on below index `middle`, the category's behind them up to `end`
+pub record LineWritten (ls : Lines) (indicator : ℕ) (w w′ : List ℕ) (to kind middle end fault : ℕ) (before : ℕ) (i : Option Bytes) (name : Bytes) (p : Placed) : Type 0 where
   pub beforeIs : p .before ≡ before
   pub indicatorIs : p .line .indicator ≡ i
   pub identifierIs : p .line .identifier ≡ name
   pub kindIs : middleNumber (p .line .middle) ≡ kind
   pub between : List ℕ
   pub faultBetween : ℕ
-  pub middleWritten : WrittenMiddle ls indicator w between 0 middle 0 faultBetween (p .line .middle)
+  pub middleWritten : WrittenMiddle ls indicator w between to middle 0 faultBetween (p .line .middle)
   pub below : SameBelow middle between w′
   pub long : length between ≡ length w
   pub categoryWritten : WrittenCategory ls indicator between w′ middle end faultBetween fault (p .line .category)
 
--- `middle:category` and byte 10 were read from `at` on; the middle has r′ .count cells
-pub record BodyRead (ks s book tb : List ℕ) (lines indicator : ℕ) (w w′ : List ℕ) (at kind : ℕ) (r′ : Reading) : Type 0 where
-  pub long : length w′ ≡ length w
-  pub upward : r′ .code ≡ 0 → r′ .count ≤ r′ .to
-  pub read : (ls : Lines) → Lookup ls ks book tb lines indicator → MiddleKind ks s at kind → (i : Option Bytes) (before : ℕ) (name : Bytes)
-      → ReadTo s (LineWritten ls indicator w w′ kind (r′ .count) (r′ .to) (r′ .fault) before i name) (r′ .code) (r′ .at) (afterHeading i before name (drop at s))
+-- `middle:category` and byte 10 were read from `at` on, their cells from `to` on; the middle's end at r′ .count
+pub record BodyRead (ks s book tb : List ℕ) (lines indicator : ℕ) (w w′ : List ℕ) (at to kind : ℕ) (r′ : Reading) : Type 0 where
+  pub below : SameBelow to w w′
+  pub upward : r′ .code ≡ 0 → (to ≤ r′ .count) × (r′ .count ≤ r′ .to)
+  pub read : (ls : Lines) → Lookup ls ks book tb lines indicator w to → MiddleKind ks s at kind → (i : Option Bytes) (before : ℕ) (name : Bytes)
+      → ReadTo s (LineWritten ls indicator w w′ to kind (r′ .count) (r′ .to) (r′ .fault) before i name) (r′ .code) (r′ .at) (afterHeading i before name (drop at s))
 
 -- r is the indicator's line, 0 if empty; 8,192 where it is no `EB` line
 pub data IndicatorFound (lines r : ℕ) : Found ℕ → Type 0 where
   isLine : {v : ℕ} → r ≡ v → v ≤ lines → IndicatorFound lines r (Found.found v)
   noLine : r ≡ 8192 → IndicatorFound lines r (Found.refused unknownName)
 
--- the line p as it was read: where its identifier is, its row's numbers, and its cells in the store
-pub record LineRead (s : Bytes) (w′ : List ℕ) (l : Line) (p : Passed) : Type 0 where
+-- the line p as it was read: where its identifier is, its row's numbers, and its cells in the store from `to` on
+pub record LineRead (s : Bytes) (w′ : List ℕ) (to : ℕ) (l : Line) (p : Passed) : Type 0 where
   pub firstIs : l .first ≡ p .before
   pub lenIs : l .len ≡ length (p .line .identifier)
   pub within : l .first + l .len ≤ length s
@@ -123,21 +127,21 @@ pub record LineRead (s : Bytes) (w′ : List ℕ) (l : Line) (p : Passed) : Type
   pub middleIs : l .middle ≡ length (kindCells (p .line .kind))
   pub sizeIs : l .size ≡ length (lineCells (p .line))
   pub after : List ℕ
-  pub cellsAt : At w′ 0 (lineCells (p .line)) after
+  pub cellsAt : At w′ to (lineCells (p .line)) after
 
--- the same for a store of at least 2 × limit cells
+-- the same for a store of 26 × limit cells: hints in the first 24 × limit, which stay as they were, then the line's cells
 pub record LineReadInto (ks s book tb : List ℕ) (lines limit : ℕ) (w w′ : List ℕ) (l : Line) : Type 0 where
-  pub long : length w′ ≡ length w
-  pub read : (ls : Lines) → KindsTable ks → Known ls book tb lines → 2 * limit ≤ length w
-      → (b : ℕ) → Result (LineRead s w′ l) (l .code) b (readLine ls limit s b)
+  pub below : SameBelow (24 * limit) w w′
+  pub read : (ls : Lines) → KindsTable ks → Known ls book tb lines → 16 ≤ limit → length w ≡ 26 * limit → Hinted book tb lines w
+      → (b : ℕ) → Result (LineRead s w′ (24 * limit) l) (l .code) b (readLine ls limit s b)
 
--- Only the first 2 × limit cells are written. With so many cells there, the code is 0 where the line passes, and else that of
--- its first refusal; with fewer it is 10.
+-- Only the units 24 and 25 are written. With them there, the code is 0 where the line passes, and else that of its first refusal;
+-- without them it is 10.
 pub record LineReadTo (ks s book tb : List ℕ) (lines limit : ℕ) (w w′ : List ℕ) (l : Line) : Type 0 where
-  pub outside : Outside 0 (2 * limit) w w′
-  pub noRoom : length w < 2 * limit → (w′ ≡ w) × (l .code ≡ 10)
-  pub read : (ls : Lines) → KindsTable ks → Known ls book tb lines → 2 * limit ≤ length w
-      → (b : ℕ) → Result (LineRead s w′ l) (l .code) b (readLine ls limit s b)
+  pub outside : Outside (24 * limit) (26 * limit) w w′
+  pub noRoom : length w < 26 * limit → (w′ ≡ w) × (l .code ≡ 10)
+  pub read : (ls : Lines) → KindsTable ks → Known ls book tb lines → 16 ≤ limit → 26 * limit ≤ length w → Hinted book tb lines (take (26 * limit) w)
+      → (b : ℕ) → Result (LineRead s w′ (24 * limit) l) (l .code) b (readLine ls limit s b)
 
 -- r is the end of the first line of what is left of the book at `at`
 pub record LineEnd (book : Bytes) (at r : ℕ) : Type 0 where

@@ -7,7 +7,7 @@ use symbols::same_bytes;
 use symbols::spaces;
 use symbols::symbol;
 use symbols::word_end;
-ghost use Prim.Native.Nat.{_≤_};
+ghost use Prim.Native.Nat.{_+_, _≤_};
 ghost use lib.ListN.{length};
 ghost use Rattle.reader.specs.Posts.{MiddleKind, MiddleRead, CategoryRead, BodyRead};
 
@@ -27,7 +27,7 @@ pub fn middle_kind(line: &[u8], kinds: &[u8; 256], at: usize) -> u32
     2
 }
 
-// The middle (aMiddle), its cells from index 0 on. kind 0 or 1: past the word, no cells.
+// The middle (aMiddle), its cells from index `to` on. kind 0 or 1: past the word, no cells.
 fn middle(
     line: &[u8],
     kinds: &[u8; 256],
@@ -37,10 +37,11 @@ fn middle(
     indicator: usize,
     w: &mut [u16],
     at: usize,
+    to: usize,
     kind: u32,
 ) -> Reading
-    requires { ⌜ at ≤ length (now line) ⌝ }
-    ensures { λ r. ⌜ MiddleRead (now (kinds .entry)) (now (line .entry)) (now (book .entry)) (now (table .entry)) lines indicator (now (w .entry)) (now (w .exit)) at kind r ⌝ }
+    requires { ⌜ (at ≤ length (now line)) × (to ≤ length (now w)) ⌝ }
+    ensures { λ r. ⌜ MiddleRead (now (kinds .entry)) (now (line .entry)) (now (book .entry)) (now (table .entry)) lines indicator (now (w .entry)) (now (w .exit)) at to kind r ⌝ }
 {
     if kind < 2 {
         let start = spaces(line, at);
@@ -48,7 +49,7 @@ fn middle(
         return Reading {
             code: 0,
             at: end,
-            to: 0,
+            to: to,
             fault: 0,
             count: 0,
         };
@@ -56,7 +57,7 @@ fn middle(
     let r = Reading {
         code: 0,
         at: at,
-        to: 0,
+        to: to,
         fault: 0,
         count: 0,
     };
@@ -75,7 +76,7 @@ fn category(
     w: &mut [u16],
     r: Reading,
 ) -> Reading
-    requires { ⌜ (r .to ≤ r .at) × (r .at ≤ length (now line)) ⌝ }
+    requires { ⌜ (r .to ≤ length (now w) + r .at) × (r .at ≤ length (now line)) ⌝ }
     ensures { λ c. ⌜ CategoryRead (now (kinds .entry)) (now (line .entry)) (now (book .entry)) (now (table .entry)) lines indicator (now (w .entry)) (now (w .exit)) r c ⌝ }
 {
     let start = spaces(line, r.at);
@@ -94,8 +95,8 @@ fn category(
     expression(line, kinds, book, table, lines, indicator, w, r, scope)
 }
 
-// Middle and category: `middle:category` and byte 10, the line's last, from `at` on. The middle's cells from 0 on, the
-// category's behind them; `count` is the cells of the middle.
+// Middle and category: `middle:category` and byte 10, the line's last, from `at` on. The middle's cells from `to` on, the
+// category's behind them from `count` on.
 pub fn body(
     line: &[u8],
     kinds: &[u8; 256],
@@ -105,12 +106,13 @@ pub fn body(
     indicator: usize,
     w: &mut [u16],
     at: usize,
+    to: usize,
     kind: u32,
 ) -> Reading
-    requires { ⌜ at ≤ length (now line) ⌝ }
-    ensures { λ r. ⌜ BodyRead (now (kinds .entry)) (now (line .entry)) (now (book .entry)) (now (table .entry)) lines indicator (now (w .entry)) (now (w .exit)) at kind r ⌝ }
+    requires { ⌜ (at ≤ length (now line)) × (to ≤ length (now w)) ⌝ }
+    ensures { λ r. ⌜ BodyRead (now (kinds .entry)) (now (line .entry)) (now (book .entry)) (now (table .entry)) lines indicator (now (w .entry)) (now (w .exit)) at to kind r ⌝ }
 {
-    let m = middle(line, kinds, book, table, lines, indicator, w, at, kind);
+    let m = middle(line, kinds, book, table, lines, indicator, w, at, to, kind);
     if m.code != 0 {
         return m;
     }

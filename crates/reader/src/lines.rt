@@ -4,12 +4,13 @@ use crate::body::middle_kind;
 use crate::heading::heading;
 use names::find;
 ghost use mathlib.Core.Path.{_≡_};
-ghost use Prim.Native.Nat.{_+_, _≤_, _<_};
+ghost use Prim.Native.Nat.{_+_, _*_, _≤_, _<_};
 ghost use lib.ListN.{length};
 ghost use Rattle.aut68.specs.Lines.{Lines};
 ghost use Rattle.aut68.specs.Procedure.Resolve.{indicatorLine};
 ghost use Rattle.cells.specs.Cells.{rowCell};
 ghost use Rattle.names.specs.Known.{Known};
+ghost use Rattle.names.specs.Hints.{Hinted};
 ghost use Rattle.reader.specs.ReadLine.{nameOr};
 ghost use Rattle.reader.specs.Posts.{IndicatorFound, LineReadInto, LineReadTo};
 
@@ -19,17 +20,18 @@ fn indicator_line(
     book: &[u8],
     table: &[u32],
     lines: usize,
+    w: &[u16],
     start: usize,
     len: usize,
 ) -> usize
     requires { ⌜ start + len ≤ length (now line) ⌝ }
-    ensures { λ r. ⌜ ((ls : Lines) → Known ls (now (book .entry)) (now (table .entry)) lines → IndicatorFound lines r (indicatorLine ls (nameOr (now (line .entry)) start len))) ⌝ }
+    ensures { λ r. ⌜ ((ls : Lines) → Known ls (now (book .entry)) (now (table .entry)) lines → Hinted (now (book .entry)) (now (table .entry)) lines (now (w .entry)) → IndicatorFound lines r (indicatorLine ls (nameOr (now (line .entry)) start len))) ⌝ }
 {
     if len == 0 {
         return 0;
     }
     let end = start + len;
-    let v = find(book, table, lines, &line[start..end]);
+    let v = find(book, table, lines, w, &line[start..end]);
     if v == 0 {
         return 8192;
     }
@@ -70,7 +72,7 @@ fn bad_line(code: u32) -> Line
 }
 
 // The line: form, indicator, identifier, sizes, names, in that order of refusals (readLine), with the cells of middle and
-// category from index 0 of w on, which has twice `limit` cells.
+// category in the last two of the 26 units of w, behind the hints.
 fn read_into(
     line: &[u8],
     kinds: &[u8; 256],
@@ -80,8 +82,10 @@ fn read_into(
     w: &mut [u16],
     limit: usize,
 ) -> Line
+    requires { ⌜ length (now w) ≡ 26 * limit ⌝ }
     ensures { λ l. ⌜ LineReadInto (now (kinds .entry)) (now (line .entry)) (now (book .entry)) (now (table .entry)) lines limit (now (w .entry)) (now (w .exit)) l ⌝ }
 {
+    let to = 24 * limit;
     let h = heading(line, kinds);
     if h.code != 0 {
         return bad_line(h.code);
@@ -89,10 +93,10 @@ fn read_into(
     let at = h.at;
     let first = h.first;
     let size = h.size;
-    let found = indicator_line(line, book, table, lines, h.start, h.len);
+    let found = indicator_line(line, book, table, lines, w, h.start, h.len);
     let indicator = known_line(found);
     let kind = middle_kind(line, kinds, at);
-    let b = body(line, kinds, book, table, lines, indicator, w, at, kind);
+    let b = body(line, kinds, book, table, lines, indicator, w, at, to, kind);
     if b.code != 0 {
         return bad_line(b.code);
     }
@@ -100,12 +104,12 @@ fn read_into(
         return bad_line(cells::UNKNOWN_NAME);
     }
     let end = first + size;
-    let taken = find(book, table, lines, &line[first..end]);
+    let taken = find(book, table, lines, w, &line[first..end]);
     if taken != 0 {
         return bad_line(cells::DUPLICATE);
     }
-    let cells = b.count;
-    let all = b.to;
+    let cells = b.count - to;
+    let all = b.to - to;
     if cells > limit {
         return bad_line(cells::TOO_LARGE);
     }
@@ -128,8 +132,8 @@ fn read_into(
     }
 }
 
-// The line, with the cells of middle and category from index 0 of w on. Writes the first 2 × limit cells of w alone; where w has
-// fewer, nothing, and the answer is 10.
+// The line, with the cells of middle and category from unit 24 of w on, and the hints in the units before it. Writes the units 24
+// and 25 alone; where w does not have them, nothing, and the answer is 10.
 pub fn read_line(
     line: &[u8],
     kinds: &[u8; 256],
@@ -141,10 +145,10 @@ pub fn read_line(
 ) -> Line
     ensures { λ l. ⌜ LineReadTo (now (kinds .entry)) (now (line .entry)) (now (book .entry)) (now (table .entry)) lines limit (now (w .entry)) (now (w .exit)) l ⌝ }
 {
-    if limit > w.len() / 2 {
+    if limit > w.len() / 26 {
         return bad_line(cells::TOO_LARGE);
     }
-    let n = 2 * limit;
+    let n = 26 * limit;
     read_into(line, kinds, book, table, lines, &mut w[..n], limit)
 }
 

@@ -40,7 +40,7 @@ returns c =
     line-as (c .stopped .ensures)
     (record {
       onward = λ z. absurd (c .before .if1 .taken z);
-      means = λ f t h. ends-unread h (a .p .budget) (c .before .before .before .before .before .before .before .before .before .before .before .before .before .before .pre) (e .ensures) f t (r .ensures) (c .before .if1 .taken);
+      means = λ f t h i. ends-unread h (a .p .budget) (c .before .before .before .before .before .before .before .before .before .before .before .before .before .before .pre) (e .ensures) f t i (r .ensures) (c .before .if1 .taken);
     })
 
 has-room-requires : tie.Need-has-room-requires
@@ -63,7 +63,7 @@ returns-2 c =
     line-as (c .stopped2 .ensures)
     (record {
       onward = λ z. absurd (omega arith);
-      means = λ f t h. ends-full h (a .p .budget) (c .before .before .before .before .before .before .before .before .before .before .before .before .before .before .before .before .pre) (e .ensures) f t (r .ensures) (c .before .before .before .if1 .left) (c .before .if2 .taken) (c .before .before .has-room .ensures);
+      means = λ f t h i. ends-full h (a .p .budget) (c .before .before .before .before .before .before .before .before .before .before .before .before .before .before .before .before .pre) (e .ensures) f t i (r .ensures) (c .before .before .before .if1 .left) (c .before .if2 .taken) (c .before .before .has-room .ensures);
     })
 
 sum-requires : tie.Need-sum-requires
@@ -102,15 +102,18 @@ returns-3 c =
     (record {
       onward = λ z. absurd (c .before .if3 .taken z);
       means =
-          λ f t h. ends-refused h (a .p .budget) (c .before .before .before .before .before .before .before .before .before .before .before .before .before .before .before .before .before .before .before .before .before .before .before .before .before .before .before .before .before .pre) (e .ensures) f t (r .ensures) (c .before .before .before .before .before .before .before .before .before .before .before .before .before .before .before .before .if1 .left) (c .before .before .before .before .before .before .before .before .before .before .before .before .before .before .if2 .left) (c .before .before .before .before .before .before .before .before .before .before .before .before .before .before .before .has-room .ensures)
+          λ f t h i. ends-refused h (a .p .budget) (c .before .before .before .before .before .before .before .before .before .before .before .before .before .before .before .before .before .before .before .before .before .before .before .before .before .before .before .before .before .pre) (e .ensures) f t i (r .ensures) (c .before .before .before .before .before .before .before .before .before .before .before .before .before .before .before .before .if1 .left) (c .before .before .before .before .before .before .before .before .before .before .before .before .before .before .if2 .left) (c .before .before .before .before .before .before .before .before .before .before .before .before .before .before .before .has-room .ensures)
           (c .before .before .before .before .before .before .before .before .before .before .before .before .before .sum .ensures) (k .ensures) (c .before .if3 .taken);
     })
 
+note-line-requires : tie.Need-note-line-requires
+note-line-requires c κs = search needs
+
 add-t25 : tie.Need-add-t25
-add-t25 c = omega (arith, room-here (c .before .before .before .before .before .before .before .before .before .before .before .before .before) .0)
+add-t25 c = omega (arith, room-here (c .before .before .before .before .before .before .before .before .before .before .before .before .before .before .before .before .before .before) .0)
 
 add-t17 : tie.Need-add-t17
-add-t17 c = omega (arith, c .before .before .before .before .before .before .before .before .before .before .before .before .before .before .before .before .before .before .before .before .before .before .before .before .before .before .before .before .before .good .1 .1 .1 .0 .0, room-here (c .before .before .before .before .before .before .before .before .before .before .before .before .before .before) .2)
+add-t17 c = omega (arith, c .before .before .before .before .before .before .before .before .before .before .before .before .before .before .before .before .before .before .before .before .before .before .before .before .before .before .before .before .before .before .before .before .before .before .good .1 .1 .1 .0 .0, room-here (c .before .before .before .before .before .before .before .before .before .before .before .before .before .before .before .before .before .before .before) .2)
 
 same-length-8 : tie.Need-same-length-8
 same-length-8 c = search needs
@@ -123,15 +126,15 @@ same-length-10 c = search needs
 
 returns-4 : tie.Need-returns-4
 returns-4 c =
-    let a = c .before .before .before .before .before .before .before .before .before .before .before .before .before .before .before .before .before .before .before .before .before .before .before .before .before .before .before .before .before .args in
-    let e = c .before .before .before .before .before .before .before .before .before .before .before .before .before .before .before .before .before .before .before .before .before .before .before .before .line-end in
-    let r = c .before .before .before .before .before .before .before .before .before .before .before .before .before .before .before .before .before .before .before .before .read-line in
-    let k = c .before .before .before .before .before .before .before .before .before .check-stored in
+    let a = c .before .before .before .before .before .before .before .before .before .before .before .before .before .before .before .before .before .before .before .before .before .before .before .before .before .before .before .before .before .before .before .before .before .before .args in
+    let e = c .before .before .before .before .before .before .before .before .before .before .before .before .before .before .before .before .before .before .before .before .before .before .before .before .before .before .before .before .before .line-end in
+    let r = c .before .before .before .before .before .before .before .before .before .before .before .before .before .before .before .before .before .before .before .before .before .before .before .before .before .read-line in
+    let k = c .before .before .before .before .before .before .before .before .before .before .before .before .before .before .check-stored in
     record {
-      onward = λ z. (e .ensures .from (c .before .before .before .before .before .before .before .before .before .before .before .before .before .before .before .before .before .before .before .before .before .before .before .before .before .before .before .before .before .pre), e .ensures .within (omega (arith, c .before .before .before .before .before .before .before .before .before .before .before .before .before .before .before .before .before .before .before .before .before .before .before .before .before .before .before .before .before .pre)));
+      onward = λ z. (e .ensures .from (c .before .before .before .before .before .before .before .before .before .before .before .before .before .before .before .before .before .before .before .before .before .before .before .before .before .before .before .before .before .before .before .before .before .before .pre), e .ensures .within (omega (arith, c .before .before .before .before .before .before .before .before .before .before .before .before .before .before .before .before .before .before .before .before .before .before .before .before .before .before .before .before .before .before .before .before .before .before .pre)));
       means =
-          λ f t h. ends-passed h (a .p .budget) (c .before .before .before .before .before .before .before .before .before .before .before .before .before .before .before .before .before .before .before .before .before .before .before .before .before .before .before .before .before .pre) (e .ensures) f t (r .ensures) (c .before .before .before .before .before .before .before .before .before .before .before .before .before .before .before .before .if1 .left) (c .before .before .before .before .before .before .before .before .before .before .before .before .before .before .if2 .left) (c .before .before .before .before .before .before .before .before .before .before .before .before .before .before .before .has-room .ensures)
-          (c .before .before .before .before .before .before .before .before .before .before .before .before .before .sum .ensures) (k .ensures) (c .before .if3 .left);
+          λ f t h i. ends-passed h (a .p .budget) (c .before .before .before .before .before .before .before .before .before .before .before .before .before .before .before .before .before .before .before .before .before .before .before .before .before .before .before .before .before .before .before .before .before .before .pre) (e .ensures) f t i (r .ensures) (c .before .before .before .before .before .before .before .before .before .before .before .before .before .before .before .before .before .before .before .before .before .if1 .left) (c .before .before .before .before .before .before .before .before .before .before .before .before .before .before .before .before .before .before .before .if2 .left) (c .before .before .before .before .before .before .before .before .before .before .before .before .before .before .before .before .before .before .before .before .has-room .ensures)
+          (c .before .before .before .before .before .before .before .before .before .before .before .before .before .before .before .before .before .before .sum .ensures) (k .ensures) (c .before .before .before .before .before .before .if3 .left) (c .before .before .before .note-line .ensures);
     }
 
 pub check-line-spec : {M : Type 1} → statement M
@@ -159,6 +162,7 @@ check-line-spec =
     same-length-6
     same-length-7
     returns-3
+    note-line-requires
     add-t25
     add-t17
     same-length-8

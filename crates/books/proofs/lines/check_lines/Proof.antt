@@ -9,23 +9,29 @@ use Rattle.books.proofs.lines.check_lines.Statement.{statement}
 use Rattle.books.proofs.lines.check_lines.Tie as tie
 
 abbrev Inv-loop : tie.InvT-loop
-Inv-loop book table₀ store₀ w₀ limit budget kinds p₀ table store w p =
+Inv-loop book table₀ store₀ w₀ limit budget kinds hints p₀ table store w p =
     (p .code ≡ 0)
     × (length table ≡ length table₀)
     × (length store ≡ length store₀)
     × (length w ≡ length w₀)
-    × Going book limit budget table₀ store₀ (p .at) (p .lines) (p .used) (p .budget) table store
+    × Going book limit budget table₀ store₀ (p .at) (p .lines) (p .used) (p .budget) table store w
 
 abbrev μ-loop : tie.MeasureT-loop
-μ-loop book table₀ store₀ w₀ limit budget kinds p₀ table store w p = length book - p .at
+μ-loop book table₀ store₀ w₀ limit budget kinds hints p₀ table store w p = length book - p .at
 
 kinds-of-bytes-requires : tie.Need-kinds-of-bytes-requires Inv-loop μ-loop
 kinds-of-bytes-requires c κs = tt
 
+line-at-requires : tie.Need-line-at-requires Inv-loop μ-loop
+line-at-requires c κs = tt
+
+clear-requires : tie.Need-clear-requires Inv-loop μ-loop
+clear-requires c κs = tt
+
 loop-holds : tie.Need-loop-holds Inv-loop μ-loop
 loop-holds c =
-    let a = c .before .before .before .before .before .args in
-    (refl, refl, refl, refl, going-starts (a .book .now) (a .limit) (a .budget) (a .table .now) (a .store .now))
+    let a = c .before .before .before .before .before .before .before .before .before .before .args in
+    (refl, refl, refl, refl, going-starts (a .book .now) (a .limit) (a .budget) (a .table .now) (a .store .now) (c .before .before .clear .last .0))
 
 check-line-requires : tie.Need-check-line-requires Inv-loop μ-loop
 check-line-requires c κs = c .before .before .before .before .if1 .taken
@@ -37,28 +43,28 @@ same-length-2 : tie.Need-same-length-2 Inv-loop μ-loop
 same-length-2 c = c .before .before .before .before .before .before .before .before .check-line .kept .1 .1 .1 .0 ∙ c .before .before .before .before .before .before .before .before .before .before .before .before .before .before .before .loop .inv .2
 
 same-length-3 : tie.Need-same-length-3 Inv-loop μ-loop
-same-length-3 c = c .before .before .before .before .before .before .before .before .check-line .kept .1 .1 .1 .1 .0 ∙ c .before .before .before .before .before .before .before .before .before .before .before .before .before .before .before .loop .inv .3
+same-length-3 c = c .before .before .before .before .before .before .before .before .check-line .kept .1 .1 .1 .1 .0 ∙ c .before .before .before .before .before .before .before .before .before .before .before .before .before .before .before .loop .inv .3 ∙ c .before .before .before .before .before .before .before .before .before .before .before .before .before .before .before .before .before .before .clear .kept .0
 
 returns : tie.Need-returns Inv-loop μ-loop
 returns c =
-    let a = c .before .before .before .before .before .before .before .before .before .before .before .before .before .before .before .before .before .before .before .before .before .args in
+    let a = c .before .before .before .before .before .before .before .before .before .before .before .before .before .before .before .before .before .before .before .before .before .before .before .before .before .before .args in
     let k = c .before .before .before .before .before .before .before .before .check-line in
     let v = c .before .before .before .before .before .before .before .before .before .before .before .before .before .before .before .loop .inv in
-    going-stops (a .book .now) (a .limit) (a .budget) (a .table .now) (a .store .now) (v .4) (c .if2 .taken) (k .ensures .means (fitting-as (c .before .before .before .before .before .before .before .before .before .before .before .before .before .before .before .before .before .before .before .before .before .pre) (v .3)) (c .before .before .before .before .before .before .before .before .before .before .before .before .before .before .before .before .kinds-of-bytes .ensures) (v .4 .reached))
+    going-stops (a .book .now) (a .limit) (a .budget) (a .table .now) (a .store .now) (v .4) (c .if2 .taken) (k .ensures .means (fitting-as (c .before .before .before .before .before .before .before .before .before .before .before .before .before .before .before .before .before .before .before .before .before .before .before .before .before .before .pre) (v .3 ∙ c .before .before .before .before .before .before .before .before .before .before .before .before .before .before .before .before .before .before .clear .kept .0)) (c .before .before .before .before .before .before .before .before .before .before .before .before .before .before .before .before .before .before .before .before .before .kinds-of-bytes .ensures) (v .4 .reached) (v .4 .hinted))
 
 loop-less : tie.Need-loop-less Inv-loop μ-loop
 loop-less c = omega (arith, c .before .before .before .before .before .before .before .before .check-line .ensures .onward (c .if2 .left))
 
 loop-again : tie.Need-loop-again Inv-loop μ-loop
 loop-again c =
-    let a = c .before .before .before .before .before .before .before .before .before .before .before .before .before .before .before .before .before .before .before .before .before .args in
+    let a = c .before .before .before .before .before .before .before .before .before .before .before .before .before .before .before .before .before .before .before .before .before .before .before .before .before .before .args in
     let k = c .before .before .before .before .before .before .before .before .check-line in
     let v = c .before .before .before .before .before .before .before .before .before .before .before .before .before .before .before .loop .inv in (
       c .if2 .left,
       k .kept .1 .1 .0 ∙ v .1,
       k .kept .1 .1 .1 .0 ∙ v .2,
       k .kept .1 .1 .1 .1 .0 ∙ v .3,
-      going-on (a .book .now) (a .limit) (a .budget) (a .table .now) (a .store .now) (v .4) (c .if2 .left) (k .ensures .means (fitting-as (c .before .before .before .before .before .before .before .before .before .before .before .before .before .before .before .before .before .before .before .before .before .pre) (v .3)) (c .before .before .before .before .before .before .before .before .before .before .before .before .before .before .before .before .kinds-of-bytes .ensures) (v .4 .reached)),
+      going-on (a .book .now) (a .limit) (a .budget) (a .table .now) (a .store .now) (v .4) (c .if2 .left) (k .ensures .means (fitting-as (c .before .before .before .before .before .before .before .before .before .before .before .before .before .before .before .before .before .before .before .before .before .before .before .before .before .before .pre) (v .3 ∙ c .before .before .before .before .before .before .before .before .before .before .before .before .before .before .before .before .before .before .clear .kept .0)) (c .before .before .before .before .before .before .before .before .before .before .before .before .before .before .before .before .before .before .before .before .before .kinds-of-bytes .ensures) (v .4 .reached) (v .4 .hinted)),
     )
 
 same-length-4 : tie.Need-same-length-4 Inv-loop μ-loop
@@ -68,11 +74,11 @@ same-length-5 : tie.Need-same-length-5 Inv-loop μ-loop
 same-length-5 c = c .before .before .loop .inv .2
 
 same-length-6 : tie.Need-same-length-6 Inv-loop μ-loop
-same-length-6 c = c .before .before .loop .inv .3
+same-length-6 c = c .before .before .loop .inv .3 ∙ c .before .before .before .before .before .clear .kept .0
 
 returns-2 : tie.Need-returns-2 Inv-loop μ-loop
 returns-2 c =
-    let a = c .before .before .before .before .before .before .before .before .args in
+    let a = c .before .before .before .before .before .before .before .before .before .before .before .before .before .args in
     let v = c .before .before .loop .inv in
     ends-as (v .0) (going-ends (a .book .now) (a .limit) (a .budget) (a .table .now) (a .store .now) (v .4) (c .if1 .left))
 
@@ -83,6 +89,8 @@ check-lines-spec =
     Inv-loop
     μ-loop
     kinds-of-bytes-requires
+    line-at-requires
+    clear-requires
     loop-holds
     check-line-requires
     same-length

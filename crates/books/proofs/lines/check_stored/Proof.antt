@@ -5,10 +5,13 @@ use Prim.Native.Nat.{_+_, _*_}
 use native.Mathlib.Omega.{arith}
 use lib.Seq.{length-take-le}
 use Rattle.cells.specs.Results.{result-map}
-use Rattle.books.proofs.StoreLaws.{result-refused, row-with, category-starts, cells-stored, checked, put-back}
+use Rattle.books.proofs.StoreLaws.{hints-stay, hints-stay-back, result-refused, row-with, category-starts, cells-stored, checked, put-back}
 use borrow.Author.Needs.{needs}
 use Rattle.books.proofs.lines.check_stored.Statement.{statement}
 use Rattle.books.proofs.lines.check_stored.Tie as tie
+
+line-at-requires : tie.Need-line-at-requires
+line-at-requires c κs = search needs
 
 exchange-requires : tie.Need-exchange-requires
 exchange-requires c κs = search needs
@@ -42,14 +45,17 @@ same-length-3 c = search needs
 
 returns : tie.Need-returns
 returns c =
-    let a = c .before .before .before .before .before .before .before .before .before .before .before .before .before .before .before .before .before .before .before .before .before .before .before .before .before .before .args in
+    let a = c .before .before .before .before .before .before .before .before .before .before .before .before .before .before .before .before .before .before .before .before .before .before .before .before .before .before .before .args in
     let x = c .before .before .before .before .before .before .before .before .before .before .before .before .before .before .before .before .before .before .before .before .exchange in
     let k = c .before .before .before .before .before .before .before .before .before .before .before .check-cells in
     let m = c .before .before .before .before .before .before .before .before .before .before .before .before .before .before .before .sum in
-    let fits = c .before .before .before .before .before .before .before .before .before .before .before .before .before .before .before .before .before .before .before .before .before .before .before .before .before .before .pre in
+    let fits = c .before .before .before .before .before .before .before .before .before .before .before .before .before .before .before .before .before .before .before .before .before .before .before .before .before .before .before .pre in
+    let t = c .before .before .before .before .before .before .before .before .before .before .before .before .before .before .before .before .before .before .before .before .before .before .before .line-at .ensures in
     record {
-      means = λ s. result-refused (c .before .before .before .before .before .before .before .if1 .taken) (checked s fits (x .last .0) (x .last .1 .1 .0) (k .last .1 .1 .1 .1 .0) (m .result) (a .budget) (k .result .code) (k .result .budget) (x .ensures .0) (x .ensures .1) (m .ensures) (k .ensures));
-      restored = λ s n. (refl, put-back s fits (x .last .0) (x .last .1 .1 .0) (k .last .1 .1 .1 .1 .0) (m .result) (a .budget) (k .result .code) (k .result .budget) (x .ensures .0) (x .ensures .1) (k .ensures) (c .before .before .before .before .exchange2 .ensures .0));
+      long = same-length-3 c;
+      below = hints-stay-back (a .limit) (c .before .before .before .before .before .before .before .before .before .before .before .before .before .before .before .before .before .before .before .before .before .before .before .line-at .result) (a .used) (a .l .size) t (a .store .now) (a .w .now) (x .ensures .1) (k .ensures) (x .last .0) (c .before .before .before .before .exchange2 .ensures .1);
+      means = λ s. result-refused (c .before .before .before .before .before .before .before .if1 .taken) (checked s fits t (x .last .0) (x .last .1 .1 .0) (k .last .1 .1 .1 .1 .0) (m .result) (a .budget) (k .result .code) (k .result .budget) (x .ensures .0) (x .ensures .1) (m .ensures) (k .ensures));
+      restored = λ s n. (refl, put-back s fits t (x .last .0) (x .last .1 .1 .0) (k .last .1 .1 .1 .1 .0) (m .result) (a .budget) (k .result .code) (k .result .budget) (x .ensures .0) (x .ensures .1) (k .ensures) (c .before .before .before .before .exchange2 .ensures .0));
     }
 
 put-row-requires : tie.Need-put-row-requires
@@ -66,19 +72,22 @@ same-length-6 c = search needs
 
 returns-2 : tie.Need-returns-2
 returns-2 c =
-    let a = c .before .before .before .before .before .before .before .before .before .before .before .before .before .before .before .before .before .before .before .before .before .before .before .args in
+    let a = c .before .before .before .before .before .before .before .before .before .before .before .before .before .before .before .before .before .before .before .before .before .before .before .before .args in
     let x = c .before .before .before .before .before .before .before .before .before .before .before .before .before .before .before .before .before .exchange in
     let k = c .before .before .before .before .before .before .before .before .check-cells in
     let m = c .before .before .before .before .before .before .before .before .before .before .before .before .sum in
-    let fits = c .before .before .before .before .before .before .before .before .before .before .before .before .before .before .before .before .before .before .before .before .before .before .before .pre in
+    let fits = c .before .before .before .before .before .before .before .before .before .before .before .before .before .before .before .before .before .before .before .before .before .before .before .before .pre in
+    let t = c .before .before .before .before .before .before .before .before .before .before .before .before .before .before .before .before .before .before .before .before .line-at .ensures in
     record {
+      long = same-length-6 c;
+      below = hints-stay (a .limit) (c .before .before .before .before .before .before .before .before .before .before .before .before .before .before .before .before .before .before .before .before .line-at .result) (a .used) (a .l .size) t (a .store .now) (a .w .now) (x .ensures .1) (k .ensures);
       means =
           λ s. result-map
           (λ u h. record {
-            tableIs = λ n b. row-with (a .table .now) (c .before .before .put-row .last .0) (8 * a .lines) 4294967296 (λ y. a .first ∷ a .l .len ∷ a .l .indicator ∷ a .l .context ∷ a .l .kind ∷ a .used ∷ y ∷ (a .used + a .l .size) ∷ []) (m .ensures (category-starts s fits)) (c .before .before .put-row .ensures n) b;
-            termsAre = cells-stored s fits (x .last .0) (x .ensures .0);
+            tableIs = λ n b. row-with (a .table .now) (c .before .before .put-row .last .0) (8 * a .lines) 4294967296 (λ y. a .first ∷ a .l .len ∷ a .l .indicator ∷ a .l .context ∷ a .l .kind ∷ a .used ∷ y ∷ (a .used + a .l .size) ∷ []) (m .ensures (category-starts s fits t)) (c .before .before .put-row .ensures n) b;
+            termsAre = cells-stored s fits t (x .last .0) (x .ensures .0);
           })
-          (checked s fits (x .last .0) (x .last .1 .1 .0) (k .last .1 .1 .1 .1 .0) (m .result) (a .budget) (k .result .code) (k .result .budget) (x .ensures .0) (x .ensures .1) (m .ensures) (k .ensures));
+          (checked s fits t (x .last .0) (x .last .1 .1 .0) (k .last .1 .1 .1 .1 .0) (m .result) (a .budget) (k .result .code) (k .result .budget) (x .ensures .0) (x .ensures .1) (m .ensures) (k .ensures));
       restored = λ s n. absurd (n (c .before .before .before .before .if1 .left));
     }
 
@@ -86,6 +95,7 @@ pub check-stored-spec : {M : Type 1} → statement M
 check-stored-spec =
     tie.close
     (tie.spec
+    line-at-requires
     exchange-requires
     add-stop
     sum-requires

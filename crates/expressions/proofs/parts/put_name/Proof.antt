@@ -38,7 +38,7 @@ same-length : tie.Need-same-length
 same-length c = search needs
 
 returns-3 : tie.Need-returns-3
-returns-3 c = put-meaning (c .before .before .before .if1 .left) (record { is = refl }) (part _ (c .before .before .before .before .before .before .before .before .args .start) (c .before .before .before .before .before .before .before .before .args .start + c .before .before .before .before .before .before .before .before .args .len) (omega arith)) (c .before .before .before .before .before .before .before .before .pre) (c .meaning-of .ensures)
+returns-3 c = put-meaning (c .before .before .before .before .if1 .left) (record { is = refl }) (part _ (c .before .before .before .before .before .before .before .before .before .args .start) (c .before .before .before .before .before .before .before .before .before .args .start + c .before .before .before .before .before .before .before .before .before .args .len) (omega arith)) (c .before .before .before .before .before .before .before .before .before .pre) (c .meaning-of .ensures)
 
 pub put-name-spec : {M : Type 1} → statement M
 put-name-spec =

@@ -1,69 +1,62 @@
 use native.Mathlib.Omega.{arith}
-use mathlib.Core.Path.{refl, sym, _∙_}
 use Prim.Native.Nat.{_+_, _-_}
-use Rattle.names.proofs.FindLaws.{FindSoFar, find-start, find-short, find-here, find-more, find-nothing}
+use Rattle.names.proofs.ProbeLaws.{Passed, OtherName, passed-start, passed-more, found-by-rows, found-by-hint, found-nothing}
 use Rattle.names.proofs.names.find.Statement.{statement}
 use Rattle.names.proofs.names.find.Tie as tie
 
 abbrev Inv-loop : tie.InvT-loop
-Inv-loop book table lines word v₀ at₀ v at = FindSoFar book table lines word v at
+Inv-loop book table lines w word first i₀ i = Passed (OtherName book table lines word) w word first i
 
 abbrev μ-loop : tie.MeasureT-loop
-μ-loop book table lines word v₀ at₀ v at = lines - v
+μ-loop book table lines w word first i₀ i = 32 - i
+
+slot-of-requires : tie.Need-slot-of-requires Inv-loop μ-loop
+slot-of-requires c κs = tt
 
 loop-holds : tie.Need-loop-holds Inv-loop μ-loop
-loop-holds c = find-start
-
-sub-if1 : tie.Need-sub-if1 Inv-loop μ-loop
-sub-if1 c = omega arith
-
-returns : tie.Need-returns Inv-loop μ-loop
-returns c = find-short (c .before .before .loop .inv) (omega arith) (omega arith)
-
-mul-first : tie.Need-mul-first Inv-loop μ-loop
-mul-first c = omega arith
-
-shared-slice-read-first : tie.Need-shared-slice-read-first Inv-loop μ-loop
-shared-slice-read-first c = omega arith
-
-cast-first : tie.Need-cast-first Inv-loop μ-loop
-cast-first c = omega (arith, c .shared-slice-known4 .given (c .before .before .before .loop .at))
-
-add-n : tie.Need-add-n Inv-loop μ-loop
-add-n c = omega arith
-
-mul-n : tie.Need-mul-n Inv-loop μ-loop
-mul-n c = omega arith
-
-shared-slice-read-n : tie.Need-shared-slice-read-n Inv-loop μ-loop
-shared-slice-read-n c = omega arith
-
-cast-n : tie.Need-cast-n Inv-loop μ-loop
-cast-n c = omega (arith, c .shared-slice-known5 .given (c .before .before .before .before .loop .at + 1))
-
-part-is-requires : tie.Need-part-is-requires Inv-loop μ-loop
-part-is-requires c κs = tt
-
-add-result : tie.Need-add-result Inv-loop μ-loop
-add-result c = omega arith
-
-returns-2 : tie.Need-returns-2 Inv-loop μ-loop
-returns-2 c = find-here (c .before .before .before .before .before .before .loop .inv) (omega arith) refl refl (λ p. sym (c .before .part-is .ensures p) ∙ c .if2 .taken)
-
-add-v : tie.Need-add-v Inv-loop μ-loop
-add-v c = omega arith
+loop-holds c = passed-start (c .slot-of .ensures .0)
 
 add-at : tie.Need-add-at Inv-loop μ-loop
 add-at c = omega arith
+
+search-requires : tie.Need-search-requires Inv-loop μ-loop
+search-requires c κs = tt
+
+returns : tie.Need-returns Inv-loop μ-loop
+returns c = found-by-rows (c .search .ensures)
+
+mul-v : tie.Need-mul-v Inv-loop μ-loop
+mul-v c = omega arith
+
+shared-slice-read-v : tie.Need-shared-slice-read-v Inv-loop μ-loop
+shared-slice-read-v c = omega arith
+
+cast-v : tie.Need-cast-v Inv-loop μ-loop
+cast-v c = omega (arith, c .shared-slice-known5 .given (c .before .before .before .before .slot-of .result + c .before .before .before .loop .i))
+
+returns-2 : tie.Need-returns-2 Inv-loop μ-loop
+returns-2 c = found-nothing (c .before .before .before .before .loop .inv) (omega arith) (omega arith) (c .if2 .taken)
+
+line-is-requires : tie.Need-line-is-requires Inv-loop μ-loop
+line-is-requires c κs = tt
+
+returns-3 : tie.Need-returns-3 Inv-loop μ-loop
+returns-3 c = found-by-hint (c .before .line-is .ensures) (c .if3 .taken) (c .before .before .if2 .left)
+
+add-i : tie.Need-add-i Inv-loop μ-loop
+add-i c = omega arith
 
 loop-less : tie.Need-loop-less Inv-loop μ-loop
 loop-less c = omega arith
 
 loop-again : tie.Need-loop-again Inv-loop μ-loop
-loop-again c = find-more (c .before .before .before .before .before .before .loop .inv) (omega arith) refl refl (omega arith) (λ p. sym (c .before .part-is .ensures p) ∙ c .if2 .left)
+loop-again c = passed-more (c .before .before .before .before .before .before .loop .inv) (omega arith) (λ p b. c .before .line-is .ensures .no p (c .if3 .left) b)
 
-returns-3 : tie.Need-returns-3 Inv-loop μ-loop
-returns-3 c = find-nothing (c .before .loop .inv) (omega arith)
+search-requires-2 : tie.Need-search-requires-2 Inv-loop μ-loop
+search-requires-2 c κs = tt
+
+returns-4 : tie.Need-returns-4 Inv-loop μ-loop
+returns-4 c = found-by-rows (c .search2 .ensures)
 
 pub find-spec : {M : Type 1} → statement M
 find-spec =
@@ -71,21 +64,19 @@ find-spec =
     (tie.spec
     Inv-loop
     μ-loop
+    slot-of-requires
     loop-holds
-    sub-if1
-    returns
-    mul-first
-    shared-slice-read-first
-    cast-first
-    add-n
-    mul-n
-    shared-slice-read-n
-    cast-n
-    part-is-requires
-    add-result
-    returns-2
-    add-v
     add-at
+    search-requires
+    returns
+    mul-v
+    shared-slice-read-v
+    cast-v
+    returns-2
+    line-is-requires
+    returns-3
+    add-i
     loop-less
     loop-again
-    returns-3)
+    search-requires-2
+    returns-4)

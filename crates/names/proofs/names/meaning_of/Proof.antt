@@ -7,14 +7,14 @@ use Rattle.names.proofs.names.meaning_of.Tie as tie
 binding-requires : tie.Need-binding-requires
 binding-requires c κs = search needs
 
-mul-t13 : tie.Need-mul-t13
-mul-t13 c = search needs
+mul-t14 : tie.Need-mul-t14
+mul-t14 c = search needs
 
-add-t14 : tie.Need-add-t14
-add-t14 c = search needs
+add-t15 : tie.Need-add-t15
+add-t15 c = search needs
 
-cast-t15 : tie.Need-cast-t15
-cast-t15 c = search needs
+cast-t16 : tie.Need-cast-t16
+cast-t16 c = search needs
 
 returns : tie.Need-returns
 returns c = means-bound (c .before .binding .ensures) (c .if1 .taken)
@@ -34,14 +34,14 @@ field-requires c κs = omega arith
 field-requires-2 : tie.Need-field-requires-2
 field-requires-2 c κs = omega arith
 
-mul-t16 : tie.Need-mul-t16
-mul-t16 c = search needs
+mul-t17 : tie.Need-mul-t17
+mul-t17 c = search needs
 
-add-t17 : tie.Need-add-t17
-add-t17 c = search needs
+add-t18 : tie.Need-add-t18
+add-t18 c = search needs
 
-cast-t18 : tie.Need-cast-t18
-cast-t18 c = search needs
+cast-t19 : tie.Need-cast-t19
+cast-t19 c = search needs
 
 returns-4 : tie.Need-returns-4
 returns-4 c = means-constant (c .before .before .before .before .before .before .before .binding .ensures) (c .before .before .before .before .before .before .if1 .left) (c .before .before .before .before .before .find .ensures) (c .before .before .before .before .if2 .left) (c .before .before .field .ensures .0) (c .before .if4 .taken) (c .field2 .ensures .0)
@@ -49,14 +49,14 @@ returns-4 c = means-constant (c .before .before .before .before .before .before 
 in-context-requires : tie.Need-in-context-requires
 in-context-requires c κs = search needs
 
-mul-t20 : tie.Need-mul-t20
-mul-t20 c = search needs
+mul-t21 : tie.Need-mul-t21
+mul-t21 c = search needs
 
-add-t21 : tie.Need-add-t21
-add-t21 c = search needs
+add-t22 : tie.Need-add-t22
+add-t22 c = search needs
 
-cast-t22 : tie.Need-cast-t22
-cast-t22 c = search needs
+cast-t23 : tie.Need-cast-t23
+cast-t23 c = search needs
 
 returns-5 : tie.Need-returns-5
 returns-5 c = means-variable (c .before .before .before .before .before .before .before .before .binding .ensures) (c .before .before .before .before .before .before .before .if1 .left) (c .before .before .before .before .before .before .find .ensures) (c .before .before .before .before .before .if2 .left) (c .before .before .before .field .ensures .0) (c .before .before .if4 .left) (c .before .in-context .ensures) (c .if5 .taken)
@@ -69,22 +69,22 @@ meaning-of-spec =
     tie.close
     (tie.spec
     binding-requires
-    mul-t13
-    add-t14
-    cast-t15
+    mul-t14
+    add-t15
+    cast-t16
     returns
     find-requires
     returns-2
     returns-3
     field-requires
     field-requires-2
-    mul-t16
-    add-t17
-    cast-t18
+    mul-t17
+    add-t18
+    cast-t19
     returns-4
     in-context-requires
-    mul-t20
-    add-t21
-    cast-t22
+    mul-t21
+    add-t22
+    cast-t23
     returns-5
     returns-6)

@@ -11,7 +11,7 @@ word-end-requires : tie.Need-word-end-requires
 word-end-requires c κs = search needs
 
 returns : tie.Need-returns
-returns c = middle-word (c .before .before .before .before .before .before .before .pre) (omega arith) (c .before .spaces .ensures) (c .word-end .ensures)
+returns c = middle-word (c .before .before .before .before .before .before .before .pre .0) (c .before .before .before .before .before .before .before .pre .1) (omega arith) (c .before .spaces .ensures) (c .word-end .ensures)
 
 no-bindings-requires : tie.Need-no-bindings-requires
 no-bindings-requires c κs = search needs
@@ -23,7 +23,7 @@ same-length : tie.Need-same-length
 same-length c = search needs
 
 returns-2 : tie.Need-returns-2
-returns-2 c = middle-expression (c .before .before .before .before .before .before .before .before .before .before .pre) (omega arith) (c .before .before .before .before .no-bindings .ensures) (c .before .before .expression .ensures)
+returns-2 c = middle-expression (c .before .before .before .before .before .before .before .before .before .before .pre .0) (omega arith) (c .before .before .before .before .no-bindings .ensures) (c .before .before .expression .ensures)
 
 pub middle-spec : {M : Type 1} → statement M
 middle-spec =

@@ -23,16 +23,16 @@ find-requires : tie.Need-find-requires
 find-requires c κs = search needs
 
 returns-2 : tie.Need-returns-2
-returns-2 c = indicator-unknown _ _ _ (c .before .before .before .if1 .left) (c .before .before .before .before .before .before .before .pre) (c .before .find .ensures) (c .if2 .taken)
+returns-2 c = indicator-unknown _ _ _ (c .before .before .before .if1 .left) (c .before .before .before .before .before .before .before .before .pre) (c .before .find .ensures) (c .if2 .taken)
 
 field-requires : tie.Need-field-requires
 field-requires c κs = omega arith
 
 returns-3 : tie.Need-returns-3
-returns-3 c = indicator-no-variable _ _ _ (c .before .before .before .before .before .if1 .left) (c .before .before .before .before .before .before .before .before .before .pre) (c .before .before .before .find .ensures) (c .before .before .if2 .left) (c .before .field .ensures .0) (c .if3 .taken)
+returns-3 c = indicator-no-variable _ _ _ (c .before .before .before .before .before .if1 .left) (c .before .before .before .before .before .before .before .before .before .before .pre) (c .before .before .before .find .ensures) (c .before .before .if2 .left) (c .before .field .ensures .0) (c .if3 .taken)
 
 returns-4 : tie.Need-returns-4
-returns-4 c = indicator-found _ _ _ (c .before .before .before .before .before .if1 .left) (c .before .before .before .before .before .before .before .before .before .pre) (c .before .before .before .find .ensures) (c .before .before .if2 .left) (c .before .field .ensures .0) (c .if3 .left)
+returns-4 c = indicator-found _ _ _ (c .before .before .before .before .before .if1 .left) (c .before .before .before .before .before .before .before .before .before .before .pre) (c .before .before .before .find .ensures) (c .before .before .if2 .left) (c .before .field .ensures .0) (c .if3 .left)
 
 pub indicator-line-spec : {M : Type 1} → statement M
 indicator-line-spec =

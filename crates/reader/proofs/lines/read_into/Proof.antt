@@ -4,6 +4,9 @@ use Rattle.reader.proofs.LineLaws.{line-heading-refused, line-body-refu
 use Rattle.reader.proofs.lines.read_into.Statement.{statement}
 use Rattle.reader.proofs.lines.read_into.Tie as tie
 
+mul-to : tie.Need-mul-to
+mul-to c = search needs
+
 heading-requires : tie.Need-heading-requires
 heading-requires c κs = search needs
 
@@ -32,7 +35,7 @@ same-length : tie.Need-same-length
 same-length c = search needs
 
 returns-2 : tie.Need-returns-2
-returns-2 c = line-body-refused (c .before .before .before .before .before .before .before .before .before .before .before .before .heading .ensures) (c .before .before .before .before .before .before .before .before .before .before .if1 .left) (c .before .before .before .before .before .before .before .before .before .indicator-line .ensures) (c .before .before .before .before .before .before .before .before .known-line .ensures) (c .before .before .before .before .before .before .before .middle-kind .ensures) (c .before .before .before .before .before .body .ensures) (c .before .if2 .taken) (c .bad-line2 .ensures)
+returns-2 c = line-body-refused (c .before .before .before .before .before .before .before .before .before .before .before .before .before .heading .ensures) (c .before .before .before .before .before .before .before .before .before .before .before .if1 .left) (c .before .before .before .before .before .before .before .before .before .indicator-line .ensures) (c .before .before .before .before .before .before .before .before .known-line .ensures) (c .before .before .before .before .before .before .before .middle-kind .ensures) (c .before .before .before .before .before .body .ensures) (c .before .if2 .taken) (c .bad-line2 .ensures)
 
 bad-line-requires-3 : tie.Need-bad-line-requires-3
 bad-line-requires-3 c κs = search needs
@@ -41,10 +44,10 @@ same-length-2 : tie.Need-same-length-2
 same-length-2 c = search needs
 
 returns-3 : tie.Need-returns-3
-returns-3 c = line-no-indicator (c .before .before .before .before .before .before .before .before .before .before .before .before .before .heading .ensures) (c .before .before .before .before .before .before .before .before .before .before .before .if1 .left) (c .before .before .before .before .before .before .before .before .before .before .indicator-line .ensures) (c .before .before .before .before .before .before .before .before .before .known-line .ensures) (c .before .before .before .before .before .before .before .before .middle-kind .ensures) (c .before .before .before .before .before .before .body .ensures) (c .before .before .if2 .left) (c .before .if3 .taken) (c .bad-line3 .ensures)
+returns-3 c = line-no-indicator (c .before .before .before .before .before .before .before .before .before .before .before .before .before .before .heading .ensures) (c .before .before .before .before .before .before .before .before .before .before .before .before .if1 .left) (c .before .before .before .before .before .before .before .before .before .before .indicator-line .ensures) (c .before .before .before .before .before .before .before .before .before .known-line .ensures) (c .before .before .before .before .before .before .before .before .middle-kind .ensures) (c .before .before .before .before .before .before .body .ensures) (c .before .before .if2 .left) (c .before .if3 .taken) (c .bad-line3 .ensures)
 
 add-end : tie.Need-add-end
-add-end c = omega (arith, c .before .before .before .before .before .before .before .before .before .before .before .before .heading .ensures .named, c .before .before .before .before .before .before .before .before .before .before .before .before .before .before .before .before .before)
+add-end c = omega (arith, c .before .before .before .before .before .before .before .before .before .before .before .before .before .heading .ensures .named, c .before .before .before .before .before .before .before .before .before .before .before .before .before .before .before .before .before .before)
 
 sub-find : tie.Need-sub-find
 sub-find c = search needs
@@ -65,7 +68,13 @@ same-length-3 : tie.Need-same-length-3
 same-length-3 c = search needs
 
 returns-4 : tie.Need-returns-4
-returns-4 c = line-taken (c .before .before .before .before .before .before .before .before .before .before .before .before .before .before .before .before .heading .ensures) (c .before .before .before .before .before .before .before .before .before .before .before .before .before .before .if1 .left) (c .before .before .before .before .before .before .before .before .before .before .before .before .before .indicator-line .ensures) (c .before .before .before .before .before .before .before .before .before .before .before .before .known-line .ensures) (c .before .before .before .before .before .before .before .before .before .before .before .middle-kind .ensures) (c .before .before .before .before .before .before .before .before .before .body .ensures) (c .before .before .before .before .before .if2 .left) (c .before .before .before .before .if3 .left) (c .before .before .find .ensures) (c .before .if4 .taken) (c .bad-line4 .ensures)
+returns-4 c = line-taken (c .before .before .before .before .before .before .before .before .before .before .before .before .before .before .before .before .before .before .heading .ensures) (c .before .before .before .before .before .before .before .before .before .before .before .before .before .before .before .before .if1 .left) (c .before .before .before .before .before .before .before .before .before .before .before .before .before .before .indicator-line .ensures) (c .before .before .before .before .before .before .before .before .before .before .before .before .before .known-line .ensures) (c .before .before .before .before .before .before .before .before .before .before .before .before .middle-kind .ensures) (c .before .before .before .before .before .before .before .before .before .before .body .ensures) (c .before .before .before .before .before .before .if2 .left) (c .before .before .before .before .before .if3 .left) (c .before .before .find .ensures) (c .before .if4 .taken) (c .bad-line4 .ensures)
+
+sub-cells : tie.Need-sub-cells
+sub-cells c = omega (arith, c .before .before .before .before .before .before .before .before .before .before .body .ensures .upward (c .before .before .before .before .before .before .if2 .left))
+
+sub-all : tie.Need-sub-all
+sub-all c = omega (arith, c .before .before .before .before .before .before .before .before .before .before .before .body .ensures .upward (c .before .before .before .before .before .before .before .if2 .left))
 
 bad-line-requires-5 : tie.Need-bad-line-requires-5
 bad-line-requires-5 c κs = search needs
@@ -74,10 +83,10 @@ same-length-4 : tie.Need-same-length-4
 same-length-4 c = search needs
 
 returns-5 : tie.Need-returns-5
-returns-5 c = line-large-middle (c .before .before .before .before .before .before .before .before .before .before .before .before .before .before .before .before .before .heading .ensures) (c .before .before .before .before .before .before .before .before .before .before .before .before .before .before .before .if1 .left) (c .before .before .before .before .before .before .before .before .before .before .before .before .before .before .indicator-line .ensures) (c .before .before .before .before .before .before .before .before .before .before .before .before .before .known-line .ensures) (c .before .before .before .before .before .before .before .before .before .before .before .before .middle-kind .ensures) (c .before .before .before .before .before .before .before .before .before .before .body .ensures) (c .before .before .before .before .before .before .if2 .left) (c .before .before .before .before .before .if3 .left) (c .before .before .before .find .ensures) (c .before .before .if4 .left) (c .before .if5 .taken) (c .bad-line5 .ensures)
+returns-5 c = line-large-middle (c .before .before .before .before .before .before .before .before .before .before .before .before .before .before .before .before .before .before .before .before .before .heading .ensures) (c .before .before .before .before .before .before .before .before .before .before .before .before .before .before .before .before .before .before .before .if1 .left) (c .before .before .before .before .before .before .before .before .before .before .before .before .before .before .before .before .before .indicator-line .ensures) (c .before .before .before .before .before .before .before .before .before .before .before .before .before .before .before .before .known-line .ensures) (c .before .before .before .before .before .before .before .before .before .before .before .before .before .before .before .middle-kind .ensures) (c .before .before .before .before .before .before .before .before .before .before .before .before .before .body .ensures) (c .before .before .before .before .before .before .before .before .before .if2 .left) (c .before .before .before .before .before .before .before .before .if3 .left) (c .before .before .before .before .before .find .ensures) (c .before .before .before .before .if4 .left) (c .before .if5 .taken) (c .bad-line5 .ensures)
 
 sub-if6 : tie.Need-sub-if6
-sub-if6 c = omega (arith, c .before .before .before .before .before .before .before .before .before .body .ensures .upward (c .before .before .before .before .before .if2 .left))
+sub-if6 c = omega (arith, c .before .before .before .before .before .before .before .before .before .before .before .before .body .ensures .upward (c .before .before .before .before .before .before .before .before .if2 .left))
 
 bad-line-requires-6 : tie.Need-bad-line-requires-6
 bad-line-requires-6 c κs = search needs
@@ -86,7 +95,7 @@ same-length-5 : tie.Need-same-length-5
 same-length-5 c = search needs
 
 returns-6 : tie.Need-returns-6
-returns-6 c = line-large-category (c .before .before .before .before .before .before .before .before .before .before .before .before .before .before .before .before .before .before .heading .ensures) (c .before .before .before .before .before .before .before .before .before .before .before .before .before .before .before .before .if1 .left) (c .before .before .before .before .before .before .before .before .before .before .before .before .before .before .before .indicator-line .ensures) (c .before .before .before .before .before .before .before .before .before .before .before .before .before .before .known-line .ensures) (c .before .before .before .before .before .before .before .before .before .before .before .before .before .middle-kind .ensures) (c .before .before .before .before .before .before .before .before .before .before .before .body .ensures) (c .before .before .before .before .before .before .before .if2 .left) (c .before .before .before .before .before .before .if3 .left) (c .before .before .before .before .find .ensures) (c .before .before .before .if4 .left) (c .before .before .if5 .left) (c .before .if6 .taken) (c .bad-line6 .ensures)
+returns-6 c = line-large-category (c .before .before .before .before .before .before .before .before .before .before .before .before .before .before .before .before .before .before .before .before .before .before .heading .ensures) (c .before .before .before .before .before .before .before .before .before .before .before .before .before .before .before .before .before .before .before .before .if1 .left) (c .before .before .before .before .before .before .before .before .before .before .before .before .before .before .before .before .before .before .indicator-line .ensures) (c .before .before .before .before .before .before .before .before .before .before .before .before .before .before .before .before .before .known-line .ensures) (c .before .before .before .before .before .before .before .before .before .before .before .before .before .before .before .before .middle-kind .ensures) (c .before .before .before .before .before .before .before .before .before .before .before .before .before .before .body .ensures) (c .before .before .before .before .before .before .before .before .before .before .if2 .left) (c .before .before .before .before .before .before .before .before .before .if3 .left) (c .before .before .before .before .before .before .find .ensures) (c .before .before .before .before .before .if4 .left) (c .before .before .if5 .left) (c .before .if6 .taken) (c .bad-line6 .ensures)
 
 bad-line-requires-7 : tie.Need-bad-line-requires-7
 bad-line-requires-7 c κs = search needs
@@ -95,7 +104,7 @@ same-length-6 : tie.Need-same-length-6
 same-length-6 c = search needs
 
 returns-7 : tie.Need-returns-7
-returns-7 c = line-fault (c .before .before .before .before .before .before .before .before .before .before .before .before .before .before .before .before .before .before .before .before .heading .ensures) (c .before .before .before .before .before .before .before .before .before .before .before .before .before .before .before .before .before .before .if1 .left) (c .before .before .before .before .before .before .before .before .before .before .before .before .before .before .before .before .before .indicator-line .ensures) (c .before .before .before .before .before .before .before .before .before .before .before .before .before .before .before .before .known-line .ensures) (c .before .before .before .before .before .before .before .before .before .before .before .before .before .before .before .middle-kind .ensures) (c .before .before .before .before .before .before .before .before .before .before .before .before .before .body .ensures) (c .before .before .before .before .before .before .before .before .before .if2 .left) (c .before .before .before .before .before .before .before .before .if3 .left) (c .before .before .before .before .before .before .find .ensures) (c .before .before .before .before .before .if4 .left) (c .before .before .before .before .if5 .left) (c .before .before .before .if6 .left) (c .before .if7 .taken) (c .bad-line7 .ensures)
+returns-7 c = line-fault (c .before .before .before .before .before .before .before .before .before .before .before .before .before .before .before .before .before .before .before .before .before .before .before .before .heading .ensures) (c .before .before .before .before .before .before .before .before .before .before .before .before .before .before .before .before .before .before .before .before .before .before .if1 .left) (c .before .before .before .before .before .before .before .before .before .before .before .before .before .before .before .before .before .before .before .before .indicator-line .ensures) (c .before .before .before .before .before .before .before .before .before .before .before .before .before .before .before .before .before .before .before .known-line .ensures) (c .before .before .before .before .before .before .before .before .before .before .before .before .before .before .before .before .before .before .middle-kind .ensures) (c .before .before .before .before .before .before .before .before .before .before .before .before .before .before .before .before .body .ensures) (c .before .before .before .before .before .before .before .before .before .before .before .before .if2 .left) (c .before .before .before .before .before .before .before .before .before .before .before .if3 .left) (c .before .before .before .before .before .before .before .before .find .ensures) (c .before .before .before .before .before .before .before .if4 .left) (c .before .before .before .before .if5 .left) (c .before .before .before .if6 .left) (c .before .if7 .taken) (c .bad-line7 .ensures)
 
 context-length-requires : tie.Need-context-length-requires
 context-length-requires c κs = search needs
@@ -104,12 +113,13 @@ same-length-7 : tie.Need-same-length-7
 same-length-7 c = search needs
 
 returns-8 : tie.Need-returns-8
-returns-8 c = line-read (c .before .before .before .before .before .before .before .before .before .before .before .before .before .before .before .before .before .before .before .before .heading .ensures) (c .before .before .before .before .before .before .before .before .before .before .before .before .before .before .before .before .before .before .if1 .left) (c .before .before .before .before .before .before .before .before .before .before .before .before .before .before .before .before .before .indicator-line .ensures) (c .before .before .before .before .before .before .before .before .before .before .before .before .before .before .before .before .known-line .ensures) (c .before .before .before .before .before .before .before .before .before .before .before .before .before .before .before .middle-kind .ensures) (c .before .before .before .before .before .before .before .before .before .before .before .before .before .body .ensures) (c .before .before .before .before .before .before .before .before .before .if2 .left) (c .before .before .before .before .before .before .before .before .if3 .left) (c .before .before .before .before .before .before .find .ensures) (c .before .before .before .before .before .if4 .left) (c .before .before .before .before .if5 .left) (c .before .before .before .if6 .left) (c .before .if7 .left) (c .context-length .ensures)
+returns-8 c = line-read (c .before .before .before .before .before .before .before .before .before .before .before .before .before .before .before .before .before .before .before .before .before .before .before .before .heading .ensures) (c .before .before .before .before .before .before .before .before .before .before .before .before .before .before .before .before .before .before .before .before .before .before .if1 .left) (c .before .before .before .before .before .before .before .before .before .before .before .before .before .before .before .before .before .before .before .before .indicator-line .ensures) (c .before .before .before .before .before .before .before .before .before .before .before .before .before .before .before .before .before .before .before .known-line .ensures) (c .before .before .before .before .before .before .before .before .before .before .before .before .before .before .before .before .before .before .middle-kind .ensures) (c .before .before .before .before .before .before .before .before .before .before .before .before .before .before .before .before .body .ensures) (c .before .before .before .before .before .before .before .before .before .before .before .before .if2 .left) (c .before .before .before .before .before .before .before .before .before .before .before .if3 .left) (c .before .before .before .before .before .before .before .before .find .ensures) (c .before .before .before .before .before .before .before .if4 .left) (c .before .before .before .before .if5 .left) (c .before .before .before .if6 .left) (c .before .if7 .left) (c .context-length .ensures)
 
 pub read-into-spec : {M : Type 1} → statement M
 read-into-spec =
     tie.close
     (tie.spec
+    mul-to
     heading-requires
     bad-line-requires
     returns
@@ -131,6 +141,8 @@ read-into-spec =
     bad-line-requires-4
     same-length-3
     returns-4
+    sub-cells
+    sub-all
     bad-line-requires-5
     same-length-4
     returns-5

@@ -22,7 +22,7 @@ slice-aggregate-read-into : tie.Need-slice-aggregate-read-into
 slice-aggregate-read-into c = sym (length-take-le _ _ (omega arith))
 
 read-into-requires : tie.Need-read-into-requires
-read-into-requires c κs = search needs
+read-into-requires c κs = length-take-le _ _ (omega arith)
 
 same-length : tie.Need-same-length
 same-length c = search needs

@@ -51,6 +51,7 @@ slice-aggregate-check-lines c = sym (length-take-le _ _ (c .before .before .befo
 check-lines-requires : tie.Need-check-lines-requires
 check-lines-requires c κs =
     record {
+      large = c .before .before .before .before .before .before .if1 .left;
       small = c .before .before .before .before .before .if2 .left;
       enough = (let h = c .before .before .before .before .if3 .left in omega (arith, h, length-take-le (128 * c .before .before .before .before .before .before .before .before .before .before .before .args .limit) (c .before .before .before .before .before .before .before .before .before .before .before .args .work .now) h));
       short = c .before .before .before .if4 .left;
