@@ -1,0 +1,99 @@
+//! The published procedure, written by hand in plain Rust: the yardstick for the verified program.
+//!
+//! It was written from the specification and docs/ (how open points are read, the cases' outcomes), without the verified
+//! code in view. Expressions are cells in prefix order, as in the term store; temporary
+//! expressions lie in vectors that are reused from line to line.
+
+mod category;
+mod cells;
+mod comparison;
+mod lines;
+mod names;
+mod reader;
+
+use crate::Outcome;
+use category::Checker;
+use lines::Lines;
+use names::Names;
+use reader::Reader;
+
+/// Why a line is refused; the numbers are the specification's codes.
+#[derive(Clone, Copy, Debug, PartialEq, Eq)]
+#[repr(u8)]
+pub enum Refusal {
+    Malformed = 3,
+    Duplicate = 4,
+    UnknownName = 5,
+    WrongArity = 6,
+    NotFunction = 7,
+    NotType = 8,
+    Mismatch = 9,
+    TooLarge = 10,
+    OutOfBudget = 11,
+    OutOfSpace = 12,
+}
+
+const MOST_BYTES: usize = 16_777_215;
+const MOST_LINES: usize = 8_191;
+const ROW: usize = 8;
+
+pub fn check(book: &[u8], budget: u32, limit: u32, table: &mut [u32], terms: &mut [u16], work: &mut [u16]) -> Outcome {
+    if !(16..=4096).contains(&limit) {
+        return Outcome { code: 2, line: 0, steps: 0 };
+    }
+    let limit = limit as usize;
+    if work.len() < 128 * limit {
+        return Outcome { code: 1, line: 0, steps: 0 };
+    }
+    work[..128 * limit].fill(0);
+    if book.len() > MOST_BYTES {
+        return Outcome { code: 12, line: 0, steps: 0 };
+    }
+    let mut lines = Lines::new();
+    let mut checker = Checker::new(budget, limit);
+    let refusal = check_lines(book, limit, table, terms, &mut lines, &mut checker).err();
+    let steps = u64::from(checker.steps());
+    match refusal {
+        None => Outcome { code: 0, line: lines.count() as u32, steps },
+        Some(r) => Outcome { code: r as u32, line: lines.count() as u32 + 1, steps },
+    }
+}
+
+fn check_lines(
+    book: &[u8], limit: usize, table: &mut [u32], terms: &mut [u16], lines: &mut Lines, checker: &mut Checker,
+) -> Result<(), Refusal> {
+    let mut names = Names::default();
+    let mut reader = Reader::new(book);
+    let mut used = 0;
+    while !reader.at_end() {
+        let line = reader.line(lines, &names)?;
+        let cells = reader.cells();
+        let (middle, category) = cells.split_at(line.middle);
+        if names.contains(line.identifier) {
+            return Err(Refusal::Duplicate);
+        }
+        if middle.len() > limit || category.len() > limit {
+            return Err(Refusal::TooLarge);
+        }
+        if let Some(refusal) = reader.name_refusal() {
+            return Err(refusal);
+        }
+        let count = lines.count();
+        if count == MOST_LINES || table.len() / ROW <= count || terms.len() - used < cells.len() {
+            return Err(Refusal::OutOfSpace);
+        }
+        checker.line(lines, &terms[..used], cells, line.middle)?;
+
+        terms[used..used + cells.len()].copy_from_slice(cells);
+        let row = [
+            line.start as u32, line.identifier.len() as u32, u32::from(line.indicator),
+            u32::from(line.context.length()), line.kind as u32,
+            used as u32, (used + line.middle) as u32, (used + cells.len()) as u32,
+        ];
+        table[ROW * count..ROW * (count + 1)].copy_from_slice(&row);
+        let number = lines.push(line.kind, line.context, [used, used + line.middle, used + cells.len()]);
+        names.insert(line.identifier, number);
+        used += cells.len();
+    }
+    Ok(())
+}

@@ -1,0 +1,123 @@
+//! What is kept of the accepted lines, and their contexts.
+
+#[derive(Clone, Copy, Debug, PartialEq, Eq)]
+#[repr(u8)]
+pub enum Kind {
+    Variable = 0,
+    Primitive = 1,
+    Abbreviation = 2,
+}
+
+struct Line {
+    middle: u32,
+    category: u32,
+    end: u32,
+    /// Where the variables of its context begin in `contexts`.
+    context: u32,
+    /// Of a variable: where its context with itself behind begins there, once some line has that one.
+    extended: u32,
+}
+
+const NOWHERE: u32 = u32::MAX;
+
+/// The accepted lines; they count from 1.
+pub struct Lines {
+    lines: Vec<Line>,
+    kinds: Vec<Kind>,
+    lengths: Vec<u16>,
+    /// The variables of contexts, in order. A context may begin with the cells of another.
+    contexts: Vec<u16>,
+}
+
+/// Part of `contexts`: the variables that a line may use.
+#[derive(Clone, Copy)]
+pub struct Context {
+    start: u32,
+    length: u16,
+}
+
+impl Context {
+    pub fn length(&self) -> u16 {
+        self.length
+    }
+}
+
+impl Lines {
+    pub fn new() -> Self {
+        let none = Line { middle: 0, category: 0, end: 0, context: 0, extended: NOWHERE };
+        Lines { lines: vec![none], kinds: vec![Kind::Primitive], lengths: vec![0], contexts: Vec::new() }
+    }
+
+    pub fn count(&self) -> usize {
+        self.lines.len() - 1
+    }
+
+    /// Adds a line whose middle, category and end stand at these places of the term store.
+    pub fn push(&mut self, kind: Kind, context: Context, [middle, category, end]: [usize; 3]) -> u16 {
+        self.lines.push(Line {
+            middle: middle as u32, category: category as u32, end: end as u32,
+            context: context.start, extended: NOWHERE,
+        });
+        self.kinds.push(kind);
+        self.lengths.push(context.length);
+        self.count() as u16
+    }
+
+    #[inline]
+    pub fn kind(&self, line: u16) -> Kind {
+        self.kinds[line as usize]
+    }
+
+    /// How many variables the line's context has: as many arguments a constant takes, and a variable has this place
+    /// in every context that it is in.
+    #[inline]
+    pub fn context_length(&self, line: u16) -> usize {
+        self.lengths[line as usize] as usize
+    }
+
+    #[inline]
+    pub fn middle<'t>(&self, line: u16, terms: &'t [u16]) -> &'t [u16] {
+        let l = &self.lines[line as usize];
+        &terms[l.middle as usize..l.category as usize]
+    }
+
+    #[inline]
+    pub fn category<'t>(&self, line: u16, terms: &'t [u16]) -> &'t [u16] {
+        let l = &self.lines[line as usize];
+        &terms[l.category as usize..l.end as usize]
+    }
+
+    /// The variables of the line's context.
+    #[inline]
+    pub fn variables(&self, line: u16) -> &[u16] {
+        let start = self.lines[line as usize].context as usize;
+        &self.contexts[start..start + self.context_length(line)]
+    }
+
+    /// The context of a line with this indicator: a variable, or 0 for none.
+    pub fn extend(&mut self, indicator: u16) -> Context {
+        if indicator == 0 {
+            return Context { start: 0, length: 0 };
+        }
+        let length = self.lengths[indicator as usize];
+        let line = &mut self.lines[indicator as usize];
+        if line.extended == NOWHERE {
+            let start = line.context as usize;
+            let end = start + length as usize;
+            if end == self.contexts.len() {
+                line.extended = line.context;
+            } else {
+                line.extended = self.contexts.len() as u32;
+                self.contexts.extend_from_within(start..end);
+            }
+            self.contexts.push(indicator);
+        }
+        Context { start: line.extended, length: length + 1 }
+    }
+
+    #[inline]
+    pub fn in_context(&self, context: Context, variable: u16) -> bool {
+        let place = self.context_length(variable);
+        place < context.length as usize && self.contexts[context.start as usize + place] == variable
+    }
+}

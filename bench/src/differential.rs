@@ -1,0 +1,96 @@
+//! Runs the verified program and the baseline on many small books and compares what they give and leave.
+
+mod calls;
+mod mutate;
+mod theory;
+mod trees;
+mod typed;
+
+use std::path::Path;
+use std::time::{Duration, Instant};
+
+use crate::generate::{self, Kind};
+use crate::random::Random;
+use calls::Comparison;
+
+const SEED: u64 = 1;
+const BOOKS: usize = 400_000;
+const LEAST_BOOKS: usize = 100_000;
+/// A run on a busy machine stops here.
+const LONGEST: Duration = Duration::from_secs(110);
+/// So many books are made from one.
+const BOOKS_FROM_ONE: usize = 15;
+
+/// Prints how often each code was met; false if there was a difference, or a code was not met.
+pub fn run() -> bool {
+    let start = Instant::now();
+    let mut comparison = Comparison::new();
+    let mut random = Random::new(SEED);
+    for (book, call) in calls::largest() {
+        comparison.compare(&book, &call);
+    }
+    let written = written_books();
+    let mut books = 0;
+    while books < BOOKS && start.elapsed() < LONGEST {
+        let base = base(&mut random, &written);
+        for _ in 0..BOOKS_FROM_ONE {
+            let book = changed(&mut random, &base);
+            let call = comparison.call(&mut random, &book);
+            comparison.compare(&book, &call);
+            books += 1;
+        }
+    }
+    println!("{books} books, {} s", start.elapsed().as_secs());
+    if books < LEAST_BOOKS {
+        println!("stopped early: the time was over");
+    }
+    comparison.report() && books >= LEAST_BOOKS
+}
+
+/// The books of examples/ and of the test program, from the repository's root.
+fn written_books() -> Vec<Vec<u8>> {
+    let mut books = Vec::new();
+    for (folder, header) in [("examples", false), ("crates/cases/data", true)] {
+        let mut files: Vec<_> = std::fs::read_dir(folder).into_iter().flatten().flatten().map(|f| f.path()).collect();
+        files.sort();
+        for file in files.iter().filter(|f| header || is_book(f)) {
+            let bytes = std::fs::read(file).unwrap_or_default();
+            let skipped = if header { bytes.iter().position(|&b| b == b'\n').map_or(0, |at| at + 1) } else { 0 };
+            books.push(bytes[skipped..].to_vec());
+        }
+    }
+    books.retain(|b| b.len() < 4_096);
+    assert!(!books.is_empty(), "run from the root of the repository");
+    books
+}
+
+fn is_book(file: &Path) -> bool {
+    file.extension().is_some_and(|e| e == "aut")
+}
+
+fn base(random: &mut Random, written: &[Vec<u8>]) -> Vec<u8> {
+    match random.below(10) {
+        0..=2 => random.choose(written).clone(),
+        3 => {
+            let kind = *random.choose(&[Kind::Theories, Kind::Theories, Kind::Steps, Kind::Names, Kind::Deep]);
+            generate::book(kind, random.between(10, 60), random.next())
+        }
+        _ => {
+            let lines = random.between(4, 30);
+            typed::book(random, lines)
+        }
+    }
+}
+
+fn changed(random: &mut Random, base: &[u8]) -> Vec<u8> {
+    let mut book = base.to_vec();
+    let changes = match random.below(10) {
+        0..=1 => 0,
+        2..=7 => 1,
+        _ => random.between(2, 4),
+    };
+    for _ in 0..changes {
+        mutate::mutate(random, &mut book);
+    }
+    book
+}

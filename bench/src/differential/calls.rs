@@ -1,0 +1,187 @@
+//! Calls with the same limits and stores, and what they leave in every cell.
+
+use crate::random::Random;
+use crate::{baseline, verified, Outcome};
+
+const LARGEST_LIMIT: usize = 4_096;
+const USUAL_LIMIT: u32 = 256;
+const MOST_SHOWN: usize = 5;
+
+/// What is lent beside the book; lengths in cells.
+#[derive(Clone, Copy, Debug)]
+pub struct Call {
+    pub budget: u32,
+    pub limit: u32,
+    pub table: usize,
+    pub terms: usize,
+    pub work: usize,
+}
+
+impl Call {
+    /// Stores in which the book fits, and all the budget.
+    fn ample(book: &[u8], limit: u32) -> Call {
+        let lines = book.iter().filter(|&&b| b == b'\n').count() + 1;
+        Call { budget: u32::MAX, limit, table: 8 * lines, terms: book.len() + 1, work: 128 * limit as usize }
+    }
+}
+
+/// Books at the largest sizes.
+pub fn largest() -> Vec<(Vec<u8>, Call)> {
+    let call = Call { budget: 9, limit: 16, table: 8 * 8_193, terms: 8_193, work: 2_050 };
+    let lines = |count: usize| -> Vec<u8> { (0..count).flat_map(|i| format!("*n{i}:=PN:type\n").into_bytes()).collect() };
+    let with = |line: &str| [&lines(8_191)[..], line.as_bytes()].concat();
+    let mut books = vec![lines(8_190), lines(8_191), lines(8_192)];
+    for last in ["*a:=PN:b\n", "*n7:=PN:type\n", "*a:=n0(n1):type\n", "*a:=n0:n1\n", "*a:=PN:type", "a*b:=PN:type\n"] {
+        books.push(with(last));
+    }
+    for bytes in [16_777_214, 16_777_215, 16_777_216] {
+        let mut book = vec![b' '; bytes];
+        let line = b"*a:=PN:type\n";
+        book[bytes - line.len()..].copy_from_slice(line);
+        books.push(book);
+    }
+    books.into_iter().map(|book| (book, call)).collect()
+}
+
+#[derive(Default)]
+struct Stores {
+    table: Vec<u32>,
+    terms: Vec<u16>,
+    work: Vec<u16>,
+}
+
+fn table_pattern(at: usize) -> u32 {
+    (at as u32).wrapping_mul(0x9e37_79b1) ^ 0x5555_aaaa
+}
+
+fn cell_pattern(at: usize) -> u16 {
+    (at as u16).wrapping_mul(0x9e37) ^ 0x5a5a
+}
+
+impl Stores {
+    /// As long as the call says, every cell with its pattern.
+    fn prepare(&mut self, call: &Call) {
+        self.table.clear();
+        self.table.extend((0..call.table).map(table_pattern));
+        self.terms.clear();
+        self.terms.extend((0..call.terms).map(cell_pattern));
+        self.work.clear();
+        self.work.extend((0..call.work).map(cell_pattern));
+    }
+
+    /// Whether every cell that the outcome leaves alone has its pattern, and the working cells are zero.
+    fn left_alone(&self, call: &Call, outcome: &Outcome) -> bool {
+        let recorded = if outcome.code == 0 { outcome.line as usize } else { outcome.line.saturating_sub(1) as usize };
+        let cells = if recorded == 0 { 0 } else { self.table[8 * recorded - 1] as usize };
+        let cleared = if outcome.code == 1 || outcome.code == 2 { 0 } else { 128 * call.limit as usize };
+        (8 * recorded..self.table.len()).all(|i| self.table[i] == table_pattern(i))
+            && (cells..self.terms.len()).all(|i| self.terms[i] == cell_pattern(i))
+            && self.work[..cleared].iter().all(|&c| c == 0)
+            && (cleared..self.work.len()).all(|i| self.work[i] == cell_pattern(i))
+    }
+}
+
+/// The two programs side by side, and the counts of what they gave.
+pub struct Comparison {
+    ours: Stores,
+    theirs: Stores,
+    codes: [usize; 13],
+    steps: u64,
+    differences: usize,
+}
+
+impl Comparison {
+    pub fn new() -> Self {
+        Comparison { ours: Stores::default(), theirs: Stores::default(), codes: [0; 13], steps: 0, differences: 0 }
+    }
+
+    /// Limits and store lengths for a book, often where it just fits or just does not.
+    pub fn call(&mut self, random: &mut Random, book: &[u8]) -> Call {
+        let limit = match random.below(100) {
+            0..=2 => *random.choose(&[15, 4_097, 0, u32::MAX]),
+            3..=4 => LARGEST_LIMIT as u32,
+            5..=14 => *random.choose(&[16, 17, 18, 20, 32]),
+            15..=24 => random.between(16, 80) as u32,
+            25..=44 => (self.least_limit(book) - random.below(2) as u32).max(16),
+            45..=54 => 64,
+            _ => USUAL_LIMIT,
+        };
+        let mut call = Call::ample(book, limit);
+        if !(16..=LARGEST_LIMIT as u32).contains(&limit) {
+            call.work = random.between(0, 128 * 20);
+            return call;
+        }
+        let outcome = self.probe(book, &call);
+        let recorded = if outcome.code == 0 { outcome.line as usize } else { outcome.line as usize - 1 };
+        let cells = if recorded == 0 { 0 } else { self.theirs.table[8 * recorded - 1] as usize };
+        let steps = outcome.steps as usize;
+        call.budget = match random.below(10) {
+            0..=4 => u32::MAX,
+            5..=6 => steps as u32,
+            7 => steps.saturating_sub(1) as u32,
+            8 => random.below(4) as u32,
+            _ => random.between(0, steps + 1) as u32,
+        };
+        call.table = match random.below(20) {
+            0..=16 => call.table,
+            17 => (8 * recorded + random.below(9)).saturating_sub(1),
+            18 => 8 * recorded,
+            _ => random.between(0, 8 * recorded + 8),
+        };
+        call.terms = match random.below(20) {
+            0..=16 => call.terms,
+            17 => (cells + random.below(4)).saturating_sub(1),
+            18 => cells,
+            _ => random.between(0, cells + 4),
+        };
+        call.work = match random.below(50) {
+            0 => call.work - 1,
+            1 => random.below(call.work),
+            2..=11 => call.work + random.between(1, 130),
+            _ => call.work,
+        };
+        call
+    }
+
+    /// The least limit up to the usual one under which no size is refused.
+    fn least_limit(&mut self, book: &[u8]) -> u32 {
+        let (mut refused, mut enough) = (15, USUAL_LIMIT);
+        while enough - refused > 1 {
+            let limit = (refused + enough) / 2;
+            if self.probe(book, &Call::ample(book, limit)).code == 10 { refused = limit } else { enough = limit }
+        }
+        enough
+    }
+
+    fn probe(&mut self, book: &[u8], call: &Call) -> Outcome {
+        self.theirs.prepare(call);
+        let Stores { table, terms, work } = &mut self.theirs;
+        baseline::check(book, call.budget, call.limit, table, terms, work)
+    }
+
+    pub fn compare(&mut self, book: &[u8], call: &Call) {
+        self.ours.prepare(call);
+        let Stores { table, terms, work } = &mut self.ours;
+        let ours = verified::check(book, call.budget, call.limit, table, terms, work);
+        let theirs = self.probe(book, call);
+        let alike = self.ours.table == self.theirs.table && self.ours.terms == self.theirs.terms && self.ours.work == self.theirs.work;
+        if ours != theirs || !alike || !self.theirs.left_alone(call, &theirs) {
+            self.differences += 1;
+            if self.differences <= MOST_SHOWN {
+                let shown = &book[..book.len().min(20_000)];
+                println!("{call:?}\n{ours:?} verified\n{theirs:?} baseline, stores alike: {alike}\n{}\n", shown.escape_ascii().to_string().replace("\\n", "\n"));
+            }
+        }
+        self.codes[theirs.code as usize] += 1;
+        self.steps += theirs.steps;
+    }
+
+    /// Prints the counts; true if there was no difference and each code was met.
+    pub fn report(&self) -> bool {
+        for (code, count) in self.codes.iter().enumerate() {
+            println!("code {code:>2}: {count:>7}");
+        }
+        println!("{} head steps, {} differences", self.steps, self.differences);
+        self.differences == 0 && self.codes.iter().all(|&count| count > 0)
+    }
+}

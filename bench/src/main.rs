@@ -1,0 +1,41 @@
+//! Compares the verified program with the baseline: `table` their times, `differential` their results.
+
+mod baseline;
+mod differential;
+mod generate;
+mod random;
+mod table;
+mod verified;
+
+use std::process::ExitCode;
+
+/// What the check of a book ends with: code, line, head steps.
+#[repr(C)]
+#[derive(Clone, Copy, Debug, PartialEq, Eq)]
+pub struct Outcome {
+    pub code: u32,
+    pub line: u32,
+    pub steps: u64,
+}
+
+fn main() -> ExitCode {
+    let arguments: Vec<String> = std::env::args().skip(1).collect();
+    let arguments: Vec<&str> = arguments.iter().map(String::as_str).collect();
+    let agreed = match arguments[..] {
+        ["table"] => table::print(),
+        ["differential"] => differential::run(),
+        ["profile", book, program] => profile(book, program),
+        _ => {
+            eprintln!("usage: bench table | differential | profile <book> <verified or baseline>");
+            return ExitCode::from(2);
+        }
+    };
+    if agreed { ExitCode::SUCCESS } else { ExitCode::FAILURE }
+}
+
+fn profile(book: &str, program: &str) -> bool {
+    let check: table::Check = if program == "verified" { verified::check } else { baseline::check };
+    let Some(kind) = generate::Kind::ALL.into_iter().find(|k| k.title() == book) else { return false };
+    table::profile(kind, check);
+    true
+}
