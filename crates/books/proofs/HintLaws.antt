@@ -55,19 +55,21 @@ module _ (tb row : List ℕ) (n : ℕ) where
 
 module _ {limit : ℕ} (large : 16 ≤ limit) {book tb : List ℕ} {n : ℕ} {w w₁ : List ℕ} (w₂ : List ℕ) (enough : 26 * limit ≤ length w) where
   -- what is read and stored leaves the hints
-  hints-kept : Outside (24 * limit) (26 * limit) w w₁ → length w₂ ≡ length w₁ → take (24 * limit) w₂ ≡ take (24 * limit) w₁
+  hints-kept : Outside (23 * limit) (26 * limit) w w₁ → length w₂ ≡ length w₁ → take (24 * limit) w₂ ≡ take (24 * limit) w₁
       → HintedIn limit book tb n w → HintedIn limit book tb n w₂
   hints-kept o l e h =
       let m : length (take (26 * limit) w) ≡ 26 * limit = length-take-le (26 * limit) w enough in
       let m₂ : length (take (26 * limit) w₂) ≡ 26 * limit = length-take-le (26 * limit) w₂ (omega (arith, o .long)) in
-      hinted-same (24 * limit) (omega (arith, ap slots m, slots-fit limit large)) (m₂ ∙ sym m)
-      (take-take (24 * limit) (26 * limit) w₂ (omega arith)
-      ∙ e
-      ∙ outside-below {n = 24 * limit} (omega arith) o
-      ∙ sym (take-take (24 * limit) (26 * limit) w (omega arith))) h
+      hinted-same (23 * limit) (omega (arith, ap slots m, slots-fit limit large)) (m₂ ∙ sym m)
+      (take-take (23 * limit) (26 * limit) w₂ (omega arith)
+      ∙ sym (take-take (23 * limit) (24 * limit) w₂ (omega arith))
+      ∙ ap (take (23 * limit)) e
+      ∙ take-take (23 * limit) (24 * limit) w₁ (omega arith)
+      ∙ outside-below {n = 23 * limit} (omega arith) o
+      ∙ sym (take-take (23 * limit) (26 * limit) w (omega arith))) h
 
   -- and the line itself is noted
-  pub hinted-on : (row : List ℕ) {tb′ w₃ : List ℕ} → Outside (24 * limit) (26 * limit) w w₁ → length w₂ ≡ length w₁ → take (24 * limit) w₂ ≡ take (24 * limit) w₁
+  pub hinted-on : (row : List ℕ) {tb′ w₃ : List ℕ} → Outside (23 * limit) (26 * limit) w w₁ → length w₂ ≡ length w₁ → take (24 * limit) w₂ ≡ take (24 * limit) w₁
       → tb′ ≡ sets tb (8 * n) row → n ≤ 8190 → 8 * suc n ≤ length tb → NotedLine book tb′ n limit w₂ w₃
       → HintedIn limit book tb n w → HintedIn limit book tb′ (n + 1) w₃
   hinted-on row {tb′} {w₃} o l e t few room noted h =

@@ -6,7 +6,7 @@ use mathlib.Core.List.{List, [], _∷_, _++_}
 use Prim.Native.Nat.{ℕ, suc, _+_, _-_, _*_, _≤_, _<_}
 use native.Mathlib.Omega.{arith}
 use lib.Dec.{leb, ltb}
-use lib.ListN.{length, take, drop}
+use lib.ListN.{length, take, drop, length-take}
 use lib.Seq.{slice, sets, drop-at, length-slice}
 use borrow.Author.Tests.{not-true, not-false}
 use Rattle.aut68.specs.Bytes.{Bytes, lines}
@@ -76,9 +76,10 @@ module _ {book : Bytes} {limit : ℕ} {tb₀ ts₀ : List ℕ} {k : Recorded} {n
       }
 
   -- what the reader says of it
-  line-result : {bytes ks w w′ : List ℕ} {x : Line} → Fitting book limit w → KindsTable ks → HintedIn limit book tb n w → LineReadTo ks bytes book tb n limit w w′ x
-      → (b : ℕ) → Result (Reader.LineRead bytes w′ (24 * limit) x) (x .code) b (readLine (k .recorded) limit bytes b)
-  line-result f ks hints post b = post .read (k .recorded) ks known (f .large) (let e = f .enough in omega arith) hints b
+  line-result : {bytes ks w w′ : List ℕ} {x : Line} → length bytes ≤ length book → Fitting book limit w → KindsTable ks → HintedIn limit book tb n w
+      → LineReadTo ks bytes book tb n limit w w′ x → (b : ℕ) → Result (Reader.LineRead bytes w′ (24 * limit) x) (x .code) b (readLine (k .recorded) limit bytes b)
+  line-result part f ks hints post b =
+      post .read (k .recorded) ks known (let s = f .short in omega arith) (f .large) (let e = f .enough in omega arith) hints b
 
   -- ---- stored
 
@@ -98,14 +99,15 @@ module _ {book : Bytes} {limit : ℕ} {tb₀ ts₀ : List ℕ} {k : Recorded} {n
           limit = small;
         }
 
-    line-cells : (s : List ℕ) (middle : ℕ) → s ≡ termsOf (k .recorded) ++ lineCells (p .line) → middle ≡ length (kindCells (p .line .kind))
+    line-cells : (s : List ℕ) (middle : ℕ) → length s < 4294967296 → s ≡ termsOf (k .recorded) ++ lineCells (p .line) → middle ≡ length (kindCells (p .line .kind))
         → LineCells (k .recorded) s limit used (used + middle) (p .line)
     unfolding lineCells kindCells
-    line-cells s middle e m =
+    line-cells s middle short e m =
         let l = p .line in
         let a = r .reading in
         let R = line-resolved (k .recorded) l (a .contextIs) (a .middleIs) (a .categoryIs) in
         record {
+          short = short;
           cellsAre = record { is = ap (drop used) e ∙ drop-at (termsOf (k .recorded)) (lineCells l) used (sym (h .usedIs)) };
           ends = ap (λ (x : ℕ). used + x) m;
           middle = λ d q. resolved-known (k .recorded) (l .context) 0 d (R .middle d q);
@@ -120,14 +122,15 @@ module _ {book : Bytes} {limit : ℕ} {tb₀ ts₀ : List ℕ} {k : Recorded} {n
         let e : take (used + x .size) (sets ts used (lineCells (p .line))) ≡ termsOf (k .recorded) ++ lineCells (p .line) =
         ap (λ (i : ℕ). take (used + i) (sets ts used (lineCells (p .line)))) z ∙ stored-cells h r fits
         in
+        let few : used + x .size < 4294967296 = let u = used-small h small in let s = size-small h r small in omega arith in
         record {
           sizeIs = z;
           behind = a .after;
           cellsAt = a .cellsAt;
           enough = enough;
-          few = (let u = used-small h small in let s = size-small h r small in omega arith);
+          few = few;
           book = book-holds _ e;
-          cells = line-cells _ (x .middle) e (a .middleIs);
+          cells = line-cells _ (x .middle) (omega (arith, length-take (used + x .size) (sets ts used (lineCells (p .line))))) e (a .middleIs);
         }
 
   -- ---- how it ends
@@ -149,10 +152,13 @@ module _ {book : Bytes} {limit : ℕ} {tb₀ ts₀ : List ℕ} {k : Recorded} {n
     ends-at : next ≡ at + length bytes
     ends-at = let a = end .from inside in omega (arith, a, ap length bytes-are, length-slice at next book (within))
 
+    part : length bytes ≤ length book
+    part = omega (arith, within, ends-at)
+
     -- the reading refuses it
     pub ends-unread : x .code ≢ 0 → {used′ : ℕ} {w″ : List ℕ} → LineResult book limit tb₀ ts₀ k at n budget tb ts (x .code) at n used′ budget tb ts w″
     ends-unread c =
-        let (r, e, q) = result-stop c (line-result f table hints post budget) in
+        let (r, e, q) = result-stop c (line-result part f table hints post budget) in
         P.refused cut (not-read (k .recorded) limit (length tb₀) (length ts₀) bytes budget e) q refl refl refl
 
     module _ (read : x .code ≡ 0) where
@@ -169,7 +175,7 @@ module _ {book : Bytes} {limit : ℕ} {tb₀ ts₀ : List ℕ} {k : Recorded} {n
           → LineResult book limit tb₀ ts₀ k at n budget tb ts 12 at n used′ budget tb ts w″
       unfolding codeOf
       ends-full {t} flag e =
-          let (p, d, a) = result-done read (line-result f table hints post budget) in
+          let (p, d, a) = result-done read (line-result part f table hints post budget) in
           P.refused cut (no-room (k .recorded) limit (length tb₀) (length ts₀) bytes budget d (sym (room-same a) ∙ sym e ∙ not-true t flag)) refl refl refl refl
 
       module _ {t : Bool} (flag : not t ≡ false) (fits : t ≡ (ltb (suc n) 8192 && leb (8 * suc n) (length tb) && leb (used + x .size) (length ts))) where
@@ -193,7 +199,7 @@ module _ {book : Bytes} {limit : ℕ} {tb₀ ts₀ : List ℕ} {k : Recorded} {n
           pub ends-refused : code′ ≢ 0 → {used′ : ℕ} {w″ : List ℕ} → LineResult book limit tb₀ ts₀ k at n budget tb ts code′ at n used′ left tb′ ts′ w″
           unfolding andThen
           ends-refused c =
-              let (p, d, a) = result-done read (line-result f table hints post budget) in
+              let (p, d, a) = result-done read (line-result part f table hints post budget) in
               let s = stores d a in
               let (r, e, q) = result-stop c (checked .means s) in
               let (t, u) = checked .restored s c in
@@ -209,7 +215,7 @@ module _ {book : Bytes} {limit : ℕ} {tb₀ ts₀ : List ℕ} {k : Recorded} {n
               → LineResult book limit tb₀ ts₀ k at n budget tb ts 0 next (n + 1) (used + x .size) left tb′ ts′ w₃
           unfolding andThen
           ends-passed c noted =
-              let (p, d, a) = result-done read (line-result f table hints post budget) in
+              let (p, d, a) = result-done read (line-result part f table hints post budget) in
               let s = stores d a in
               let (t, e, z) = result-done c (checked .means s) in
               let R = is-read d in

@@ -29,7 +29,7 @@ use Rattle.comparison.specs.Posts.{Compares}
 use Rattle.categories.specs.Places.{FoundAt, Held}
 use Rattle.categories.specs.Posts.{FunctionKnown, MadePost, FunctionOfPost, AppliedPost, applying}
 use Rattle.categories.proofs.Within.{abstraction-domain, abstraction-body}
-use Rattle.categories.proofs.Spots.{frame-of, framed-frame, frames, level-below, level-scratch, level-result, made-held}
+use Rattle.categories.proofs.Spots.{frame-of, framed-frame, frames, level-below, level-scratch, level-result, made-held, spans-none}
 
 -- ---- the function
 
@@ -75,9 +75,13 @@ module _ {tb ts w : List ℕ} {limit found size budget level : ℕ} where
 -- ---- the application
 
 module _ {tb ts w : List ℕ} {limit level domain body : ℕ} where
-  pub applied-refused : {e : List ℕ} {b found size budget code n left : ℕ} → found ≢ 0 → code ≡ found → left ≡ budget
-      → AppliedPost tb ts e b w limit level domain body found size budget w code n left
-  applied-refused n z q = record { frame = λ small. outside-same; means = λ a B room kk ka sa at pb F x. rw (z, q) (then-refused _ n x) }
+  pub applied-refused : {e : List ℕ} {b extent found size budget code n whole left : ℕ} → found ≢ 0 → code ≡ found → whole ≡ 0 → left ≡ budget
+      → AppliedPost tb ts e b extent w limit level domain body found size budget w code n whole left
+  applied-refused n z s q = record {
+    frame = λ small. outside-same;
+    spans = spans-none (λ y. n (sym z ∙ y)) s;
+    means = λ a B room kk ka sa at pb F x. rw (z, q) (then-refused _ n x);
+  }
 
   module _ {found size budget a compared left₁ : ℕ} {w₁ : List ℕ} (l : level < 35) (z : found ≡ 0) (pa : limit ≤ 4096 → a ≡ unitAt limit (levelUnit (level + 1)))
       (C : Compares tb ts w limit budget a domain 32 w₁ compared left₁) where
@@ -92,19 +96,21 @@ module _ {tb ts w : List ℕ} {limit level domain body : ℕ} where
         small : FunctionKnown ls k w limit level domain body f → Expr.size (f .domain) ≤ limit
         small G = domain-small (f .domain) (f .body) (G .0 .small)
 
-    pub applied-differs : {e : List ℕ} {b n code left : ℕ} → compared ≢ 0 → code ≡ compared → left ≡ left₁
-        → AppliedPost tb ts e b w limit level domain body found size budget w₁ code n left
+    pub applied-differs : {e : List ℕ} {b extent n code whole left : ℕ} → compared ≢ 0 → code ≡ compared → whole ≡ 0 → left ≡ left₁
+        → AppliedPost tb ts e b extent w limit level domain body found size budget w₁ code n whole left
     unfolding applying
-    applied-differs g u v = record {
+    applied-differs g u s v = record {
+      spans = spans-none (λ y. g (sym u ∙ y)) s;
       frame = λ small. frames (omega (arith, level-below limit {level = level} (omega arith))) outside-same (C .frame small (omega arith));
       means = λ x B room kk ka sa at pb F m. rw (u, v) (then-passed _ z m (λ c f. then-refused _ g (compared-with B room kk F c f)));
     }
 
-    pub applied-made : {e : List ℕ} {b scratch to n code n′ left : ℕ} {w₂ w₃ w₄ : List ℕ} → compared ≡ 0 → 1 ≤ b → (limit ≤ 4096 → scratch ≡ unitAt limit scratchUnit)
+    pub applied-made : {e : List ℕ} {b extent scratch to n code n′ whole left : ℕ} {w₂ w₃ w₄ : List ℕ} → compared ≡ 0 → 1 ≤ b → (limit ≤ 4096 → scratch ≡ unitAt limit scratchUnit)
         → (limit ≤ 4096 → to ≡ unitAt limit resultUnit) → w₂ ≡ copyCells e 1 (b - 1) w₁ scratch → SubstitutePost tb w₂ w₃ body scratch to limit n
-        → MadePost w₃ limit left₁ level n w₄ code n′ left → AppliedPost tb ts e b w limit level domain body found size budget w₄ code n′ left
+        → MadePost w₃ limit left₁ level n (b + extent) w₄ code n′ whole left → AppliedPost tb ts e b extent w limit level domain body found size budget w₄ code n′ whole left
     unfolding applying Scoped
-    applied-made {e} {b} {scratch} {to} {n} {code} {n′} {left} {w₂} {w₃} {w₄} g h ps pt q S M = record {
+    applied-made {e} {b} {extent} {scratch} {to} {n} {code} {n′} {whole} {left} {w₂} {w₃} {w₄} g h ps pt q S M = record {
+      spans = M .spans;
       frame = λ small.
           let U = unitAt limit (levelUnit level) in
           let o₁ : Outside U (length w) w w₁ = frame-of (C .frame small (omega arith)) (omega (arith, level-below limit {level = level} (omega arith))) in

@@ -1,5 +1,5 @@
 -- The procedure's answers as the code finds them: small actions, and the clauses of `category`, `arguments` and the checks.
-use mathlib.Core.Path.{_≡_, refl, ap, _∙_}
+use mathlib.Core.Path.{_≡_, refl, sym, ap, _∙_}
 use mathlib.Core.Bool.{Bool, true, false, false≢true, true≢false}
 use mathlib.Core.List.{List, [], _∷_}
 use Prim.Native.Nat.{ℕ, zero, suc, _≤_, _<_}
@@ -7,17 +7,19 @@ use native.Mathlib.Omega.{arith}
 use lib.Dec.{leb}
 use lib.ListN.{length}
 use borrow.Author.Tests.{le-leb, lt-leb}
-use Rattle.aut68.specs.Procedure.Answer.{Act, Answer, done, stop, andThen, _>>=_, give, ensure, codeOf, notType, tooLarge}
-use Rattle.aut68.specs.Expr.{Expr, Exprs, var, bound, const, app, abs, nil, cons, snoc, size, isType}
+use Rattle.aut68.specs.Procedure.Answer.{Act, Answer, done, stop, andThen, _>>=_, give, ensure, Refusal, codeOf, notType, tooLarge}
+use Rattle.aut68.specs.Expr.{Expr, Exprs, var, bound, const, app, abs, nil, cons, snoc, size, countExprs, isType}
 use Rattle.aut68.specs.Substitution.{lift, instantiate}
 use Rattle.aut68.specs.Lines.{Line, Lines}
 use Rattle.aut68.specs.Rules.Names.{IsLine}
 use Rattle.aut68.specs.Rules.Categories.{DomainAt, innermost, outside}
-use Rattle.aut68.specs.Procedure.Compare.{compare}
+use Rattle.aut68.specs.Procedure.Compare.{Comparison, same, next, sides, compareAt, compare}
 use Rattle.aut68.specs.Procedure.Category.{nth, theLine, made, toFunction, overBinding, category, arguments}
 use Rattle.aut68.specs.Procedure.CheckLine.{checkWritten}
 use Rattle.calculus.specs.Functions.{the-line}
-use Rattle.cells.specs.Results.{Result, passed, refused}
+use Rattle.cells.specs.Results.{Result, passed, refused, code-nonzero}
+use Rattle.terms.specs.Unchanged.{instantiate-empty}
+use Rattle.reduction.specs.Sides.{identical-self}
 use Rattle.categories.specs.Posts.{wantedFits, applying}
 
 -- ---- answers
@@ -27,6 +29,26 @@ pub result-and : {A : Type 0} {R Q : A → Type 0} {code left : ℕ} {m : Answer
     → Result (λ a. R a × Q a) code left m
 result-and (passed {a} e h) q = passed e (h, q a refl)
 result-and (refused e) q = refused e
+
+-- where an answer passed, so did the one before it
+stopped : {A : Type 0} {R : A → Type 0} {code left : ℕ} {r : Refusal} {b : ℕ} → Result R code left (stop r b) → code ≡ codeOf r
+stopped (refused e) = e
+
+pub came : {A B : Type 0} {R : A → Type 0} {Q : B → Type 0} {code left code′ left′ : ℕ} (f : A → Act ℕ B) {m : Answer ℕ A} → code′ ≡ 0
+    → Result Q code′ left′ (andThen f m) → Result R code left m → code ≡ 0
+unfolding andThen
+came f z h (passed e r) = e
+came f z h (refused {r} e) = absurd (code-nonzero r (sym (stopped h) ∙ z))
+
+-- what holds of every value, of an answer that passed
+pub passed-holds : {A : Type 0} {P : Type 0} {code left : ℕ} {m : Answer ℕ A} → code ≡ 0 → Result (λ _. P) code left m → P
+passed-holds z (passed e p) = p
+passed-holds z (refused {r} e) = absurd (code-nonzero r (sym e ∙ z))
+
+-- what holds where an answer passed may be said of it
+pub passes-with : {P : Type 0} {code left : ℕ} {m : Answer ℕ (Unit {0})} → (code ≡ 0 → P) → Result (λ _. Unit {0}) code left m → Result (λ _. P) code left m
+passes-with f (passed e h) = passed e (f e)
+passes-with f (refused e) = refused e
 
 -- one action after another, in either grouping
 pub then-assoc : {A B C : Type 0} (f : A → Act ℕ B) (g : B → Act ℕ C) (m : Answer ℕ A) → andThen (λ a s. andThen g (f a s)) m ≡ andThen g (andThen f m)
@@ -56,6 +78,31 @@ pub at-line : {B : Type 0} {Q : B → Type 0} {code left : ℕ} {ls : Lines} {v 
     → Result Q code left (f l b) → Result Q code left (andThen f (theLine ls v b))
 unfolding andThen
 at-line f b i h = rw (the-line i b) h
+
+-- ---- a comparison with itself
+
+next-self : (ls : Lines) (e : Expr) → next ls e e ≡ same
+unfolding next
+next-self ls e = rw (identical-self e, next)
+
+sides-self : (ls : Lines) (L : ℕ) (deeper : Comparison) (e : Expr) (b : ℕ) → sides ls L deeper e e b ≡ done tt b
+unfolding sides
+sides-self ls L deeper e zero = rw (next-self ls e, sides)
+sides-self ls L deeper e (suc b) = rw (next-self ls e, sides)
+
+pub compare-self : (ls : Lines) (L : ℕ) (e : Expr) (b : ℕ) → compare ls L e e b ≡ done tt b
+unfolding compare compareAt
+compare-self ls L e b = sides-self ls L (compareAt ls L 31) e b
+
+-- ---- no arguments
+
+-- no argument is left
+pub none-left : (ls : Lines) (L : ℕ) (sc : List Expr) (ys : Exprs) (us context : List ℕ) (earlier : Exprs) (left : ℕ) → countExprs ys ≡ 0 → length us ≡ 0
+    → arguments ls L sc ys us context earlier left ≡ done tt left
+unfolding category countExprs
+none-left ls L sc nil [] context earlier left h k = refl
+none-left ls L sc nil (u ∷ us) context earlier left h k = absurd (omega arith)
+none-left ls L sc (cons a ys) us context earlier left h k = absurd (omega arith)
 
 -- ---- bindings
 
@@ -89,6 +136,14 @@ module _ (ls : Lines) (L : ℕ) {R : Expr → Type 0} {code left : ℕ} (sc : Li
       → Result R code left (category ls L sc (const v xs) n)
   unfolding category
   constant-clause xs i h = at-line _ n i h
+
+  -- a constant without arguments
+  pub alone-clause : {v : ℕ} {l : Line} (xs : Exprs) → IsLine ls v l → length (l .context) ≡ 0 → countExprs xs ≡ 0
+      → Result R code left (made L (l .category) n) → Result R code left (category ls L sc (const v xs) n)
+  unfolding andThen
+  alone-clause {l = l} xs i h c r =
+      constant-clause xs i (rw (none-left ls L sc xs (l .context) (l .context) nil n c h)
+      (rw (instantiate-empty (l .context) xs 0 (l .category) h) r))
 
 module _ (ls : Lines) (L : ℕ) (sc : List Expr) (n : ℕ) where
   pub application-clause : (a b : Expr) → category ls L sc (app a b) n

@@ -1,29 +1,31 @@
 -- The category of an expression, by its first cell, from what the functions below it leave.
-use mathlib.Core.Path.{_≡_, sym, ap}
+use mathlib.Core.Path.{_≡_, refl, sym, ap, _∙_}
 use mathlib.Core.Logic.{_≢_}
-use mathlib.Core.List.{List}
+use mathlib.Core.List.{List, _∷_}
 use Prim.Native.Nat.{ℕ, _+_, _*_, _-_, _/_, _%_, _≤_, _<_}
 use native.Mathlib.Omega.{arith}
 use lib.ListN.{length, getD}
 use Rattle.aut68.specs.Procedure.Answer.{andThen, ensure, notType}
-use Rattle.aut68.specs.Expr.{Expr, Exprs, type, var, bound, const, app, abs, size, cells, firstCell, isType}
+use Rattle.aut68.specs.Expr.{Expr, Exprs, type, var, bound, const, app, abs, nil, cons, sizes, cells, firstCell, countExprs, isType}
 use Rattle.aut68.specs.Expr as Expr
-use Rattle.aut68.specs.Lines.{Lines}
-use Rattle.aut68.specs.Procedure.Category.{category, toFunction}
+use Rattle.aut68.specs.Lines.{Line, Lines}
+use Rattle.aut68.specs.Procedure.Category.{made, toFunction, overBinding, category}
 use Rattle.calculus.specs.Scoped.{Scoped}
 use Rattle.calculus.specs.CategoryFound.{found-known}
+use Rattle.cells.specs.Cells.{rowCell}
 use Rattle.cells.specs.Layout.{unitAt, levelUnit, unit-below}
 use Rattle.cells.specs.Forests.{size-is-length, at-first, at-inside, cells-long}
 use Rattle.cells.specs.Posts.{Skipped, Bound}
-use Rattle.cells.specs.Results.{Result, passed, then-refused, then-passed}
+use Rattle.cells.specs.Results.{Result, passed, then-refused, then-passed, result-map}
 use Rattle.cells.specs.Stores.{outside-same}
 use Rattle.cells.specs.declared.scope.Scope.{Scope}
 use Rattle.reduction.specs.Book.{Book, known-wf}
-use Rattle.categories.specs.Places.{Expression}
-use Rattle.categories.specs.Posts.{Finds, FindsKnown, Passes, FunctionKnown, VariablePost, BoundPost, ConstantPost, FunctionOfPost, AppliedPost, FoundTypePost, OverBindingPost, Categorises, CategoryPost, ApplicationPost, AbstractionPost, ArgumentsPost}
-use Rattle.categories.proofs.Clauses.{result-and, constant-clause, application-clause, abstraction-clause}
+use Rattle.categories.specs.Places.{Awaits, Expression}
+use Rattle.categories.specs.Posts.{Finds, FindsKnown, Passes, FunctionKnown, StoredPost, BoundPost, ConstantPost, FunctionOfPost, AppliedPost, FoundTypePost, OverBindingPost, VariableFitsPost, ArgumentFitsPost, wantedFits, Categorises, CategoryPost, ApplicationPost, AbstractionPost, ArgumentPost, ArgumentsPost}
+use Rattle.categories.proofs.Clauses.{result-and, came, passed-holds, passes-with, variable-clause, constant-clause, alone-clause, application-clause, abstraction-clause}
 use Rattle.categories.proofs.Spots.{frames, function-kept}
-use Rattle.categories.proofs.Within.{part, nesting-positive, skip-one, application-argument, abstraction-domain, abstraction-front, argument-of, function-in, domain-in, body-in, arguments-in}
+use Rattle.categories.proofs.Fitting.{next-unit, awaits-kept}
+use Rattle.categories.proofs.Within.{part, part-length, nesting-positive, skip-one, application-argument, abstraction-domain, abstraction-front, argument-of, function-in, domain-in, body-in, arguments-in}
 
 -- what is found is known
 pub finds-known : {ls : Lines} {tb ts e : List ℕ} {scope : Scope} {limit level : ℕ} {w′ : List ℕ} {level′ code n left : ℕ} {sc : List Expr} (x : Expr) (budget : ℕ)
@@ -32,47 +34,66 @@ pub finds-known : {ls : Lines} {tb ts e : List ℕ} {scope : Scope} {limit level
 finds-known {ls} {limit = limit} {left = left} {sc = sc} x budget B E h =
     result-and h (λ c q. found-known ls (B .resolved) limit sc (E .knownScope) x c budget left (E .known) q)
 
+-- a string of no expression has no cell
+no-sizes : (xs : Exprs) → countExprs xs ≡ 0 → sizes xs ≡ 0
+unfolding countExprs sizes
+no-sizes nil h = refl
+no-sizes (cons x xs) h = absurd (omega arith)
+
 module _ {tb ts e : List ℕ} {scope : Scope} {w : List ℕ} {limit budget level : ℕ} where
   -- ---- what no known expression is
 
-  pub category-deep : {code n left : ℕ} → 31 < level → CategoryPost tb ts e scope w limit budget level w code n left
-  category-deep h = record {
+  pub category-deep : {code n extent left : ℕ} → 31 < level → extent ≡ 0 → CategoryPost tb ts e scope w limit budget level w code n extent left
+  category-deep h z = record {
     frame = λ small. outside-same;
-    means = λ x. record { finds = λ B room E. absurd (omega (arith, nesting-positive x, E .shallow)) };
+    within = omega arith;
+    means = λ x. record {
+      finds = λ B room E. absurd (omega (arith, nesting-positive x, E .shallow));
+      spans = λ B room E. absurd (omega (arith, nesting-positive x, E .shallow));
+    };
   }
 
-  pub category-empty : {code n left : ℕ} → length e ≡ 0 → CategoryPost tb ts e scope w limit budget level w code n left
-  category-empty h = record {
+  pub category-empty : {code n extent left : ℕ} → length e ≡ 0 → extent ≡ 0 → CategoryPost tb ts e scope w limit budget level w code n extent left
+  category-empty h z = record {
     frame = λ small. outside-same;
-    means = λ x. record { finds = λ B room E. absurd (omega (arith, at-inside x (E .at), cells-long x)) };
+    within = omega arith;
+    means = λ x. record {
+      finds = λ B room E. absurd (omega (arith, at-inside x (E .at), cells-long x));
+      spans = λ B room E. absurd (omega (arith, at-inside x (E .at), cells-long x));
+    };
   }
 
   -- ---- by the first cell
 
-  module _ {w′ : List ℕ} {code n left : ℕ} where
+  module _ {w′ : List ℕ} {code n extent left : ℕ} where
     -- an expression of another kind does not lie there
-    other-kind : (x : Expr) → (firstCell x % 8 ≡ getD e 0 0 % 8 → ⊥) → Categorises tb ts e scope w limit budget level w′ code n left x
-    other-kind x h = record { finds = λ B room E. absurd (h (ap (λ (k : ℕ). k % 8) (sym (at-first x (E .at))))) }
+    other-kind : (x : Expr) → (firstCell x % 8 ≡ getD e 0 0 % 8 → ⊥) → Categorises tb ts e scope w limit budget level w′ code n extent left x
+    other-kind x h = record {
+      finds = λ B room E. absurd (h (ap (λ (k : ℕ). k % 8) (sym (at-first x (E .at)))));
+      spans = λ B room E. absurd (h (ap (λ (k : ℕ). k % 8) (sym (at-first x (E .at)))));
+    }
 
-    no-type : Categorises tb ts e scope w limit budget level w′ code n left type
+    no-type : Categorises tb ts e scope w limit budget level w′ code n extent left type
     unfolding Scoped
-    no-type = record { finds = λ B room E. absurd (E .known) }
+    no-type = record { finds = λ B room E. absurd (E .known); spans = λ B room E. absurd (E .known) }
 
-    by-var : (v′ v : ℕ) → v ≡ getD e 0 0 / 8 → VariablePost tb ts w limit budget level v w′ code n left → Categorises tb ts e scope w limit budget level w′ code n left (var v′)
-    unfolding Scoped firstCell
+    by-var : (v′ v : ℕ) → v ≡ getD e 0 0 / 8 → StoredPost tb ts w limit budget level v w′ code n extent left
+        → Categorises tb ts e scope w limit budget level w′ code n extent left (var v′)
+    unfolding Scoped firstCell Expr.size
     by-var v′ v q P = record {
       finds = λ {ls} {sc} B room E.
           let k : v ≡ v′ = omega (arith, at-first (var v′) (E .at)) in
-          let P₁ : VariablePost tb ts w limit budget level v′ w′ code n left = rw k at P in
-          P₁ .means B room (E .known .isLine) sc;
+          let P₁ : StoredPost tb ts w limit budget level v′ w′ code n extent left = rw k at P in
+          variable-clause ls limit sc budget (E .known .isLine) (P₁ .means B room (E .known .isLine));
+      spans = λ B room E. P .spans .is;
     }
 
-    pub by-variable : {v : ℕ} → getD e 0 0 % 8 ≡ 1 → v ≡ getD e 0 0 / 8 → VariablePost tb ts w limit budget level v w′ code n left
-        → CategoryPost tb ts e scope w limit budget level w′ code n left
+    pub by-variable : {v : ℕ} → 1 ≤ length e → getD e 0 0 % 8 ≡ 1 → v ≡ getD e 0 0 / 8 → StoredPost tb ts w limit budget level v w′ code n extent left
+        → CategoryPost tb ts e scope w limit budget level w′ code n extent left
     unfolding firstCell
-    by-variable {v} h q P = record { frame = P .frame; means = go }
+    by-variable {v} m h q P = record { frame = P .frame; within = omega (arith, P .spans .within); means = go }
       where
-        go : (x : Expr) → Categorises tb ts e scope w limit budget level w′ code n left x
+        go : (x : Expr) → Categorises tb ts e scope w limit budget level w′ code n extent left x
         go type = no-type
         go (var v′) = by-var v′ v q P
         go (bound i) = other-kind (bound i) (λ z. omega arith)
@@ -80,21 +101,23 @@ module _ {tb ts e : List ℕ} {scope : Scope} {w : List ℕ} {limit budget level
         go (app a b) = other-kind (app a b) (λ z. omega arith)
         go (abs p t) = other-kind (abs p t) (λ z. omega arith)
 
-    by-index : (i v : ℕ) → v ≡ getD e 0 0 / 8 → BoundPost tb ts scope w limit budget level v w′ code n left → Categorises tb ts e scope w limit budget level w′ code n left (bound i)
-    unfolding Scoped firstCell
+    by-index : (i v : ℕ) → v ≡ getD e 0 0 / 8 → BoundPost tb ts scope w limit budget level v w′ code n extent left
+        → Categorises tb ts e scope w limit budget level w′ code n extent left (bound i)
+    unfolding Scoped firstCell Expr.size
     by-index i v q P = record {
       finds = λ {ls} {sc} B room E.
           let k : v ≡ i = omega (arith, at-first (bound i) (E .at)) in
-          let P₁ : BoundPost tb ts scope w limit budget level i w′ code n left = rw k at P in
+          let P₁ : BoundPost tb ts scope w limit budget level i w′ code n extent left = rw k at P in
           P₁ .means B room (E .holds) (E .knownScope) (E .known);
+      spans = λ B room E. P .spans .is;
     }
 
-    pub by-bound : {v : ℕ} → getD e 0 0 % 8 ≡ 2 → v ≡ getD e 0 0 / 8 → BoundPost tb ts scope w limit budget level v w′ code n left
-        → CategoryPost tb ts e scope w limit budget level w′ code n left
+    pub by-bound : {v : ℕ} → 1 ≤ length e → getD e 0 0 % 8 ≡ 2 → v ≡ getD e 0 0 / 8 → BoundPost tb ts scope w limit budget level v w′ code n extent left
+        → CategoryPost tb ts e scope w limit budget level w′ code n extent left
     unfolding firstCell
-    by-bound {v} h q P = record { frame = P .frame; means = go }
+    by-bound {v} m h q P = record { frame = P .frame; within = omega (arith, P .spans .within); means = go }
       where
-        go : (x : Expr) → Categorises tb ts e scope w limit budget level w′ code n left x
+        go : (x : Expr) → Categorises tb ts e scope w limit budget level w′ code n extent left x
         go type = no-type
         go (var v′) = other-kind (var v′) (λ z. omega arith)
         go (bound i) = by-index i v q P
@@ -102,11 +125,12 @@ module _ {tb ts e : List ℕ} {scope : Scope} {w : List ℕ} {limit budget level
         go (app a b) = other-kind (app a b) (λ z. omega arith)
         go (abs p t) = other-kind (abs p t) (λ z. omega arith)
 
-    pub by-application : getD e 0 0 % 8 ≡ 4 → ApplicationPost tb ts e scope w limit budget level w′ code n left → CategoryPost tb ts e scope w limit budget level w′ code n left
+    pub by-application : getD e 0 0 % 8 ≡ 4 → ApplicationPost tb ts e scope w limit budget level w′ code n extent left
+        → CategoryPost tb ts e scope w limit budget level w′ code n extent left
     unfolding firstCell
-    by-application h P = record { frame = P .frame; means = go }
+    by-application h P = record { frame = P .frame; within = P .within; means = go }
       where
-        go : (x : Expr) → Categorises tb ts e scope w limit budget level w′ code n left x
+        go : (x : Expr) → Categorises tb ts e scope w limit budget level w′ code n extent left x
         go type = no-type
         go (var v′) = other-kind (var v′) (λ z. omega arith)
         go (bound i) = other-kind (bound i) (λ z. omega arith)
@@ -114,11 +138,12 @@ module _ {tb ts e : List ℕ} {scope : Scope} {w : List ℕ} {limit budget level
         go (app a b) = P .means a b
         go (abs p t) = other-kind (abs p t) (λ z. omega arith)
 
-    pub by-abstraction : getD e 0 0 % 8 ≡ 5 → AbstractionPost tb ts e scope w limit budget level w′ code n left → CategoryPost tb ts e scope w limit budget level w′ code n left
+    pub by-abstraction : getD e 0 0 % 8 ≡ 5 → AbstractionPost tb ts e scope w limit budget level w′ code n extent left
+        → CategoryPost tb ts e scope w limit budget level w′ code n extent left
     unfolding firstCell
-    by-abstraction h P = record { frame = P .frame; means = go }
+    by-abstraction h P = record { frame = P .frame; within = P .within; means = go }
       where
-        go : (x : Expr) → Categorises tb ts e scope w limit budget level w′ code n left x
+        go : (x : Expr) → Categorises tb ts e scope w limit budget level w′ code n extent left x
         go type = no-type
         go (var v′) = other-kind (var v′) (λ z. omega arith)
         go (bound i) = other-kind (bound i) (λ z. omega arith)
@@ -126,43 +151,82 @@ module _ {tb ts e : List ℕ} {scope : Scope} {w : List ℕ} {limit budget level
         go (app a b) = other-kind (app a b) (λ z. omega arith)
         go (abs p t) = P .means p t
 
-    -- a constant: its arguments, and then what is left to do
-    by-arguments : {w₁ : List ℕ} {passed left₁ : ℕ} (u : ℕ) (xs : Exprs) (v : ℕ) → v ≡ getD e 0 0 / 8 → level < 36
-        → ArgumentsPost tb ts (part e 1) scope w limit budget level v w₁ passed left₁ → ConstantPost tb ts w₁ limit passed left₁ level v w′ code n left → Categorises tb ts e scope w limit budget level w′ code n left (const u xs)
-    unfolding Scoped firstCell
-    by-arguments {w₁} {passed} {left₁} u xs v q l A C = record {
+    -- a constant, by what is found for it
+    by-const : getD e 0 0 % 8 ≡ 3 → ((u : ℕ) (xs : Exprs) → Categorises tb ts e scope w limit budget level w′ code n extent left (const u xs)) → (x : Expr)
+        → Categorises tb ts e scope w limit budget level w′ code n extent left x
+    unfolding firstCell
+    by-const h f type = no-type
+    by-const h f (var v′) = other-kind (var v′) (λ z. omega arith)
+    by-const h f (bound i) = other-kind (bound i) (λ z. omega arith)
+    by-const h f (const u xs) = f u xs
+    by-const h f (app a b) = other-kind (app a b) (λ z. omega arith)
+    by-const h f (abs p t) = other-kind (abs p t) (λ z. omega arith)
+
+    -- without arguments: the category on its line
+    by-line : (u : ℕ) (xs : Exprs) (v : ℕ) → v ≡ getD e 0 0 / 8 → rowCell tb v 3 ≡ 0 → StoredPost tb ts w limit budget level v w′ code n extent left
+        → Categorises tb ts e scope w limit budget level w′ code n extent left (const u xs)
+    unfolding Scoped firstCell Expr.size
+    by-line u xs v q z P = record {
       finds = λ {ls} {sc} B room E.
           let k : v ≡ u = omega (arith, at-first (const u xs) (E .at)) in
-          let A₁ : ArgumentsPost tb ts (part e 1) scope w limit budget level u w₁ passed left₁ = rw k at A in
-          let C₁ : ConstantPost tb ts w₁ limit passed left₁ level u w′ code n left = rw k at C in
+          let P₁ : StoredPost tb ts w limit budget level u w′ code n extent left = rw k at P in
+          let z₁ : rowCell tb u 3 ≡ 0 = rw k at z in
           let i = E .known .0 .isLine in
-          let c = E .known .0 .asMany in
-          let X = arguments-in u xs E in
-          constant-clause ls limit sc budget xs i
-          (C₁ .means B (omega (arith, A .frame (B .limit) .long)) i c (E .holds .few) (E .known .1) (A₁ .kept B room i c X) (A₁ .means B room i c X));
+          let r = B .rows .row i .contextIs in
+          alone-clause ls limit sc budget xs i (omega arith) (omega (arith, E .known .0 .asMany)) (P₁ .means B room i);
+      spans = λ {ls} {sc} B room E y.
+          let k : v ≡ u = omega (arith, at-first (const u xs) (E .at)) in
+          let z₁ : rowCell tb u 3 ≡ 0 = rw k at z in
+          let r = B .rows .row (E .known .0 .isLine) .contextIs in
+          let s = no-sizes xs (omega (arith, E .known .0 .asMany)) in
+          omega (arith, P .spans .is y);
     }
 
-    pub by-constant : {w₁ : List ℕ} {v passed left₁ : ℕ} → level < 36 → getD e 0 0 % 8 ≡ 3 → v ≡ getD e 0 0 / 8
-        → ArgumentsPost tb ts (part e 1) scope w limit budget level v w₁ passed left₁ → ConstantPost tb ts w₁ limit passed left₁ level v w′ code n left
-        → CategoryPost tb ts e scope w limit budget level w′ code n left
-    unfolding firstCell
-    by-constant {w₁} {v} l h q A C = record { frame = λ small. frames (omega arith) (A .frame small) (C .frame small); means = go }
-      where
-        go : (x : Expr) → Categorises tb ts e scope w limit budget level w′ code n left x
-        go type = no-type
-        go (var v′) = other-kind (var v′) (λ z. omega arith)
-        go (bound i) = other-kind (bound i) (λ z. omega arith)
-        go (const u xs) = by-arguments u xs v q l A C
-        go (app a b) = other-kind (app a b) (λ z. omega arith)
-        go (abs p t) = other-kind (abs p t) (λ z. omega arith)
+    pub by-alone : {v : ℕ} → 1 ≤ length e → getD e 0 0 % 8 ≡ 3 → v ≡ getD e 0 0 / 8 → rowCell tb v 3 ≡ 0 → StoredPost tb ts w limit budget level v w′ code n extent left
+        → CategoryPost tb ts e scope w limit budget level w′ code n extent left
+    by-alone {v} m h q z P = record { frame = P .frame; within = omega (arith, P .spans .within); means = by-const h (λ u xs. by-line u xs v q z P) }
+
+    -- with arguments: these, and then what is left to do
+    by-arguments : {w₁ : List ℕ} {passed₁ extent₁ : ℕ} {starts : List ℕ} {left₁ : ℕ} (u : ℕ) (xs : Exprs) (v : ℕ) → v ≡ getD e 0 0 / 8
+        → ArgumentsPost tb ts (part e 1) scope w limit budget level v w₁ passed₁ extent₁ starts left₁
+        → ConstantPost tb ts w₁ limit passed₁ extent₁ starts left₁ level v w′ code n extent left → Categorises tb ts e scope w limit budget level w′ code n extent left (const u xs)
+    unfolding Scoped firstCell Expr.size
+    by-arguments {w₁} {passed₁} {extent₁} {starts} {left₁} u xs v q A C = record {
+      finds = λ {ls} {sc} B room E.
+          let k : v ≡ u = omega (arith, at-first (const u xs) (E .at)) in
+          let A₁ : ArgumentsPost tb ts (part e 1) scope w limit budget level u w₁ passed₁ extent₁ starts left₁ = rw k at A in
+          let C₁ : ConstantPost tb ts w₁ limit passed₁ extent₁ starts left₁ level u w′ code n extent left = rw k at C in
+          let i = E .known .0 .isLine in
+          let c = E .known .0 .asMany in
+          constant-clause ls limit sc budget xs i
+          (C₁ .means B (omega (arith, A .frame (B .limit) .long)) i c (E .holds .few) (E .known .1) (A₁ .means B room i c (arguments-in u xs E)));
+      spans = λ {ls} {sc} B room E z.
+          let k : v ≡ u = omega (arith, at-first (const u xs) (E .at)) in
+          let A₁ : ArgumentsPost tb ts (part e 1) scope w limit budget level u w₁ passed₁ extent₁ starts left₁ = rw k at A in
+          let C₁ : ConstantPost tb ts w₁ limit passed₁ extent₁ starts left₁ level u w′ code n extent left = rw k at C in
+          let i = E .known .0 .isLine in
+          let c = E .known .0 .asMany in
+          let M = A₁ .means B room i c (arguments-in u xs E) in
+          let y = came _ z (C₁ .means B (omega (arith, A .frame (B .limit) .long)) i c (E .holds .few) (E .known .1) M) M in
+          omega (arith, C .spans .is z, passed-holds y M .1);
+    }
+
+    pub by-constant : {w₁ : List ℕ} {v passed₁ extent₁ : ℕ} {starts : List ℕ} {left₁ : ℕ} → 1 ≤ length e → getD e 0 0 % 8 ≡ 3 → v ≡ getD e 0 0 / 8
+        → ArgumentsPost tb ts (part e 1) scope w limit budget level v w₁ passed₁ extent₁ starts left₁
+        → ConstantPost tb ts w₁ limit passed₁ extent₁ starts left₁ level v w′ code n extent left → CategoryPost tb ts e scope w limit budget level w′ code n extent left
+    by-constant {v = v} m h q A C = record {
+      frame = λ small. frames (omega arith) (A .frame small) (C .frame small);
+      within = omega (arith, C .spans .within, A .within, part-length e 1);
+      means = by-const h (λ u xs. by-arguments u xs v q A C);
+    }
 
     -- no expression
-    pub by-nothing : (getD e 0 0 % 8 ≡ 1 → ⊥) → (getD e 0 0 % 8 ≡ 2 → ⊥) → (getD e 0 0 % 8 ≡ 3 → ⊥) → (getD e 0 0 % 8 ≡ 4 → ⊥) → (getD e 0 0 % 8 ≡ 5 → ⊥) → w′ ≡ w
-        → CategoryPost tb ts e scope w limit budget level w′ code n left
+    pub by-nothing : (getD e 0 0 % 8 ≡ 1 → ⊥) → (getD e 0 0 % 8 ≡ 2 → ⊥) → (getD e 0 0 % 8 ≡ 3 → ⊥) → (getD e 0 0 % 8 ≡ 4 → ⊥) → (getD e 0 0 % 8 ≡ 5 → ⊥) → extent ≡ 0 → w′ ≡ w
+        → CategoryPost tb ts e scope w limit budget level w′ code n extent left
     unfolding firstCell
-    by-nothing h₁ h₂ h₃ h₄ h₅ q = record { frame = λ small. rw q outside-same; means = go }
+    by-nothing h₁ h₂ h₃ h₄ h₅ s q = record { frame = λ small. rw q outside-same; within = omega arith; means = go }
       where
-        go : (x : Expr) → Categorises tb ts e scope w limit budget level w′ code n left x
+        go : (x : Expr) → Categorises tb ts e scope w limit budget level w′ code n extent left x
         go type = no-type
         go (var v′) = other-kind (var v′) (λ z. h₁ (omega arith))
         go (bound i) = other-kind (bound i) (λ z. h₂ (omega arith))
@@ -170,10 +234,52 @@ module _ {tb ts e : List ℕ} {scope : Scope} {w : List ℕ} {limit budget level
         go (app a b) = other-kind (app a b) (λ z. h₄ (omega arith))
         go (abs p t) = other-kind (abs p t) (λ z. h₅ (omega arith))
 
+-- ---- an argument
+
+module _ {tb ts e : List ℕ} {scope : Scope} {w : List ℕ} {limit budget level wanted base count : ℕ} {starts : List ℕ} where
+  pub argument-none : {code extent left : ℕ} → length e ≡ 0 → extent ≡ 0 → ArgumentPost tb ts e scope w limit budget level wanted base count starts w code extent left
+  argument-none h z = record {
+    frame = λ small. outside-same;
+    within = omega arith;
+    means = λ x B room A E. absurd (omega (arith, at-inside x (E .at), cells-long x));
+  }
+
+  pub argument-variable : {u : ℕ} {w′ : List ℕ} {code left : ℕ} → 1 ≤ length e → getD e 0 0 % 8 ≡ 1 → u ≡ getD e 0 0 / 8
+      → VariableFitsPost tb ts w limit budget level u wanted base count starts w′ code left
+      → ArgumentPost tb ts e scope w limit budget level wanted base count starts w′ code 1 left
+  unfolding Scoped firstCell Expr.size
+  argument-variable {u} {w′} {code} {left} m h q F = record { frame = F .frame; within = m; means = go }
+    where
+      go : {ls : Lines} {sc : List Expr} {v : ℕ} {l : Line} {earlier : Exprs} (x : Expr) → Book ls limit tb ts → 128 * limit ≤ length w
+          → Awaits ls w limit level (length sc) base count starts wanted v l earlier → Expression ls ts e scope limit (level + 1) sc x
+          → Result (λ _. 1 ≡ Expr.size x) code left (andThen (wantedFits ls limit (l .context) earlier wanted) (category ls limit sc x budget))
+      go {sc = sc} (var v′) B room A E =
+          let k : u ≡ v′ = omega (arith, at-first (var v′) (E .at)) in
+          let F₁ : VariableFitsPost tb ts w limit budget level v′ wanted base count starts w′ code left = rw k at F in
+          result-map (λ _ _. refl) (F₁ .means B room A (E .known .isLine) sc)
+      go type B room A E = absurd (omega (arith, at-first type (E .at)))
+      go (bound i) B room A E = absurd (omega (arith, at-first (bound i) (E .at)))
+      go (const v xs) B room A E = absurd (omega (arith, at-first (const v xs) (E .at)))
+      go (app a b) B room A E = absurd (omega (arith, at-first (app a b) (E .at)))
+      go (abs p t) B room A E = absurd (omega (arith, at-first (abs p t) (E .at)))
+
+  pub argument-other : {w₁ w₂ : List ℕ} {found size extent left₁ code left : ℕ} → CategoryPost tb ts e scope w limit budget (level + 1) w₁ found size extent left₁
+      → ArgumentFitsPost tb ts w₁ limit found size left₁ level wanted base count starts w₂ code left
+      → ArgumentPost tb ts e scope w limit budget level wanted base count starts w₂ code extent left
+  argument-other C F = record {
+    frame = λ small. frames (omega arith) (C .frame small) (F .frame small);
+    within = C .within;
+    means = λ {ls} {sc} x B room A E.
+        let o = C .frame (B .limit) in
+        let K = finds-known x budget B E (C .means x .finds B room E) in
+        let P = F .means B (omega (arith, o .long)) (awaits-kept o (next-unit limit level) A) K in
+        passes-with (λ z. C .means x .spans B room E (came _ z P K)) P;
+  }
+
 -- ---- an application
 
-module _ {tb ts e : List ℕ} {scope : Scope} {w : List ℕ} {limit budget level b : ℕ} {w₁ w₂ : List ℕ} {found size left₁ code₂ domain body left₂ : ℕ}
-    (S : Skipped tb e 1 1 b) (C : CategoryPost tb ts (part e b) scope w limit budget level w₁ found size left₁)
+module _ {tb ts e : List ℕ} {scope : Scope} {w : List ℕ} {limit budget level b : ℕ} {w₁ w₂ : List ℕ} {found size extent left₁ code₂ domain body left₂ : ℕ} (m : 1 ≤ length e)
+    (S : Skipped tb e 1 1 b) (C : CategoryPost tb ts (part e b) scope w limit budget level w₁ found size extent left₁)
     (F : FunctionOfPost tb ts w₁ limit found size left₁ level w₂ code₂ domain body left₂) where
   -- where B begins
   function-start : {ls : Lines} {sc : List Expr} (x y : Expr) → Book ls limit tb ts → Expression ls ts e scope limit level sc (app x y) → b ≡ 1 + length (cells x)
@@ -186,23 +292,33 @@ module _ {tb ts e : List ℕ} {scope : Scope} {w : List ℕ} {limit budget level
       let Y = function-in x y (function-start x y B E) E in
       F .means B (omega (arith, C .frame (B .limit) .long)) (E .holds .few) (finds-known y budget B Y (C .means y .finds B room Y))
 
-  pub application-refused : {code n left : ℕ} → code₂ ≢ 0 → code ≡ code₂ → left ≡ left₂ → ApplicationPost tb ts e scope w limit budget level w₂ code n left
-  application-refused {code} {n} {left} g p q = record {
+  function-extent : {ls : Lines} {sc : List Expr} (x y : Expr) → Book ls limit tb ts → 128 * limit ≤ length w → Expression ls ts e scope limit level sc (app x y)
+      → code₂ ≡ 0 → extent ≡ Expr.size y
+  function-extent x y B room E z =
+      let Y = function-in x y (function-start x y B E) E in
+      C .means y .spans B room Y (came _ z (function-found x y B room E) (C .means y .finds B room Y))
+
+  pub application-refused : {code n whole left : ℕ} → code₂ ≢ 0 → code ≡ code₂ → whole ≡ 0 → left ≡ left₂ → ApplicationPost tb ts e scope w limit budget level w₂ code n whole left
+  application-refused {code} {n} {whole} {left} g p s q = record {
     frame = λ small. frames (omega arith) (C .frame small) (F .frame small);
+    within = omega arith;
     means = λ x y. record {
       finds = λ {ls} {sc} B room E.
           let r : Finds w₂ limit level code₂ n left₂ (category ls limit sc (app x y) budget) = rw (application-clause ls limit sc budget x y) (then-refused _ g (function-found x y B room E)) in
           rw (p, q) r;
+      spans = λ B room E z. absurd (g (sym p ∙ z));
     };
   }
 
-  pub application-made : {w₃ w₄ : List ℕ} {found₃ size₃ left₃ code n left : ℕ} → level < 35 → code₂ ≡ 0 → CategoryPost tb ts (part e 1) scope w₂ limit left₂ (level + 1) w₃ found₃ size₃ left₃
-      → AppliedPost tb ts e b w₃ limit level domain body found₃ size₃ left₃ w₄ code n left → ApplicationPost tb ts e scope w limit budget level w₄ code n left
+  pub application-made : {w₃ w₄ : List ℕ} {found₃ size₃ extent₃ left₃ code n whole left : ℕ} → level < 35 → code₂ ≡ 0
+      → CategoryPost tb ts (part e 1) scope w₂ limit left₂ (level + 1) w₃ found₃ size₃ extent₃ left₃
+      → AppliedPost tb ts e b extent w₃ limit level domain body found₃ size₃ left₃ w₄ code n whole left → ApplicationPost tb ts e scope w limit budget level w₄ code n whole left
   unfolding Scoped Expr.size
-  application-made {w₃} {w₄} {found₃} {size₃} {left₃} {code} {n} {left} l z D A = record {
+  application-made {w₃} {w₄} {found₃} {size₃} {extent₃} {left₃} {code} {n} {whole} {left} l z D A = record {
     frame = λ small.
         let up : unitAt limit (levelUnit level) ≤ unitAt limit (levelUnit (level + 1)) = omega (arith, unit-below limit {j = levelUnit level} {k = levelUnit (level + 1)} (omega arith)) in
         frames (omega arith) (frames up (frames (omega arith) (C .frame small) (F .frame small)) (D .frame small)) (A .frame small);
+    within = omega (arith, A .spans .within, C .within, part-length e b, S .within m);
     means = λ x y. record {
       finds = λ {ls} {sc} B room E.
           let X = argument-of x y E in
@@ -216,41 +332,78 @@ module _ {tb ts e : List ℕ} {scope : Scope} {w : List ℕ} {limit budget level
           A .means x B (omega arith) (E .holds .few) (E .known .0) (X .small) (application-argument x y (E .at))
           (omega (arith, function-start x y B E, size-is-length x)) (function-kept limit level (D .frame (B .limit)) next (G .0), G .1)
           (finds-known x left₂ B X (D .means x .finds B room₂ X))));
+      spans = λ B room E y′. omega (arith, A .spans .is y′, function-start x y B E, size-is-length x, function-extent x y B room E z);
     };
   }
 
 -- ---- an abstraction
 
-module _ {tb ts e : List ℕ} {scope : Scope} {w : List ℕ} {limit budget level : ℕ} {w₁ : List ℕ} {found size left₁ code₂ left₂ : ℕ}
-    (C : CategoryPost tb ts (part e 1) scope w limit budget level w₁ found size left₁) (T : FoundTypePost w₁ limit level found size left₁ code₂ left₂) where
+module _ {tb ts e : List ℕ} {scope : Scope} {w : List ℕ} {limit budget level : ℕ} {w₁ : List ℕ} {found size extent left₁ code₂ left₂ : ℕ}
+    (C : CategoryPost tb ts (part e 1) scope w limit budget level w₁ found size extent left₁) (T : FoundTypePost w₁ limit level found size left₁ code₂ left₂) where
   domain-type : {ls : Lines} {sc : List Expr} (p t : Expr) → Book ls limit tb ts → 128 * limit ≤ length w → Expression ls ts e scope limit level sc (abs p t)
       → Passes code₂ left₂ (andThen (λ k. ensure (isType k) notType) (category ls limit sc p budget))
   domain-type p t B room E = T .means (B .limit) (C .means p .finds B room (domain-in p t E))
 
-  pub abstraction-refused : {code n left : ℕ} → code₂ ≢ 0 → code ≡ code₂ → left ≡ left₂ → AbstractionPost tb ts e scope w limit budget level w₁ code n left
-  abstraction-refused {code} {n} {left} g u q = record {
+  domain-extent : {ls : Lines} {sc : List Expr} (p t : Expr) → Book ls limit tb ts → 128 * limit ≤ length w → Expression ls ts e scope limit level sc (abs p t)
+      → code₂ ≡ 0 → extent ≡ Expr.size p
+  domain-extent p t B room E z =
+      let X = domain-in p t E in
+      C .means p .spans B room X (came _ z (domain-type p t B room E) (C .means p .finds B room X))
+
+  pub abstraction-refused : {code n whole left : ℕ} → code₂ ≢ 0 → code ≡ code₂ → whole ≡ 0 → left ≡ left₂ → AbstractionPost tb ts e scope w limit budget level w₁ code n whole left
+  abstraction-refused {code} {n} {whole} {left} g u s q = record {
     frame = C .frame;
+    within = omega arith;
     means = λ p t. record {
       finds = λ {ls} {sc} B room E.
           let r : Finds w₁ limit level code₂ n left₂ (category ls limit sc (abs p t) budget) = rw (abstraction-clause ls limit sc budget p t) (then-refused _ g (domain-type p t B room E)) in
           rw (u, q) r;
+      spans = λ B room E z. absurd (g (sym u ∙ z));
     };
   }
 
-  pub abstraction-made : {i start len : ℕ} {inner : Scope} {w₂ w₃ : List ℕ} {found₂ size₂ left₃ code n left : ℕ} → code₂ ≡ 0 → Skipped tb e 1 1 i
-      → start ≡ length ts - length e + 1 → len ≡ i - 1 → Bound scope start len inner → CategoryPost tb ts (part e i) inner w₁ limit left₂ level w₂ found₂ size₂ left₃
-      → OverBindingPost e i w₂ limit level found₂ size₂ left₃ w₃ code n left → AbstractionPost tb ts e scope w limit budget level w₃ code n left
-  unfolding Scoped
-  abstraction-made {i} {start} {len} {inner} {w₂} {w₃} z S s m Y D O = record {
+  -- the domain has no more cells than there are
+  pub abstraction-past : {code n whole left : ℕ} → code₂ ≡ 0 → length e - 1 < extent → whole ≡ 0 → AbstractionPost tb ts e scope w limit budget level w₁ code n whole left
+  abstraction-past z h s = record {
+    frame = C .frame;
+    within = omega arith;
+    means = λ p t. record { finds = λ B room E. absurd (past p t B room E); spans = λ B room E. absurd (past p t B room E) };
+  }
+    where
+      past : {ls : Lines} {sc : List Expr} (p t : Expr) → Book ls limit tb ts → 128 * limit ≤ length w → Expression ls ts e scope limit level sc (abs p t) → ⊥
+      past p t B room E = omega (arith, domain-extent p t B room E z, at-inside p (abstraction-domain p t (E .at)), size-is-length p)
+
+  pub abstraction-made : {i start : ℕ} {inner : Scope} {w₂ w₃ : List ℕ} {found₂ size₂ extent₂ left₃ code n whole left : ℕ} → 1 ≤ length e → code₂ ≡ 0 → extent ≤ length e - 1
+      → i ≡ extent + 1 → start ≡ length ts - length e + 1 → Bound scope start extent inner
+      → CategoryPost tb ts (part e i) inner w₁ limit left₂ level w₂ found₂ size₂ extent₂ left₃
+      → OverBindingPost e i w₂ limit level found₂ size₂ extent₂ left₃ w₃ code n whole left → AbstractionPost tb ts e scope w limit budget level w₃ code n whole left
+  unfolding Scoped Expr.size
+  abstraction-made {i} {start} {inner} {w₂} {w₃} {found₂} {size₂} {extent₂} {left₃} {code} {n} {whole} {left} m z h q s Y D O = record {
     frame = λ small. frames (omega arith) (frames (omega arith) (C .frame small) (D .frame small)) (O .frame small);
+    within = omega (arith, O .spans .within, D .within, part-length e i);
     means = λ p t. record {
       finds = λ {ls} {sc} B room E.
-          let k : i ≡ 1 + length (cells p) = skip-one p S (known-wf (B .rows) (length sc) p (E .known .0)) (abstraction-domain p t (E .at)) in
-          let X = body-in p t k s m Y E in
-          let r₁ = C .frame (B .limit) .long in
-          let r₂ = D .frame (B .limit) .long in
           rw (abstraction-clause ls limit sc budget p t)
-          (then-passed _ z (domain-type p t B room E) (λ _ _.
-          O .means p (B .limit) (omega arith) (abstraction-front p t (E .at)) (omega (arith, size-is-length p)) (D .means t .finds B (omega arith) X)));
+          (then-passed _ z (domain-type p t B room E) (λ _ _. over p t B room E));
+      spans = λ {ls} {sc} B room E y.
+          let X = inside p t B room E in
+          let g = came _ y (over p t B room E) (D .means t .finds B (long₁ B room) X) in
+          omega (arith, O .spans .is y, domain-extent p t B room E z, D .means t .spans B (long₁ B room) X g);
     };
   }
+    where
+      long₁ : {ls : Lines} → Book ls limit tb ts → 128 * limit ≤ length w → 128 * limit ≤ length w₁
+      long₁ B room = omega (arith, C .frame (B .limit) .long)
+
+      inside : {ls : Lines} {sc : List Expr} (p t : Expr) → Book ls limit tb ts → 128 * limit ≤ length w → Expression ls ts e scope limit level sc (abs p t)
+          → Expression ls ts (part e i) inner limit level (p ∷ sc) t
+      inside p t B room E =
+          let x = domain-extent p t B room E z in
+          body-in p t (B .limit) (omega (arith, size-is-length p)) s x Y E
+
+      over : {ls : Lines} {sc : List Expr} (p t : Expr) → Book ls limit tb ts → 128 * limit ≤ length w → Expression ls ts e scope limit level sc (abs p t)
+          → Finds w₃ limit level code n left (andThen (λ c. made limit (overBinding p c)) (category ls limit (p ∷ sc) t left₂))
+      over p t B room E =
+          let r₂ = D .frame (B .limit) .long in
+          O .means p (B .limit) (omega (arith, long₁ B room)) (abstraction-front p t (E .at)) (omega (arith, domain-extent p t B room E z))
+          (D .means t .finds B (long₁ B room) (inside p t B room E))

@@ -1,5 +1,6 @@
--- The categories of a variable and of a bound variable.
+-- The category on a line, and that of a bound variable.
 use mathlib.Core.Path.{_≡_, refl, sym, ap, _∙_}
+use mathlib.Core.Logic.{_≢_}
 use mathlib.Core.List.{List}
 use Prim.Native.Nat.{ℕ, suc, _+_, _*_, _-_, _≤_, _<_}
 use native.Mathlib.Omega.{arith}
@@ -22,31 +23,34 @@ use Rattle.terms.specs.Made.{Made, RaisePost}
 use Rattle.reduction.specs.Book.{Book, known-wf}
 use Rattle.reduction.specs.Depths.{lifted-below}
 use Rattle.categories.specs.Places.{ScopeHolds}
-use Rattle.categories.specs.Posts.{Finds, MadePost, VariablePost, BoundPost}
-use Rattle.categories.proofs.Clauses.{made-passed, domain-of, variable-clause, bound-clause}
-use Rattle.categories.proofs.Spots.{frame-of, frames, level-scratch, level-result, copied-found, made-held}
+use Rattle.categories.specs.Posts.{Finds, MadePost, StoredPost, BoundPost}
+use Rattle.categories.proofs.Clauses.{made-passed, domain-of, bound-clause}
+use Rattle.categories.proofs.Spots.{frame-of, frames, level-scratch, level-result, copied-found, made-held, spans-none, spans-all}
 
--- ---- a variable
+-- ---- the category on a line
 
 module _ {tb ts w : List ℕ} {limit budget level v from end : ℕ} (pf : from ≡ rowCell tb v 6) (pe : end ≡ rowCell tb v 7) where
-  -- the row is no variable's
-  pub variable-none : {code n left : ℕ} → ((x : ℕ) → end ≡ from + x → x ≤ limit → ⊥) → VariablePost tb ts w limit budget level v w code n left
-  variable-none wrong = record {
+  -- the row is no line's
+  pub stored-none : {code n extent left : ℕ} → ((x : ℕ) → end ≡ from + x → x ≤ limit → ⊥) → code ≢ 0 → extent ≡ 0
+      → StoredPost tb ts w limit budget level v w code n extent left
+  stored-none wrong g x = record {
     frame = λ small. outside-same;
-    means = λ {ls} {l} B room i sc.
+    spans = spans-none g x;
+    means = λ {ls} {l} B room i.
         let C = B .stored .cellsOf i in
         absurd (wrong (length (cells (l .category))) (pe ∙ C .categoryEnds ∙ ap (λ (k : ℕ). k + length (cells (l .category))) (sym pf)) (omega (arith, B .categorySize i, size-is-length (l .category))));
   }
 
-  pub variable-found : {n to : ℕ} {w′ : List ℕ} → level < 36 → from ≤ end → n ≡ end - from → (limit ≤ 4096 → to ≡ unitAt limit (levelUnit level)) → w′ ≡ copyCells ts from n w to
-      → VariablePost tb ts w limit budget level v w′ 0 n budget
-  variable-found {n} {to} h le q pt e = record {
+  pub stored-found : {n to : ℕ} {w′ : List ℕ} → level < 36 → from ≤ end → n ≡ end - from → (limit ≤ 4096 → to ≡ unitAt limit (levelUnit level)) → w′ ≡ copyCells ts from n w to
+      → StoredPost tb ts w limit budget level v w′ 0 n 1 budget
+  stored-found {n} {to} h le q pt e = record {
     frame = λ small. rw e (frame-of (copy-outside ts from n w to) (omega (arith, pt small)));
-    means = λ {ls} {l} B room i sc.
+    spans = spans-all refl;
+    means = λ {ls} {l} B room i.
         let C = B .stored .cellsOf i in
-        variable-clause ls limit sc budget i (made-passed (l .category) (B .categorySize i) refl refl
+        made-passed (l .category) (B .categorySize i) refl refl
         (copied-found w (l .category) (rw (sym pf) at (C .categoryAt)) h (B .categorySize i) room
-        (omega (arith, C .categoryEnds, size-is-length (l .category))) (pt (B .limit)) e));
+        (omega (arith, C .categoryEnds, size-is-length (l .category))) (pt (B .limit)) e);
   }
 
 -- ---- a bound variable
@@ -57,17 +61,20 @@ known-domain ls (innermost {sc = sc}) w = (length sc, w .0, omega arith)
 known-domain ls (outside d) w = let (k, x, l) = known-domain ls d (w .1) in (k, x, omega arith)
 
 module _ {tb ts : List ℕ} {scope : Scope} {w : List ℕ} {limit budget level v : ℕ} where
-  pub bound-none : {code n left : ℕ} → (v < scope .depth → scope .depth ≤ 32 → ⊥) → BoundPost tb ts scope w limit budget level v w code n left
-  bound-none wrong = record {
+  pub bound-none : {code n extent left : ℕ} → (v < scope .bound → scope .bound ≤ 32 → ⊥) → code ≢ 0 → extent ≡ 0
+      → BoundPost tb ts scope w limit budget level v w code n extent left
+  bound-none wrong g x = record {
     frame = λ small. outside-same;
+    spans = spans-none g x;
     means = λ B room H K h. absurd (wrong (omega (arith, H .counted)) (omega (arith, H .counted, H .few)));
   }
 
-  pub bound-found : {i scratch to n code size left : ℕ} {w₁ w₂ w₃ : List ℕ} → level < 36 → v < scope .depth → i ≡ scope .depth - 1 - v
+  pub bound-found : {i scratch to n code size extent left : ℕ} {w₁ w₂ w₃ : List ℕ} → level < 36 → v < scope .bound → i ≡ scope .bound - 1 - v
       → (limit ≤ 4096 → scratch ≡ unitAt limit scratchUnit) → (limit ≤ 4096 → to ≡ unitAt limit resultUnit)
       → w₁ ≡ copyCells ts (getD (scope .starts) i 0) (getD (scope .lens) i 0) w scratch → RaisePost tb w₁ w₂ scratch (v + 1) to limit n
-      → MadePost w₂ limit budget level n w₃ code size left → BoundPost tb ts scope w limit budget level v w₃ code size left
-  bound-found {i} {scratch} {to} {n} {code} {size = size′} {left} {w₁} {w₂} {w₃} l h q ps pt e R M = record {
+      → MadePost w₂ limit budget level n 1 w₃ code size extent left → BoundPost tb ts scope w limit budget level v w₃ code size extent left
+  bound-found {i} {scratch} {to} {n} {code} {size = size′} {extent} {left} {w₁} {w₂} {w₃} l h q ps pt e R M = record {
+    spans = M .spans;
     frame = λ small.
         let U = unitAt limit (levelUnit level) in
         let o₁ : Outside U (length w) w w₁ = rw e (frame-of (copy-outside ts (getD (scope .starts) i 0) (getD (scope .lens) i 0) w scratch) (omega (arith, ps small, level-scratch limit l))) in

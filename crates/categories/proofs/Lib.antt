@@ -8,6 +8,7 @@ pub mod Types
 pub mod Leaves
 pub mod ContextWalk
 pub mod Instances
+pub mod Fitting
 pub mod Applications
 -- Expressions inside an expression; the functions that call each other.
 pub mod Within

@@ -36,32 +36,35 @@ use Rattle.categories.proofs.Cycle.{finds-known}
 
 -- no binding is around it
 pub record NoBindings (scope : Scope) : Type 0 where
-  pub none : scope .depth ≡ 0
+  pub none : scope .bound ≡ 0
+  pub flat : scope .depth ≡ 0
   pub startsAre : scope .starts ≡ replicate 32 0
   pub lensAre : scope .lens ≡ replicate 32 0
 
 no-domain : {ts : List ℕ} {limit : ℕ} {scope : Scope} {p : Expr} {i : ℕ} → DomainAt p [] i → DomainCells ts limit scope (0 - suc i) p
 no-domain d = elim d [ ]
 
-scope-none : {ts : List ℕ} {limit : ℕ} {scope : Scope} → NoBindings scope → ScopeHolds ts limit scope []
-scope-none n = record {
+scope-none : {ts : List ℕ} {limit : ℕ} {scope : Scope} → length ts < 4294967296 → NoBindings scope → ScopeHolds ts limit scope []
+scope-none h n = record {
+  short = h;
   counted = n .none;
+  deep = n .flat;
   few = omega arith;
   startsLong = ap length (n .startsAre);
   lensLong = ap length (n .lensAre);
   domain = λ d. no-domain d;
 }
 
-top-expression : {ls : Lines} {ts : List ℕ} {limit at : ℕ} {scope : Scope} (x : Expr) {rest : List ℕ} → NoBindings scope → At ts at (cells x) rest → Known ls 0 x → size x ≤ limit
-    → nesting x ≤ 32 → Expression ls ts (part ts at) scope limit 0 [] x
+top-expression : {ls : Lines} {ts : List ℕ} {limit at : ℕ} {scope : Scope} (x : Expr) {rest : List ℕ} → length ts < 4294967296 → NoBindings scope → At ts at (cells x) rest
+    → Known ls 0 x → size x ≤ limit → nesting x ≤ 32 → Expression ls ts (part ts at) scope limit 0 [] x
 unfolding ScopedScope
-top-expression {ts = ts} {at = at} x n a k s m =
+top-expression {ts = ts} {at = at} x h n a k s m =
     let e : at ≡ length ts - length (part ts at) = omega (arith, part-length ts at, at-inside x a, cells-long x) in
     record {
       part = part-is ts at ∙ ap (λ (i : ℕ). drop i ts) e;
       behind = _;
       at = at-part a;
-      holds = scope-none n;
+      holds = scope-none h n;
       knownScope = tt;
       known = k;
       small = s;
@@ -84,19 +87,19 @@ known-other ls k c e (inr w) = w
 
 module _ {tb ts : List ℕ} {at : ℕ} {w : List ℕ} {limit budget : ℕ} where
   pub written-past : {code left : ℕ} → length ts ≤ at → CheckWrittenPost tb ts at w limit budget w code left
-  written-past h = record { frame = λ small. outside-same; means = λ {ls} {c} B room a k s n. absurd (omega (arith, at-inside c a, cells-long c)) }
+  written-past h = record { frame = λ small. outside-same; means = λ {ls} {c} B room t a k s n. absurd (omega (arith, at-inside c a, cells-long c)) }
 
   pub written-is-type : getD ts at 0 ≡ 0 → CheckWrittenPost tb ts at w limit budget w 0 budget
-  written-is-type z = record { frame = λ small. outside-same; means = λ {ls} {c} B room a k s n. written-type ls limit c (type-there c a z) refl refl }
+  written-is-type z = record { frame = λ small. outside-same; means = λ {ls} {c} B room t a k s n. written-type ls limit c (type-there c a z) refl refl }
 
-  pub written-found : {scope : Scope} {w₁ : List ℕ} {found size left₁ code left : ℕ} → getD ts at 0 ≢ 0 → NoBindings scope
-      → CategoryPost tb ts (part ts at) scope w limit budget 0 w₁ found size left₁ → FoundTypePost w₁ limit 0 found size left₁ code left
+  pub written-found : {scope : Scope} {w₁ : List ℕ} {found size extent left₁ code left : ℕ} → getD ts at 0 ≢ 0 → NoBindings scope
+      → CategoryPost tb ts (part ts at) scope w limit budget 0 w₁ found size extent left₁ → FoundTypePost w₁ limit 0 found size left₁ code left
       → CheckWrittenPost tb ts at w limit budget w₁ code left
   written-found n o C T = record {
     frame = C .frame;
-    means = λ {ls} {c} B room a k s m.
+    means = λ {ls} {c} B room t a k s m.
         let e = no-type-there c a n in
-        written-other ls limit budget c e (T .means (B .limit) (C .means c .finds B room (top-expression c o a (known-other ls 0 c e k) s m)));
+        written-other ls limit budget c e (T .means (B .limit) (C .means c .finds B room (top-expression c t o a (known-other ls 0 c e k) s m)));
   }
 
 -- ---- the middle
@@ -138,8 +141,8 @@ module _ {tb ts : List ℕ} {start at : ℕ} {w : List ℕ} {limit budget : ℕ}
     means = λ {ls} {l} B room X. absurd (omega (arith, at-inside (l .category) (category-at X)));
   }
 
-  module _ {scope : Scope} {w₁ : List ℕ} {found size left₁ : ℕ} (h : start < at) (o : NoBindings scope)
-      (C : CategoryPost tb ts (part ts start) scope w limit budget 0 w₁ found size left₁) where
+  module _ {scope : Scope} {w₁ : List ℕ} {found size extent left₁ : ℕ} (h : start < at) (o : NoBindings scope)
+      (C : CategoryPost tb ts (part ts start) scope w limit budget 0 w₁ found size extent left₁) where
     -- the category of the middle
     middle-found : {ls : Lines} {l : Line} → Book ls limit tb ts → 128 * limit ≤ length w → LineCells ls ts limit start at l → (M : Middle (l .kind))
         → FindsKnown ls 0 w₁ limit 0 found size left₁ (category ls limit [] (M .middle) budget)
@@ -148,7 +151,7 @@ module _ {tb ts : List ℕ} {start at : ℕ} {w : List ℕ} {limit budget : ℕ}
         let m = M .middle in
         let a : At ts start (cells m) (cells (l .category)) = subst (λ (k : Kind). At ts start (kindCells k) (cells (l .category))) (M .is) (X .cellsAre) in
         let s = X .middleSmall m (M .is) in
-        let E = top-expression m o a (X .middle m (M .is)) (s .0) (s .1) in
+        let E = top-expression m (X .short) o a (X .middle m (M .is)) (s .0) (s .1) in
         finds-known m budget B E (C .means m .finds B room E)
 
     has-middle : {ls : Lines} {l : Line} → LineCells ls ts limit start at l → Middle (l .kind)
@@ -193,7 +196,7 @@ module _ {tb ts : List ℕ} {start at : ℕ} {w : List ℕ} {limit budget : ℕ}
 
 module _ {tb ts : List ℕ} {start at : ℕ} {w w₁ : List ℕ} {limit budget code₁ left₁ : ℕ} (W : CheckWrittenPost tb ts at w limit budget w₁ code₁ left₁) where
   written-passes : {ls : Lines} {l : Line} → Book ls limit tb ts → 128 * limit ≤ length w → LineCells ls ts limit start at l → Passes code₁ left₁ (checkWritten ls limit (l .category) budget)
-  written-passes B room X = W .means B room (category-at X) (X .category) (X .categorySmall .0) (X .categorySmall .1)
+  written-passes B room X = W .means B room (X .short) (category-at X) (X .category) (X .categorySmall .0) (X .categorySmall .1)
 
   pub cells-refused : code₁ ≢ 0 → CheckCellsPost tb ts start at w limit budget w₁ code₁ left₁
   cells-refused n = record { frame = W .frame; means = λ B room X. then-refused _ n (written-passes B room X) }

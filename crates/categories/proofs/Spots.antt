@@ -1,8 +1,8 @@
 -- What lies in a unit, and what a frame leaves of it.
 use mathlib.Core.Path.{_≡_, refl, sym, ap, _∙_}
-use mathlib.Core.Logic.{inl, inr, ⊎-elim}
+use mathlib.Core.Logic.{_≢_, inl, inr, ⊎-elim}
 use mathlib.Core.Bool.{Bool}
-use mathlib.Core.List.{List, _++_}
+use mathlib.Core.List.{List}
 use Prim.Native.Nat.{ℕ, _+_, _*_, _≤_, _<_}
 use native.Mathlib.Omega.{arith}
 use native.Mathlib.Decide.{decLe}
@@ -15,13 +15,13 @@ use Rattle.aut68.specs.Procedure.Category.{Function, made}
 use Rattle.cells.specs.Cells.{At, Outside, copyCells, moveCells}
 use Rattle.cells.specs.Layout.{unitAt, levelUnit, sideUnit, scratchUnit, resultUnit, unit-below, unit-inside, result-ends}
 use Rattle.cells.specs.Forests.{size-is-length, sizes-is-length, cells-long, at-first, at-inside}
-use Rattle.cells.specs.Stores.{outside-same, at-kept, at-sets, at-rest}
+use Rattle.cells.specs.Stores.{outside-same, at-kept, at-sets}
 use Rattle.cells.specs.CopyLaws.{copy-at, move-at, move-outside}
 use Rattle.terms.specs.Made.{Made, noRoom}
+use Rattle.terms.specs.MadeLaws.{made-lies, made-answer}
 use Rattle.reduction.specs.Frames.{Framed}
-use Rattle.reduction.specs.Posts.{InResult}
 use Rattle.categories.specs.Places.{Lies, FoundAt, LieAll, FunctionIn, Held}
-use Rattle.categories.specs.Posts.{Finds, MadePost, IsTypePost}
+use Rattle.categories.specs.Posts.{Finds, Spans, MadePost, IsTypePost}
 use Rattle.categories.proofs.Clauses.{made-passed, made-refused}
 
 -- ---- frames
@@ -78,8 +78,9 @@ module _ {from end : ℕ} {w w′ : List ℕ} (limit level : ℕ) (p : Outside f
   pub found-kept : {n : ℕ} {c : Expr} → FoundAt w limit level n c → FoundAt w′ limit level n c
   found-kept x = record { sized = x .sized; lies = lies-kept (x .lies) }
 
-  pub all-kept : {xs : Exprs} → LieAll w limit level xs → LieAll w′ limit level xs
-  all-kept {xs} x = record { small = x .small; behind = _; at = at-kept p (inl (omega (arith, sizes-is-length xs, x .small))) (x .at) }
+  pub all-kept : {starts : List ℕ} {xs : Exprs} → LieAll w limit level starts xs → LieAll w′ limit level starts xs
+  all-kept {xs = xs} x =
+      record { small = x .small; started = x .started; behind = _; at = at-kept p (inl (omega (arith, sizes-is-length xs, x .small))) (x .at) }
 
   pub function-kept : {domain body : ℕ} {f : Function} → FunctionIn w limit level domain body f → FunctionIn w′ limit level domain body f
   function-kept {f = f} x = record {
@@ -110,6 +111,22 @@ copied-found {s} {from} w {w′} {limit} {level} {n} {to} e {rest} a l h room z 
       };
     }
 
+-- ---- how many cells an expression has
+
+pub spans-none : {code extent whole : ℕ} → code ≢ 0 → extent ≡ 0 → Spans code extent whole
+spans-none n e = record { is = λ z. absurd (n z); within = omega arith }
+
+pub spans-all : {code extent whole : ℕ} → extent ≡ whole → Spans code extent whole
+spans-all e = record { is = λ z. e; within = omega arith }
+
+-- ---- what is made in a level's unit
+
+pub made-found : {limit level n : ℕ} {w w′ : List ℕ} (e : Expr) → level < 36 → 128 * limit ≤ length w → limit ≤ 4096 → n ≤ limit
+    → Made limit e n (unitAt limit (levelUnit level)) w w′ → FoundAt w′ limit level n e
+made-found {limit} {level} {n} {w} e l room small h m =
+    let q : n ≡ size e = made-answer m (omega arith) h in
+    record { sized = q; lies = record { small = omega arith; behind = _; at = made-lies m (omega (arith, level-inside limit l)) (omega arith) } }
+
 -- ---- what is made in the result unit
 
 pub made-held : {limit n : ℕ} {w w′ : List ℕ} (e : Expr) → 128 * limit ≤ length w → limit ≤ 4096 → Made limit e n (unitAt limit resultUnit) w w′ → Held w′ limit n e
@@ -124,19 +141,11 @@ made-held {limit} {n} {w} {w′} e room small m = record {
       rw q (at-sets w (cells e) (unitAt limit resultUnit) (omega (arith, result-ends limit)));
 }
 
-pub result-held : {limit n : ℕ} {w′ : List ℕ} (e : Expr) → limit ≤ 4096 → InResult limit limit e n w′ → Held w′ limit n e
-unfolding noRoom
-result-held {limit} {n} {w′} e small m = record {
-  fits = λ h. m .fits h .0;
-  large = λ h. omega (arith, m .large h);
-  behind = drop (unitAt limit resultUnit + length (cells e)) w′;
-  at = λ h. let a = m .fits h .1 .at in record { is = a .is ∙ ap (λ (l : List ℕ). cells e ++ l) (at-rest a) };
-}
-
-module _ {w : List ℕ} {limit budget level n code left : ℕ} where
-  pub made-too-large : {size : ℕ} → limit < n → code ≡ 10 → left ≡ budget → MadePost w limit budget level n w code size left
-  made-too-large h z q = record {
+module _ {w : List ℕ} {limit budget level n whole code left : ℕ} where
+  pub made-too-large : {size extent : ℕ} → limit < n → code ≡ 10 → extent ≡ 0 → left ≡ budget → MadePost w limit budget level n whole w code size extent left
+  made-too-large h z x q = record {
     frame = λ _. outside-same;
+    spans = spans-none (λ y. omega arith) x;
     means = λ {e} l room x. made-refused e (larger e x (decLe (size e) limit)) z q;
   }
     where
@@ -146,9 +155,10 @@ module _ {w : List ℕ} {limit budget level n code left : ℕ} where
 
   pub made-moved : {from to : ℕ} {w′ : List ℕ} → n ≤ limit → level < 36 → (limit ≤ 4096 → from ≡ unitAt limit resultUnit)
       → (limit ≤ 4096 → to ≡ unitAt limit (levelUnit level)) → code ≡ 0 → left ≡ budget → w′ ≡ moveCells w from n to
-      → MadePost w limit budget level n w′ code n left
+      → MadePost w limit budget level n whole w′ code n whole left
   made-moved {from} {to} {w′} h l f t z q r = record {
     frame = λ small. rw r (frame-of (move-outside w from n to) (omega (arith, t small)));
+    spans = spans-all refl;
     means = λ {e} small room x. there small room e x (decLe (size e) limit);
   }
     where

@@ -1,35 +1,39 @@
 -- A constant's arguments, one after the other.
 use mathlib.Core.Path.{_≡_, refl, sym, ap, subst, _∙_}
-use mathlib.Core.Logic.{_≢_}
-use mathlib.Core.List.{List, [], _∷_, _++_, append-nil}
-use Prim.Native.Nat.{ℕ, _+_, _*_, _≤_, _<_, max}
+use mathlib.Core.Logic.{_≢_, inl}
+use mathlib.Core.List.{List, [], _∷_, _++_, append-nil, append-assoc}
+use Prim.Native.Nat.{ℕ, zero, suc, _+_, _*_, _≤_, _<_, max}
 use native.Mathlib.Omega.{arith}
+use native.Mathlib.Decide.{decLt}
 use native.Mathlib.Nat.{zero-add}
 use native.Mathlib.Numerals.{add-one}
-use lib.ListN.{length, getD, drop, length-append, length-drop}
+use lib.ListN.{length, getD, drop, set, length-append, length-drop, length-set}
 use lib.Seq.{drop-cons}
 use Rattle.aut68.specs.Procedure.Answer.{Answer, done, andThen}
 use Rattle.aut68.specs.Expr.{Expr, Exprs, nil, cons, snoc, size, sizes, cells, cellss, countExprs}
 use Rattle.aut68.specs.Lines.{Line, Lines}
-use Rattle.aut68.specs.Rules.Names.{IsLine}
+use Rattle.aut68.specs.Rules.Names.{IsLine, Member, here, there}
 use Rattle.aut68.specs.Procedure.Category.{category, arguments}
 use Rattle.calculus.specs.Scoped.{Scoped}
 use Rattle.calculus.specs.Resolved.{AllKnown}
-use Rattle.cells.specs.Cells.{rowCell, At, Outside}
-use Rattle.cells.specs.Layout.{unitAt, levelUnit, unit-below}
-use Rattle.cells.specs.Forests.{join, cells-join, count-join, sizes-is-length, at-front, at-second, at-inside}
-use Rattle.cells.specs.Posts.{Skipped}
-use Rattle.cells.specs.Results.{passed, refused, then-refused, code-nonzero}
-use Rattle.cells.specs.Stores.{outside-same}
+use Rattle.cells.specs.Cells.{rowCell, At, Outside, copyCells}
+use Rattle.cells.specs.Layout.{unitAt, levelUnit}
+use Rattle.cells.specs.Forests.{join, cells-join, count-join, size-is-length, sizes-is-length, at-front, at-second, at-inside}
+use Rattle.cells.specs.Results.{Result, passed, refused, then-refused, code-nonzero}
+use Rattle.cells.specs.Stores.{outside-same, at-kept}
+use Rattle.cells.specs.CopyLaws.{copy-at}
 use Rattle.cells.specs.declared.scope.Scope.{Scope}
-use Rattle.reduction.specs.Book.{Book, known-wf, all-known-wf}
+use Rattle.terms.specs.Made.{startOf, StartedTo, Started}
+use Rattle.terms.specs.Starts.{start-first, start-join, started-none, started-more, started-past}
+use Rattle.reduction.specs.Book.{Book}
 use Rattle.categories.specs.Nesting.{nestings}
-use Rattle.categories.specs.Places.{LieAll, Expression, Arguments}
-use Rattle.categories.specs.Posts.{Passes, Frame, wantedFits, KeptArguments, ArgumentFitsPost, CategoryPost, ArgumentsPost}
-use Rattle.categories.proofs.Clauses.{argument-clause}
-use Rattle.categories.proofs.Spots.{frames, all-kept}
-use Rattle.categories.proofs.Within.{part, part-of, at-part, skip-one}
-use Rattle.categories.proofs.Cycle.{finds-known}
+use Rattle.categories.specs.Places.{LieAll, Awaits, Expression, Arguments}
+use Rattle.categories.specs.Posts.{Frame, wantedFits, KeptArgument, ContextOf, ContextVariable, ArgumentPost, ArgumentsPost}
+use Rattle.categories.proofs.Clauses.{argument-clause, none-left, passed-holds}
+use Rattle.categories.proofs.Spots.{frame-of, frames, level-inside}
+use Rattle.categories.proofs.Types.{at-join}
+use Rattle.categories.proofs.Fitting.{next-unit}
+use Rattle.categories.proofs.Within.{part, part-of, at-part}
 
 -- ---- an argument among the others
 
@@ -58,17 +62,10 @@ unfolding snoc countExprs
 count-snoc nil a = refl
 count-snoc (cons e es) a = omega (arith, count-snoc es a)
 
-cells-snoc : (es : Exprs) (a : Expr) → length (cellss (snoc es a)) ≡ length (cellss es) + length (cells a)
+cells-snoc : (es : Exprs) (a : Expr) → cellss (snoc es a) ≡ cellss es ++ cells a
 unfolding snoc cellss
-cells-snoc nil a = ap length (append-nil (cells a)) ∙ sym (zero-add (length (cells a)))
-cells-snoc (cons e es) a =
-    omega (arith, cells-snoc es a, length-append (cells e) (cellss (snoc es a)), length-append (cells e) (cellss es))
-
--- an argument string that begins another lies where that lies
-lie-front : {w : List ℕ} {limit level : ℕ} (es fs : Exprs) → LieAll w limit level (join es fs) → LieAll w limit level es
-lie-front {w} {limit} {level} es fs x =
-    let a : At w (unitAt limit (levelUnit level)) (cellss es ++ cellss fs) (x .behind) = rw (cells-join es fs) at (x .at) in
-    record { small = omega (arith, sizes-join es fs, x .small); behind = _; at = at-front (cellss es) (cellss fs) a }
+cells-snoc nil a = append-nil (cells a)
+cells-snoc (cons e es) a = ap (λ (l : List ℕ). cells e ++ l) (cells-snoc es a) ∙ sym (append-assoc (cells e) (cellss es) (cells a))
 
 -- argument a, behind the cells of the earlier ones
 argument-at : {s behind : List ℕ} (es : Exprs) (a : Expr) (fs : Exprs) → At s 0 (cellss (join es (cons a fs))) behind → At s (length (cellss es)) (cells a) (cellss fs ++ behind)
@@ -96,27 +93,88 @@ argument-in {ls} {ts} {s} {sc = sc} {at} es a fs q X =
       under = omega (arith, nestings-join es (cons a fs), X .under);
     }
 
+-- ---- where the arguments start
+
+start-front : (es fs : Exprs) (i : ℕ) → i ≤ countExprs es → startOf (join es fs) i ≡ startOf es i
+unfolding startOf join countExprs
+start-front nil fs i h = let e : i ≡ 0 = omega arith in rw e (start-first fs)
+start-front (cons e es) fs zero h = refl
+start-front (cons e es) fs (suc i) h = ap (λ (k : ℕ). size e + k) (start-front es fs i (omega arith))
+
+-- what is noted of a string holds of its front
+started-front : {starts : List ℕ} (es fs : Exprs) → StartedTo (countExprs es) (join es fs) starts → Started es starts
+started-front es fs S = record { place = λ i h k. S .place i h k ∙ start-front es fs i h }
+
+-- place i of starts becomes `at`, if there is such a place and the number fits
+pub record NextStart (starts : List ℕ) (i at : ℕ) (starts′ : List ℕ) : Type 0 where
+  pub long : length starts′ ≡ length starts
+  pub noted : i < 64 → at < 65536 → starts′ ≡ set starts i at
+  pub past : 64 ≤ i → starts′ ≡ starts
+
+pub next-noted : {starts : List ℕ} {i at : ℕ} → i < 64 → NextStart starts i at (set starts i at)
+next-noted {starts} {i} {at} h = record { long = length-set starts i at; noted = λ k l. refl; past = λ k. absurd (omega arith) }
+
+pub next-large : {starts : List ℕ} {i at : ℕ} → i < 64 → 65536 ≤ at → NextStart starts i at starts
+next-large h g = record { long = refl; noted = λ k l. absurd (omega arith); past = λ k. refl }
+
+pub next-past : {starts : List ℕ} {i at : ℕ} → 64 ≤ i → NextStart starts i at starts
+next-past h = record { long = refl; noted = λ k l. absurd (omega arith); past = λ k. refl }
+
+started-next : {xs : Exprs} {starts starts′ : List ℕ} {i at : ℕ} → length starts ≡ 64 → StartedTo i xs starts → NextStart starts (i + 1) at starts′ → at ≡ startOf xs (i + 1)
+    → at < 65536 → StartedTo (i + 1) xs starts′
+started-next {xs} {starts} {starts′} {i} {at} long S N e h = go (decLt (i + 1) 64)
+  where
+    go : Dec (i + 1 < 64) → StartedTo (i + 1) xs starts′
+    go (yes k) = rw (N .noted k h) (started-more S (omega arith) e)
+    go (no k) = rw (N .past (omega arith)) (started-past S (omega arith))
+
 -- ---- the loop
 
--- i arguments have passed, which end at index `at`
-pub record Going (ls : Lines) (limit : ℕ) (sc : List Expr) (context : List ℕ) (budget : ℕ) (xs : Exprs) (i at left : ℕ) : Type 0 where
+-- i arguments have passed, which end at index `at`; they lie in the level's unit of w, and starts has where
+pub record Going (ls : Lines) (limit : ℕ) (sc : List Expr) (context : List ℕ) (budget level : ℕ) (xs : Exprs) (i at left : ℕ) (starts w : List ℕ) : Type 0 where
   pub earlier : Exprs
   pub rest : Exprs
   pub whole : xs ≡ join earlier rest
   pub counted : countExprs earlier ≡ i
   pub ends : at ≡ length (cellss earlier)
   pub goes : arguments ls limit sc xs context context nil budget ≡ arguments ls limit sc rest (drop i context) context earlier left
+  pub started : StartedTo i xs starts
+  pub behind : List ℕ
+  pub lies : At w (unitAt limit (levelUnit level)) (cellss earlier) behind
 
-pub record Turns (tb ts s : List ℕ) (scope : Scope) (w₀ : List ℕ) (limit budget level v i at left : ℕ) (w : List ℕ) : Type 0 where
-  pub frame : Frame limit (level + 1) w₀ w
+pub record Turns (tb ts s : List ℕ) (scope : Scope) (w₀ : List ℕ) (limit budget level v i at left : ℕ) (starts w : List ℕ) : Type 0 where
+  pub long : length starts ≡ 64
+  pub frame : Frame limit level w₀ w
   pub going : {ls : Lines} {l : Line} {sc : List Expr} {xs : Exprs} → Book ls limit tb ts → 128 * limit ≤ length w₀ → IsLine ls v l → countExprs xs ≡ length (l .context)
-      → Arguments ls ts s scope limit level sc xs → LieAll w₀ limit level xs → Going ls limit sc (l .context) budget xs i at left
+      → Arguments ls ts s scope limit level sc xs → Going ls limit sc (l .context) budget level xs i at left starts w
 
-pub turns-start : {tb ts s : List ℕ} {scope : Scope} {w₀ : List ℕ} {limit budget level v : ℕ} → Turns tb ts s scope w₀ limit budget level v 0 0 budget w₀
+pub turns-start : {tb ts s : List ℕ} {scope : Scope} {w₀ : List ℕ} {limit budget level v : ℕ} {starts : List ℕ} → length starts ≡ 64 → getD starts 0 0 ≡ 0
+    → Turns tb ts s scope w₀ limit budget level v 0 0 budget starts w₀
 unfolding join countExprs cellss
-turns-start = record {
+turns-start {w₀ = w₀} {limit} {level = level} q h = record {
+  long = q;
   frame = λ small. outside-same;
-  going = λ {ls} {l} {sc} {xs} B room j c X L. record { earlier = nil; rest = xs; whole = refl; counted = refl; ends = refl; goes = refl };
+  going = λ {ls} {l} {sc} {xs} B room j c X. record {
+    earlier = nil;
+    rest = xs;
+    whole = refl;
+    counted = refl;
+    ends = refl;
+    goes = refl;
+    started = started-none h;
+    behind = drop (unitAt limit (levelUnit level)) w₀;
+    lies = record { is = refl };
+  };
+}
+
+-- the earlier arguments, as they lie
+going-lie : {ls : Lines} {ts s : List ℕ} {scope : Scope} {limit : ℕ} {sc : List Expr} {context : List ℕ} {budget level : ℕ} {xs : Exprs} {i at left : ℕ} {starts w : List ℕ}
+    → Arguments ls ts s scope limit level sc xs → (G : Going ls limit sc context budget level xs i at left starts w) → LieAll w limit level starts (G .earlier)
+going-lie {xs = xs} {i} {starts = starts} X G = record {
+  small = omega (arith, ap sizes (G .whole), sizes-join (G .earlier) (G .rest), X .small);
+  started = started-front (G .earlier) (G .rest) (rw (G .whole, sym (G .counted)) at (G .started));
+  behind = G .behind;
+  at = G .lies;
 }
 
 -- the first of the arguments that are left
@@ -130,126 +188,155 @@ unfolding countExprs
 next-argument nil h = absurd (omega arith)
 next-argument (cons a xs) h = record { argument = a; more = xs; is = refl }
 
--- an argument is left
-some-left : {ls : Lines} {limit : ℕ} {sc : List Expr} {context : List ℕ} {budget : ℕ} {xs : Exprs} {i at left : ℕ} → i < length context → countExprs xs ≡ length context
-    → (G : Going ls limit sc context budget xs i at left) → NextArgument (G .rest)
-some-left h c G = next-argument (G .rest) (omega (arith, ap countExprs (G .whole), count-join (G .earlier) (G .rest), G .counted))
-
 -- an answer that passed
-passes-done : {code left : ℕ} {m : Answer ℕ (Unit {0})} → code ≡ 0 → Passes code left m → m ≡ done tt left
+passes-done : {P : Type 0} {code left : ℕ} {m : Answer ℕ (Unit {0})} → code ≡ 0 → Result (λ _. P) code left m → m ≡ done tt left
 passes-done z (passed e h) = refl
 passes-done z (refused {r} e) = absurd (code-nonzero r (sym e ∙ z))
 
--- the copy that was kept before the loop
-kept-first : {tb ts s : List ℕ} {scope : Scope} {w w₀ : List ℕ} {limit level v count : ℕ} → count ≡ rowCell tb v 3 → KeptArguments tb s count w limit level w₀
-    → {ls : Lines} {l : Line} {sc : List Expr} {xs : Exprs} → Book ls limit tb ts → 128 * limit ≤ length w → IsLine ls v l → countExprs xs ≡ length (l .context)
-    → Arguments ls ts s scope limit level sc xs → LieAll w₀ limit level xs
-kept-first pc K {sc = sc} {xs} B room j c X =
-    K .means (B .limit) room (all-known-wf (B .rows) (length sc) xs (X .known)) (c ∙ sym (B .rows .row j .contextIs) ∙ sym pc) (X .at) (omega (arith, sizes-is-length xs, X .small))
+member-at : (xs : List ℕ) (i : ℕ) → i < length xs → Member (getD xs i 0) xs
+member-at [] i h = absurd (omega arith)
+member-at (x ∷ xs) zero h = here
+member-at (x ∷ xs) (suc i) h = there (member-at xs i (omega arith))
 
--- it is still there
-kept-last : {w₀ w : List ℕ} {limit level : ℕ} {xs : Exprs} → level ≤ 31 → Outside (unitAt limit (levelUnit (level + 1))) (length w₀) w₀ w → LieAll w₀ limit level xs → LieAll w limit level xs
-kept-last {limit = limit} {level} h o x = all-kept limit level o (unit-below limit {j = levelUnit level} {k = levelUnit (level + 1)} (omega arith)) x
+module _ {tb ts s : List ℕ} {scope : Scope} {w₀ : List ℕ} {limit budget level v i at left : ℕ} {starts w : List ℕ} {count : ℕ} {lines : List ℕ} {wanted base : ℕ} {w₁ : List ℕ}
+    {code n left₁ : ℕ} (low : level ≤ 31) (T : Turns tb ts s scope w₀ limit budget level v i at left starts w) (pc : count ≡ rowCell tb v 3) (h : i < count)
+    (N : ContextOf tb v count lines) (W : ContextVariable tb v lines i wanted) (pb : limit ≤ 4096 → base ≡ unitAt limit (levelUnit level))
+    (F : ArgumentPost tb ts (part s at) scope w limit left level wanted base i starts w₁ code n left₁) where
+  turn-frame : Frame limit level w₀ w₁
+  turn-frame small = frames (omega (arith, next-unit limit level)) (T .frame small) (F .frame small)
 
-module _ {tb ts s : List ℕ} {scope : Scope} {w₀ : List ℕ} {limit budget level v i at left : ℕ} {w w₁ w₂ : List ℕ} {found size left₁ code left₂ : ℕ} (low : level ≤ 31)
-    (T : Turns tb ts s scope w₀ limit budget level v i at left w) (C : CategoryPost tb ts (part s at) scope w limit left (level + 1) w₁ found size left₁)
-    (F : ArgumentFitsPost tb ts w₁ limit found size left₁ level v i w₂ code left₂) where
-  turn-frame : Frame limit (level + 1) w₀ w₂
-  turn-frame small = frames (omega arith) (frames (omega arith) (T .frame small) (C .frame small)) (F .frame small)
+  ahead : {ls : Lines} {l : Line} → Book ls limit tb ts → IsLine ls v l → i < length (l .context)
+  ahead B j = omega (arith, pc, B .rows .row j .contextIs)
 
-  module _ {ls : Lines} {l : Line} {sc : List Expr} {xs : Exprs} (B : Book ls limit tb ts) (room : 128 * limit ≤ length w₀) (j : IsLine ls v l) (h : i < length (l .context))
-      (c : countExprs xs ≡ length (l .context)) (X : Arguments ls ts s scope limit level sc xs) (L : LieAll w₀ limit level xs)
-      (G : Going ls limit sc (l .context) budget xs i at left) (N : NextArgument (G .rest)) where
-    whole-string : xs ≡ join (G .earlier) (cons (N .argument) (N .more))
-    whole-string = G .whole ∙ ap (join (G .earlier)) (N .is)
+  module _ {ls : Lines} {l : Line} {sc : List Expr} {xs : Exprs} (B : Book ls limit tb ts) (room : 128 * limit ≤ length w₀) (j : IsLine ls v l)
+      (c : countExprs xs ≡ length (l .context)) (X : Arguments ls ts s scope limit level sc xs) where
+    G : Going ls limit sc (l .context) budget level xs i at left starts w
+    G = T .going B room j c X
+
+    M : NextArgument (G .rest)
+    M = next-argument (G .rest) (omega (arith, ap countExprs (G .whole), count-join (G .earlier) (G .rest), G .counted, ahead B j))
+
+    whole-string : xs ≡ join (G .earlier) (cons (M .argument) (M .more))
+    whole-string = G .whole ∙ ap (join (G .earlier)) (M .is)
+
+    wanted-is : wanted ≡ getD (l .context) i 0
+    wanted-is = W .means (N .means pc) B j (ahead B j)
 
     turn-known : AllKnown ls (length sc) (G .earlier)
     turn-known = known-front ls (length sc) (G .earlier) (G .rest) (subst (AllKnown ls (length sc)) (G .whole) (X .known)) .0
 
-    turn-expression : Expression ls ts (part s at) scope limit (level + 1) sc (N .argument)
-    turn-expression = argument-in (G .earlier) (N .argument) (N .more) (G .ends) (rw whole-string at X)
+    turn-awaits : Awaits ls w limit level (length sc) base i starts wanted v l (G .earlier)
+    turn-awaits = record {
+      isLine = j;
+      inContext = rw wanted-is (member-at (l .context) i (ahead B j));
+      baseIs = pb (B .limit);
+      counted = G .counted;
+      few = X .holds .few;
+      known = turn-known;
+      lie = going-lie X G;
+    }
 
-    turn-answer : Passes code left₂ (andThen (wantedFits ls limit (l .context) (G .earlier) (getD (l .context) i 0)) (category ls limit sc (N .argument) left))
+    turn-expression : Expression ls ts (part s at) scope limit (level + 1) sc (M .argument)
+    turn-expression = argument-in (G .earlier) (M .argument) (M .more) (G .ends) (rw whole-string at X)
+
+    turn-answer : Result (λ _. n ≡ size (M .argument)) code left₁ (andThen (wantedFits ls limit (l .context) (G .earlier) (getD (l .context) i 0)) (category ls limit sc (M .argument) left))
     turn-answer =
-        let r = T .frame (B .limit) .long in
-        let r₁ = C .frame (B .limit) .long in
-        let o : Outside (unitAt limit (levelUnit (level + 1))) (length w₀) w₀ w₁ = frames (omega arith) (T .frame (B .limit)) (C .frame (B .limit)) in
-        let L₁ : LieAll w₁ limit level (join (G .earlier) (G .rest)) = rw (G .whole) at (kept-last low o L) in
-        F .means B (omega arith) j h (G .counted) (X .holds .few) turn-known (lie-front (G .earlier) (G .rest) L₁)
-        (finds-known (N .argument) left B turn-expression (C .means (N .argument) .finds B (omega arith) turn-expression))
+        let o = T .frame (B .limit) .long in
+        subst (λ (u : ℕ). Result (λ _. n ≡ size (M .argument)) code left₁ (andThen (wantedFits ls limit (l .context) (G .earlier) u) (category ls limit sc (M .argument) left))) wanted-is
+        (F .means (M .argument) B (omega arith) turn-awaits turn-expression)
 
     -- this argument, and then the others
     turn-clause : arguments ls limit sc xs (l .context) (l .context) nil budget
-        ≡ andThen (λ _. arguments ls limit sc (N .more) (drop (i + 1) (l .context)) (l .context) (snoc (G .earlier) (N .argument)))
-        (andThen (wantedFits ls limit (l .context) (G .earlier) (getD (l .context) i 0)) (category ls limit sc (N .argument) left))
+        ≡ andThen (λ _. arguments ls limit sc (M .more) (drop (i + 1) (l .context)) (l .context) (snoc (G .earlier) (M .argument)))
+        (andThen (wantedFits ls limit (l .context) (G .earlier) (getD (l .context) i 0)) (category ls limit sc (M .argument) left))
     turn-clause =
-        let d : drop i (l .context) ≡ getD (l .context) i 0 ∷ drop (i + 1) (l .context) = drop-cons (l .context) i 0 h ∙ ap (λ (k : ℕ). getD (l .context) i 0 ∷ drop k (l .context)) (sym (add-one i)) in
-        G .goes
-        ∙ ap (λ (ys : Exprs). arguments ls limit sc ys (drop i (l .context)) (l .context) (G .earlier) left) (N .is)
-        ∙ ap (λ (us : List ℕ). arguments ls limit sc (cons (N .argument) (N .more)) us (l .context) (G .earlier) left) d
-        ∙ argument-clause ls limit sc left (N .argument) (N .more) (getD (l .context) i 0) (drop (i + 1) (l .context)) (l .context) (G .earlier)
-
-    turn-more : {at′ : ℕ} → code ≡ 0 → Skipped tb s at 1 at′ → Going ls limit sc (l .context) budget xs (i + 1) at′ left₂
-    unfolding andThen
-    turn-more {at′} z S =
-        let E = turn-expression in
-        let a : At s at (cells (N .argument)) (cellss (N .more) ++ X .behind) =
-        rw (sym (G .ends)) at (argument-at (G .earlier) (N .argument) (N .more) (subst (λ (ys : Exprs). At s 0 (cellss ys) (X .behind)) whole-string (X .at)))
+        let d : drop i (l .context) ≡ getD (l .context) i 0 ∷ drop (i + 1) (l .context) =
+        drop-cons (l .context) i 0 (ahead B j) ∙ ap (λ (k : ℕ). getD (l .context) i 0 ∷ drop k (l .context)) (sym (add-one i))
         in
+        G .goes
+        ∙ ap (λ (ys : Exprs). arguments ls limit sc ys (drop i (l .context)) (l .context) (G .earlier) left) (M .is)
+        ∙ ap (λ (us : List ℕ). arguments ls limit sc (cons (M .argument) (M .more)) us (l .context) (G .earlier) left) d
+        ∙ argument-clause ls limit sc left (M .argument) (M .more) (getD (l .context) i 0) (drop (i + 1) (l .context)) (l .context) (G .earlier)
+
+    turn-more : {w₂ starts′ : List ℕ} → code ≡ 0 → KeptArgument s at n w₁ base w₂ → NextStart starts (i + 1) (at + n) starts′
+        → Going ls limit sc (l .context) budget level xs (i + 1) (at + n) left₁ starts′ w₂
+    unfolding andThen
+    turn-more {w₂} {starts′} z K Q =
+        let a = M .argument in
+        let U = unitAt limit (levelUnit level) in
+        let small = B .limit in
+        let o₀ = T .frame small .long in
+        let o₁ = F .frame small in
+        let pu : base ≡ U = pb small in
+        let e : n ≡ length (cells a) = passed-holds z turn-answer ∙ size-is-length a in
+        let whole : xs ≡ join (snoc (G .earlier) a) (M .more) = whole-string ∙ sym (join-snoc (G .earlier) a (M .more)) in
+        let ends : at + n ≡ length (cellss (snoc (G .earlier) a)) =
+        omega (arith, ap length (cells-snoc (G .earlier) a), length-append (cellss (G .earlier)) (cells a), G .ends)
+        in
+        let counted : countExprs (snoc (G .earlier) a) ≡ i + 1 = count-snoc (G .earlier) a ∙ ap (λ (k : ℕ). k + 1) (G .counted) in
+        let fits : at + n ≤ limit =
+        omega (arith, ap sizes whole, sizes-join (snoc (G .earlier) a) (M .more), sizes-is-length (snoc (G .earlier) a), X .small)
+        in
+        let place : at + n ≡ startOf xs (i + 1) = ends ∙ sym (rw (sym whole, counted) at (start-join (snoc (G .earlier) a) (M .more))) in
+        let k : At s at (cells a) (cellss (M .more) ++ X .behind) =
+        rw (sym (G .ends)) at (argument-at (G .earlier) a (M .more) (subst (λ (ys : Exprs). At s 0 (cellss ys) (X .behind)) whole-string (X .at)))
+        in
+        let inside : U + limit ≤ 128 * limit = level-inside limit (omega arith) in
+        let c₁ : w₂ ≡ copyCells s at (length (cells a)) w₁ (U + at) =
+        K .copied (omega (arith, o₁ .long)) ∙ ap (λ (m : ℕ). copyCells s at m w₁ (base + at)) e ∙ ap (λ (m : ℕ). copyCells s at (length (cells a)) w₁ (m + at)) pu
+        in
+        let new : At w₂ (U + at) (cells a) (drop (U + at + length (cells a)) w₁) = rw c₁ (copy-at s at w₁ (U + at) k (omega (arith, at-inside a k)) (omega (arith, o₁ .long))) in
+        let old₁ = at-kept o₁ (inl (omega (arith, next-unit limit level, G .ends))) (G .lies) in
+        let old = at-kept (K .frame) (inl (omega (arith, G .ends))) old₁ in
         record {
-          earlier = snoc (G .earlier) (N .argument);
-          rest = N .more;
-          whole = whole-string ∙ sym (join-snoc (G .earlier) (N .argument) (N .more));
-          counted = count-snoc (G .earlier) (N .argument) ∙ ap (λ (k : ℕ). k + 1) (G .counted);
-          ends = omega (arith, skip-one (N .argument) S (known-wf (B .rows) (length sc) (N .argument) (E .known)) a, cells-snoc (G .earlier) (N .argument), G .ends);
-          goes = turn-clause ∙ ap (andThen (λ _. arguments ls limit sc (N .more) (drop (i + 1) (l .context)) (l .context) (snoc (G .earlier) (N .argument)))) (passes-done z turn-answer);
+          earlier = snoc (G .earlier) a;
+          rest = M .more;
+          whole = whole;
+          counted = counted;
+          ends = ends;
+          goes = turn-clause ∙ ap (andThen (λ _. arguments ls limit sc (M .more) (drop (i + 1) (l .context)) (l .context) (snoc (G .earlier) a))) (passes-done z turn-answer);
+          started = started-next (T .long) (G .started) Q place (omega arith);
+          behind = drop (U + at + length (cells a)) w₁;
+          lies = rw (cells-snoc (G .earlier) a) (at-join (omega (arith, G .ends)) old new);
         }
 
-    turn-stops : code ≢ 0 → Passes code left₂ (arguments ls limit sc xs (l .context) (l .context) nil budget)
+    turn-stops : {P : Type 0} → code ≢ 0 → Result (λ _. P) code left₁ (arguments ls limit sc xs (l .context) (l .context) nil budget)
     turn-stops g = rw turn-clause (then-refused _ g turn-answer)
 
-  module _ {count : ℕ} (pc : count ≡ rowCell tb v 3) (h : i < count) where
-    ahead : {ls : Lines} {l : Line} → Book ls limit tb ts → IsLine ls v l → i < length (l .context)
-    ahead B j = omega (arith, pc, B .rows .row j .contextIs)
+  pub turns-more : {w₂ starts′ : List ℕ} → code ≡ 0 → KeptArgument s at n w₁ base w₂ → NextStart starts (i + 1) (at + n) starts′
+      → Turns tb ts s scope w₀ limit budget level v (i + 1) (at + n) left₁ starts′ w₂
+  turns-more z K Q = record {
+    long = Q .long ∙ T .long;
+    frame = λ small. frames {a′ = unitAt limit (levelUnit level)} (omega arith) (turn-frame small) (frame-of (K .frame) (omega (arith, pb small)));
+    going = λ B room j c X. turn-more B room j c X z K Q;
+  }
 
-    pub turns-more : {at′ : ℕ} → code ≡ 0 → Skipped tb s at 1 at′ → Turns tb ts s scope w₀ limit budget level v (i + 1) at′ left₂ w₂
-    turns-more z S = record {
-      frame = turn-frame;
-      going = λ B room j c X L.
-          let G = T .going B room j c X L in
-          turn-more B room j (ahead B j) c X L G (some-left (ahead B j) c G) z S;
-    }
+  pub turns-stop : {code′ extent left′ : ℕ} {starts′ : List ℕ} → code ≢ 0 → code′ ≡ code → extent ≡ 0 → left′ ≡ left₁
+      → ArgumentsPost tb ts s scope w₀ limit budget level v w₁ code′ extent starts′ left′
+  turns-stop g p z q = record {
+    frame = turn-frame;
+    within = omega arith;
+    means = λ B room j c X. rw (p, q) (turn-stops B room j c X g);
+  }
 
-    pub turns-stop : {w′ : List ℕ} → code ≢ 0 → KeptArguments tb s count w′ limit level w₀ → ArgumentsPost tb ts s scope w′ limit budget level v w₂ code left₂
-    turns-stop {w′} g K = record {
-      frame = λ small. frames (omega (arith, unit-below limit {j = levelUnit level} {k = levelUnit (level + 1)} (omega arith))) (K .frame small) (turn-frame small);
-      kept = λ B room j c X. kept-last low (turn-frame (B .limit)) (kept-first pc K B room j c X);
-      means = λ B room j c X.
-          let L = kept-first pc K B room j c X in
-          let room₀ : 128 * limit ≤ length w₀ = omega (arith, K .frame (B .limit) .long) in
-          let G = T .going B room₀ j c X L in
-          turn-stops B room₀ j (ahead B j) c X L G (some-left (ahead B j) c G) g;
-    }
+join-none : (es fs : Exprs) → countExprs fs ≡ 0 → join es fs ≡ es
+unfolding join countExprs
+join-none nil nil h = refl
+join-none nil (cons f fs) h = absurd (omega arith)
+join-none (cons e es) fs h = ap (cons e) (join-none es fs h)
 
--- no argument is left
-none-left : (ls : Lines) (limit : ℕ) (sc : List Expr) (ys : Exprs) (us context : List ℕ) (earlier : Exprs) (left : ℕ) → countExprs ys ≡ 0 → length us ≡ 0
-    → arguments ls limit sc ys us context earlier left ≡ done tt left
-unfolding category countExprs
-none-left ls limit sc nil [] context earlier left h k = refl
-none-left ls limit sc nil (u ∷ us) context earlier left h k = absurd (omega arith)
-none-left ls limit sc (cons a ys) us context earlier left h k = absurd (omega arith)
-
-pub turns-end : {tb ts s : List ℕ} {scope : Scope} {w₀ : List ℕ} {limit budget level v i at left count : ℕ} {w w′ : List ℕ} → level ≤ 31 → count ≡ rowCell tb v 3 → i ≤ count → count ≤ i
-    → KeptArguments tb s count w′ limit level w₀ → Turns tb ts s scope w₀ limit budget level v i at left w → ArgumentsPost tb ts s scope w′ limit budget level v w 0 left
-turns-end {w₀ = w₀} {limit} {budget} {level} {v} {i} {at} {left} low pc le ge K T = record {
-  frame = λ small. frames (omega (arith, unit-below limit {j = levelUnit level} {k = levelUnit (level + 1)} (omega arith))) (K .frame small) (T .frame small);
-  kept = λ B room j c X. kept-last low (T .frame (B .limit)) (kept-first pc K B room j c X);
+pub turns-end : {tb ts s : List ℕ} {scope : Scope} {w₀ : List ℕ} {limit budget level v i at left count : ℕ} {starts w : List ℕ} → count ≡ rowCell tb v 3 → i ≤ count → count ≤ i
+    → at ≤ length s → Turns tb ts s scope w₀ limit budget level v i at left starts w → ArgumentsPost tb ts s scope w₀ limit budget level v w 0 at starts left
+turns-end {w₀ = w₀} {limit} {budget} {level} {v} {i} {at} {left} {starts = starts} {w} pc le ge inside T = record {
+  frame = T .frame;
+  within = inside;
   means = λ {ls} {l} {sc} {xs} B room j c X.
-      let G = T .going B (omega (arith, K .frame (B .limit) .long)) j c X (kept-first pc K B room j c X) in
+      let G = T .going B room j c X in
       let n : i ≡ length (l .context) = omega (arith, pc, B .rows .row j .contextIs) in
+      let none : countExprs (G .rest) ≡ 0 = omega (arith, ap countExprs (G .whole), count-join (G .earlier) (G .rest), G .counted) in
+      let all : xs ≡ G .earlier = G .whole ∙ join-none (G .earlier) (G .rest) none in
       let e : arguments ls limit sc xs (l .context) (l .context) nil budget ≡ done tt left =
-      G .goes ∙ none-left ls limit sc (G .rest) (drop i (l .context)) (l .context) (G .earlier) left
-      (omega (arith, ap countExprs (G .whole), count-join (G .earlier) (G .rest), G .counted)) (length-drop i (l .context) ∙ omega arith)
+      G .goes ∙ none-left ls limit sc (G .rest) (drop i (l .context)) (l .context) (G .earlier) left none (length-drop i (l .context) ∙ omega arith)
       in
-      rw e (passed refl tt);
+      rw e (passed refl (subst (LieAll w limit level starts) (sym all) (going-lie X G), G .ends ∙ sym (sizes-is-length (G .earlier)) ∙ ap sizes (sym all)));
 }

@@ -22,7 +22,7 @@ use Rattle.comparison.specs.Posts.{Compares}
 use Rattle.categories.specs.Places.{FoundAt, Held}
 use Rattle.categories.specs.Posts.{Passes, MadePost, IsTypePost, FoundTypePost, ComparePost, OverBindingPost}
 use Rattle.categories.proofs.Clauses.{made-passed, made-refused}
-use Rattle.categories.proofs.Spots.{frame-of, frames, level-below, level-inside, level-result}
+use Rattle.categories.proofs.Spots.{frame-of, frames, level-below, level-inside, level-result, spans-none, spans-all}
 
 -- ---- `type`
 
@@ -89,24 +89,31 @@ pub at-join : {w : List ℕ} {i j : ℕ} {xs ys rx ry : List ℕ} → j ≡ i + 
 at-join {w} {xs = xs} {ys} {rx} {ry} e p q =
     record { is = p .is ∙ ap (λ (l : List ℕ). xs ++ l) (at-rest p ∙ ap (λ (k : ℕ). drop k w) (sym e) ∙ q .is) ∙ sym (append-assoc xs ys ry) }
 
-module _ {e : List ℕ} {t : ℕ} {w : List ℕ} {limit level found size budget : ℕ} where
-  pub over-refused : {code left n : ℕ} → found ≢ 0 → code ≡ found → left ≡ budget → OverBindingPost e t w limit level found size budget w code n left
-  over-refused n z q = record { frame = λ small. outside-same; means = λ p small room a k x. rw (z, q) (then-refused _ n x) }
+module _ {e : List ℕ} {t : ℕ} {w : List ℕ} {limit level found size extent budget : ℕ} where
+  pub over-refused : {code n whole left : ℕ} → found ≢ 0 → code ≡ found → whole ≡ 0 → left ≡ budget
+      → OverBindingPost e t w limit level found size extent budget w code n whole left
+  over-refused n z s q = record {
+    frame = λ small. outside-same;
+    spans = spans-none (λ y. n (sym z ∙ y)) s;
+    means = λ p small room a k x. rw (z, q) (then-refused _ n x);
+  }
 
-  pub over-types : {r : Bool} → found ≡ 0 → IsTypePost w limit level r → r ≡ true → OverBindingPost e t w limit level found size budget w 0 size budget
+  pub over-types : {r : Bool} → found ≡ 0 → IsTypePost w limit level r → r ≡ true → OverBindingPost e t w limit level found size extent budget w 0 size (t + extent) budget
   over-types z y g = record {
     frame = λ small. outside-same;
+    spans = spans-all refl;
     means = λ p small room a k x. then-passed _ z x (λ c f.
         let h : isType c ≡ true = sym (y .means small (f .lies)) ∙ g in
         let o = over-type p c h in
         made-passed (overBinding p c) (rw o (f .lies .small)) refl refl (rw o f));
   }
 
-  pub over-large : {r : Bool} {code left n : ℕ} → found ≡ 0 → IsTypePost w limit level r → r ≡ false → (limit < t + size) → code ≡ 10 → left ≡ budget
-      → OverBindingPost e t w limit level found size budget w code n left
+  pub over-large : {r : Bool} {code n whole left : ℕ} → found ≡ 0 → IsTypePost w limit level r → r ≡ false → (limit < t + size) → code ≡ 10 → whole ≡ 0 → left ≡ budget
+      → OverBindingPost e t w limit level found size extent budget w code n whole left
   unfolding Expr.size
-  over-large z y g h u v = record {
+  over-large z y g h u s v = record {
     frame = λ small. outside-same;
+    spans = spans-none (λ x. omega arith) s;
     means = λ p small room a k x. then-passed _ z x (λ c f.
         let o = over-other p c (sym (y .means small (f .lies)) ∙ g) in
         made-refused (overBinding p c) (rw o (omega (arith, f .sized))) u v);
@@ -135,18 +142,19 @@ over-placed e t w limit level size p c {behind} l room fits k a f =
     let a₂ = at-kept o₂ (inl (omega (arith, kt))) a₁ in
     (drop (R + t + length (cells c)) w₁, rw kc (at-join (omega (arith, kt)) a₂ c₂))
 
-module _ {e : List ℕ} {t : ℕ} {w : List ℕ} {limit level found size budget : ℕ} where
-  pub over-made : {r : Bool} {from to : ℕ} {w₁ w₂ w₃ : List ℕ} {code n left : ℕ} → level < 36 → found ≡ 0 → IsTypePost w limit level r → r ≡ false
+module _ {e : List ℕ} {t : ℕ} {w : List ℕ} {limit level found size extent budget : ℕ} where
+  pub over-made : {r : Bool} {from to : ℕ} {w₁ w₂ w₃ : List ℕ} {code n whole left : ℕ} → level < 36 → found ≡ 0 → IsTypePost w limit level r → r ≡ false
       → t ≤ limit → size ≤ limit - t → (limit ≤ 4096 → to ≡ unitAt limit resultUnit) → (limit ≤ 4096 → from ≡ unitAt limit (levelUnit level))
-      → w₁ ≡ copyCells e 0 t w to → w₂ ≡ moveCells w₁ from size (to + t) → MadePost w₂ limit budget level (t + size) w₃ code n left
-      → OverBindingPost e t w limit level found size budget w₃ code n left
+      → w₁ ≡ copyCells e 0 t w to → w₂ ≡ moveCells w₁ from size (to + t) → MadePost w₂ limit budget level (t + size) (t + extent) w₃ code n whole left
+      → OverBindingPost e t w limit level found size extent budget w₃ code n whole left
   unfolding Expr.size
-  over-made {r} {from} {to} {w₁} {w₂} {w₃} {code} {n} {left} l z y g h₁ h₂ pt pf e₁ e₂ M = record {
+  over-made {r} {from} {to} {w₁} {w₂} {w₃} {code} {n} {whole} {left} l z y g h₁ h₂ pt pf e₁ e₂ M = record {
     frame = λ small.
         let U = unitAt limit (levelUnit level) in
         let o₁ : Outside U (length w) w w₁ = rw e₁ (frame-of (copy-outside e 0 t w to) (omega (arith, pt small, level-result limit l))) in
         let o₂ : Outside U (length w₁) w₁ w₂ = rw e₂ (frame-of (move-outside w₁ from size (to + t)) (omega (arith, pt small, level-result limit l))) in
         frames (omega arith) (frames (omega arith) o₁ o₂) (M .frame small);
+    spans = M .spans;
     means = λ p {m} {behind} small room a k x. then-passed _ z x (λ c f.
         let o = over-other p c (sym (y .means small (f .lies)) ∙ g) in
         rw o (M .means small (long small room) (held p c small room k a f)));
@@ -170,5 +178,5 @@ module _ {e : List ℕ} {t : ℕ} {w : List ℕ} {limit level found size budget 
           record { fits = λ h. omega (arith, f .sized); large = λ h. omega (arith, f .sized); behind = P .0; at = λ h. rw q (P .1) }
 
   -- no such limit is met
-  pub over-unlimited : {code n left : ℕ} → 4096 < limit → OverBindingPost e t w limit level found size budget w code n left
-  over-unlimited h = record { frame = λ small. outside-same; means = λ p small room a k x. absurd (omega arith) }
+  pub over-unlimited : {code n whole left : ℕ} → 4096 < limit → code ≢ 0 → whole ≡ 0 → OverBindingPost e t w limit level found size extent budget w code n whole left
+  over-unlimited h g s = record { frame = λ small. outside-same; spans = spans-none g s; means = λ p small room a k x. absurd (omega arith) }

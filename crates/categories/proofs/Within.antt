@@ -11,7 +11,7 @@ use Rattle.aut68.specs.Rules.Categories.{DomainAt, innermost, outside}
 use Rattle.calculus.specs.Scoped.{Scoped, ScopedScope}
 use Rattle.cells.specs.Cells.{At, Formed, Wf}
 use Rattle.cells.specs.Forests.{size-is-length, at-inside, at-parts, at-front, at-second, at-one, cells-one, cells-long}
-use Rattle.cells.specs.Posts.{Skipped, Bound}
+use Rattle.cells.specs.Posts.{Skipped, Bindable, Bound}
 use Rattle.cells.specs.declared.scope.Scope.{Scope}
 use Rattle.categories.specs.Nesting.{nesting}
 use Rattle.categories.specs.Places.{DomainCells, ScopeHolds, Expression, Arguments}
@@ -88,48 +88,53 @@ module _ {e behind : List ℕ} {i : ℕ} where
 
 -- ---- a binding more
 
-module _ {ts : List ℕ} {limit : ℕ} {scope inner : Scope} {sc : List Expr} {start len : ℕ} {p : Expr} {rest : List ℕ} where
-  domain-bound : ScopeHolds ts limit scope sc → length sc < 32 → Bound scope start len inner → At ts start (cells p) rest → len ≡ size p → size p ≤ limit
-      → {q : Expr} {i : ℕ} → DomainAt q (p ∷ sc) i → DomainCells ts limit inner (suc (length sc) - suc i) q
-  domain-bound H few B a s m innermost =
-      let d : scope .depth < 32 = omega (arith, H .counted) in
-      let k : suc (length sc) - 1 ≡ scope .depth = omega (arith, H .counted) in
+module _ {ts : List ℕ} {limit : ℕ} {scope inner : Scope} {sc : List Expr} {start len : ℕ} (p : Expr) {rest : List ℕ} (H : ScopeHolds ts limit scope sc) (few : length sc < 32)
+    (B : Bound scope start len inner) (a : At ts start (cells p) rest) (s : len ≡ size p) (m : size p ≤ limit) (small : limit ≤ 4096) where
+  bindable : Bindable scope start len
+  bindable = record {
+    shallow = omega (arith, H .deep);
+    few = omega (arith, H .counted);
+    startFits = omega (arith, at-inside p a, H .short);
+    lenFits = omega arith;
+  }
+
+  domain-bound : {q : Expr} {i : ℕ} → DomainAt q (p ∷ sc) i → DomainCells ts limit inner (suc (length sc) - suc i) q
+  domain-bound innermost =
+      let k : suc (length sc) - 1 ≡ scope .bound = omega (arith, H .counted) in
       let x : getD (inner .starts) (suc (length sc) - 1) 0 ≡ start =
-      ap (λ (l : List ℕ). getD l (suc (length sc) - 1) 0) (B .startsAre d) ∙ ap (λ (i : ℕ). getD (set (scope .starts) (scope .depth) start) i 0) k
-      ∙ getD-set-same (scope .starts) (scope .depth) start 0 (omega (arith, H .startsLong))
+      ap (λ (l : List ℕ). getD l (suc (length sc) - 1) 0) (B .startsAre bindable) ∙ ap (λ (i : ℕ). getD (set (scope .starts) (scope .bound) start) i 0) k
+      ∙ getD-set-same (scope .starts) (scope .bound) start 0 (omega (arith, H .startsLong))
       in
       let y : getD (inner .lens) (suc (length sc) - 1) 0 ≡ len =
-      ap (λ (l : List ℕ). getD l (suc (length sc) - 1) 0) (B .lensAre d) ∙ ap (λ (i : ℕ). getD (set (scope .lens) (scope .depth) len) i 0) k
-      ∙ getD-set-same (scope .lens) (scope .depth) len 0 (omega (arith, H .lensLong))
+      ap (λ (l : List ℕ). getD l (suc (length sc) - 1) 0) (B .lensAre bindable) ∙ ap (λ (i : ℕ). getD (set (scope .lens) (scope .bound) len) i 0) k
+      ∙ getD-set-same (scope .lens) (scope .bound) len 0 (omega (arith, H .lensLong))
       in
       record { small = m; sized = y ∙ s; behind = rest; at = rw x a }
-  domain-bound H few B a s m {q} (outside {i = i} e) =
-      let d : scope .depth < 32 = omega (arith, H .counted) in
+  domain-bound {q} (outside {i = i} e) =
       let D = H .domain e in
       let h = domain-inside e in
       let k : suc (length sc) - suc (suc i) ≡ length sc - suc i = omega arith in
-      let n : (length sc - suc i ≡ scope .depth → ⊥) = λ z. omega (arith, H .counted) in
+      let n : (length sc - suc i ≡ scope .bound → ⊥) = λ z. omega (arith, H .counted) in
       let x : getD (inner .starts) (suc (length sc) - suc (suc i)) 0 ≡ getD (scope .starts) (length sc - suc i) 0 =
-      ap (λ (j : ℕ). getD (inner .starts) j 0) k ∙ ap (λ (l : List ℕ). getD l (length sc - suc i) 0) (B .startsAre d)
-      ∙ getD-set-other (scope .starts) (scope .depth) (length sc - suc i) start 0 n
+      ap (λ (j : ℕ). getD (inner .starts) j 0) k ∙ ap (λ (l : List ℕ). getD l (length sc - suc i) 0) (B .startsAre bindable)
+      ∙ getD-set-other (scope .starts) (scope .bound) (length sc - suc i) start 0 n
       in
       let y : getD (inner .lens) (suc (length sc) - suc (suc i)) 0 ≡ getD (scope .lens) (length sc - suc i) 0 =
-      ap (λ (j : ℕ). getD (inner .lens) j 0) k ∙ ap (λ (l : List ℕ). getD l (length sc - suc i) 0) (B .lensAre d)
-      ∙ getD-set-other (scope .lens) (scope .depth) (length sc - suc i) len 0 n
+      ap (λ (j : ℕ). getD (inner .lens) j 0) k ∙ ap (λ (l : List ℕ). getD l (length sc - suc i) 0) (B .lensAre bindable)
+      ∙ getD-set-other (scope .lens) (scope .bound) (length sc - suc i) len 0 n
       in
       record { small = D .small; sized = y ∙ D .sized; behind = D .behind; at = rw x (D .at) }
 
-  pub scope-bound : ScopeHolds ts limit scope sc → length sc < 32 → Bound scope start len inner → At ts start (cells p) rest → len ≡ size p → size p ≤ limit
-      → ScopeHolds ts limit inner (p ∷ sc)
-  scope-bound H few B a s m =
-      let d : scope .depth < 32 = omega (arith, H .counted) in
-      record {
-        counted = omega (arith, B .deeper d, H .counted);
-        few = omega arith;
-        startsLong = ap length (B .startsAre d) ∙ length-set (scope .starts) (scope .depth) start ∙ H .startsLong;
-        lensLong = ap length (B .lensAre d) ∙ length-set (scope .lens) (scope .depth) len ∙ H .lensLong;
-        domain = λ e. domain-bound H few B a s m e;
-      }
+  pub scope-bound : ScopeHolds ts limit inner (p ∷ sc)
+  scope-bound = record {
+    short = H .short;
+    counted = omega (arith, B .more bindable, H .counted);
+    deep = omega (arith, B .deeper (bindable .shallow), H .deep);
+    few = omega arith;
+    startsLong = ap length (B .startsAre bindable) ∙ length-set (scope .starts) (scope .bound) start ∙ H .startsLong;
+    lensLong = ap length (B .lensAre bindable) ∙ length-set (scope .lens) (scope .bound) len ∙ H .lensLong;
+    domain = λ e. domain-bound e;
+  }
 
 -- ---- what is known of the parts
 
@@ -183,10 +188,10 @@ module _ {ls : Lines} {ts e : List ℕ} {scope : Scope} {limit level : ℕ} {sc 
         under = omega (arith, E .under);
       }
 
-  pub body-in : {i start len : ℕ} {inner : Scope} (p t : Expr) → i ≡ 1 + length (cells p) → start ≡ length ts - length e + 1 → len ≡ i - 1 → Bound scope start len inner
-      → Expression ls ts e scope limit level sc (abs p t) → Expression ls ts (part e i) inner limit level (p ∷ sc) t
+  pub body-in : {i start len : ℕ} {inner : Scope} (p t : Expr) → limit ≤ 4096 → i ≡ 1 + length (cells p) → start ≡ length ts - length e + 1 → len ≡ size p
+      → Bound scope start len inner → Expression ls ts e scope limit level sc (abs p t) → Expression ls ts (part e i) inner limit level (p ∷ sc) t
   unfolding Scoped ScopedScope size nesting
-  body-in {i} {start} {len} p t q r s B E =
+  body-in {i} {start} {len} p t small q r s B E =
       let h = abstraction-body p t (E .at) in
       let k : At e i (cells t) (E .behind) = rw q h in
       let d = at-store (E .part) (abstraction-domain p t (E .at)) in
@@ -195,7 +200,7 @@ module _ {ls : Lines} {ts e : List ℕ} {scope : Scope} {limit level : ℕ} {sc 
         part = part-of ts e i (omega (arith, at-inside t h)) (E .part);
         behind = _;
         at = at-part k;
-        holds = scope-bound (E .holds) (omega (arith, E .under)) B d₁ (omega (arith, size-is-length p)) (omega (arith, E .small));
+        holds = scope-bound p (E .holds) (omega (arith, E .under)) B d₁ s (omega (arith, E .small)) small;
         knownScope = (E .known .0, E .knownScope);
         known = E .known .1;
         small = omega (arith, E .small);

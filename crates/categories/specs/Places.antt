@@ -3,14 +3,16 @@ use mathlib.Core.Path.{_≡_}
 use mathlib.Core.List.{List}
 use Prim.Native.Nat.{ℕ, suc, _+_, _-_, _≤_, _<_}
 use lib.ListN.{length, getD, drop}
-use Rattle.aut68.specs.Expr.{Expr, Exprs, abs, size, sizes, cells, cellss}
+use Rattle.aut68.specs.Expr.{Expr, Exprs, abs, size, sizes, cells, cellss, countExprs}
 use Rattle.aut68.specs.Lines.{Line, Lines, abbreviation, kindCells}
 use Rattle.aut68.specs.Rules.Categories.{DomainAt}
+use Rattle.aut68.specs.Rules.Names.{IsLine, Member}
 use Rattle.aut68.specs.Procedure.Category.{Function}
 use Rattle.calculus.specs.Resolved.{Known, AllKnown, KnownScope, KnownCategory}
 use Rattle.cells.specs.Cells.{At}
 use Rattle.cells.specs.Layout.{unitAt, levelUnit, resultUnit}
 use Rattle.cells.specs.declared.scope.Scope.{Scope}
+use Rattle.terms.specs.Made.{Started}
 use Rattle.categories.specs.Nesting.{nesting, nestings}
 
 -- ---- in the working store
@@ -26,11 +28,23 @@ pub record FoundAt (w : List ℕ) (limit level n : ℕ) (c : Expr) : Type 0 wher
   pub sized : n ≡ size c
   pub lies : Lies w limit level c
 
--- an argument string lies at the start of a level's unit
-pub record LieAll (w : List ℕ) (limit level : ℕ) (xs : Exprs) : Type 0 where
+-- an argument string lies at the start of a level's unit, each argument where starts says
+pub record LieAll (w : List ℕ) (limit level : ℕ) (starts : List ℕ) (xs : Exprs) : Type 0 where
   pub small : sizes xs ≤ limit
+  pub started : Started xs starts
   pub behind : List ℕ
   pub at : At w (unitAt limit (levelUnit level)) (cellss xs) behind
+
+-- the arguments `earlier` of a constant of line v, which is l, lie in a level's unit, as base, count and starts say; `wanted` is a
+-- variable of l's context
+pub record Awaits (ls : Lines) (w : List ℕ) (limit level k base count : ℕ) (starts : List ℕ) (wanted v : ℕ) (l : Line) (earlier : Exprs) : Type 0 where
+  pub isLine : IsLine ls v l
+  pub inContext : Member wanted (l .context)
+  pub baseIs : base ≡ unitAt limit (levelUnit level)
+  pub counted : countExprs earlier ≡ count
+  pub few : k ≤ 32
+  pub known : AllKnown ls k earlier
+  pub lie : LieAll w limit level starts earlier
 
 -- an abstraction lies in a level's unit, its domain and its body from the given indices on
 pub record FunctionIn (w : List ℕ) (limit level domain body : ℕ) (f : Function) : Type 0 where
@@ -58,9 +72,11 @@ pub record DomainCells (ts : List ℕ) (limit : ℕ) (scope : Scope) (j : ℕ) (
   pub behind : List ℕ
   pub at : At ts (getD (scope .starts) j 0) (cells p) behind
 
--- the scope has the domains sc, the outermost first
+-- the scope has the domains sc, the outermost first; every index of the term store fits it
 pub record ScopeHolds (ts : List ℕ) (limit : ℕ) (scope : Scope) (sc : List Expr) : Type 0 where
-  pub counted : scope .depth ≡ length sc
+  pub short : length ts < 4294967296
+  pub counted : scope .bound ≡ length sc
+  pub deep : scope .depth ≡ length sc
   pub few : length sc ≤ 32
   pub startsLong : length (scope .starts) ≡ 32
   pub lensLong : length (scope .lens) ≡ 32
@@ -92,6 +108,7 @@ pub record Arguments (ls : Lines) (ts s : List ℕ) (scope : Scope) (limit level
 
 -- The line l, whose cells are the last of the term store: the middle's from `start` on, the category's from `at` on.
 pub record LineCells (ls : Lines) (ts : List ℕ) (limit start at : ℕ) (l : Line) : Type 0 where
+  pub short : length ts < 4294967296
   pub cellsAre : At ts start (kindCells (l .kind)) (cells (l .category))
   pub ends : at ≡ start + length (kindCells (l .kind))
   pub middle : (m : Expr) → l .kind ≡ abbreviation m → Known ls 0 m

@@ -7,7 +7,7 @@ use mathlib.Core.List.{List, _∷_}
 use Prim.Native.Nat.{ℕ, _+_, _*_, _≤_, _<_}
 use lib.ListN.{length, getD}
 use Rattle.aut68.specs.Procedure.Answer.{Act, Answer, andThen, _>>=_, ensure, notType}
-use Rattle.aut68.specs.Expr.{Expr, Exprs, var, bound, app, abs, nil, size, cells, cellss, countExprs, isType}
+use Rattle.aut68.specs.Expr.{Expr, Exprs, var, bound, app, abs, nil, size, sizes, cells, countExprs, isType}
 use Rattle.aut68.specs.Substitution.{substitute, instantiate}
 use Rattle.aut68.specs.Expr as Expr
 use Rattle.aut68.specs.Lines.{Line, Lines}
@@ -16,13 +16,13 @@ use Rattle.aut68.specs.Procedure.Compare.{compare}
 use Rattle.aut68.specs.Procedure.Category.{Function, theLine, made, toFunction, overBinding, category, arguments}
 use Rattle.aut68.specs.Procedure.CheckLine.{checkWritten, checkMiddle}
 use Rattle.calculus.specs.Resolved.{Known, AllKnown, KnownScope, KnownCategory}
-use Rattle.cells.specs.Cells.{At, Outside, Wfs}
+use Rattle.cells.specs.Cells.{rowCell, At, Outside, copyCells}
 use Rattle.cells.specs.Layout.{unitAt, levelUnit, sideUnit}
 use Rattle.cells.specs.Results.{Result}
 use Rattle.cells.specs.declared.scope.Scope.{Scope}
 use Rattle.reduction.specs.Book.{Book}
 use Rattle.categories.specs.Nesting.{nesting}
-use Rattle.categories.specs.Places.{Lies, FoundAt, LieAll, FunctionIn, Held, ScopeHolds, Expression, Arguments, LineCells}
+use Rattle.categories.specs.Places.{Lies, FoundAt, LieAll, Awaits, FunctionIn, Held, ScopeHolds, Expression, Arguments, LineCells}
 
 -- what lies below a level's unit is as it was
 abbrev pub Frame : ℕ → ℕ → List ℕ → List ℕ → Type 0
@@ -43,11 +43,18 @@ FindsKnown ls k w limit level code n left m = Result (λ c. FoundAt w limit leve
 abbrev pub FunctionKnown : Lines → ℕ → List ℕ → ℕ → ℕ → ℕ → ℕ → Function → Type 0
 FunctionKnown ls k w limit level domain body f = FunctionIn w limit level domain body f × Known ls k (abs (f .domain) (f .body))
 
+-- code 0 comes with the count of cells that the expression has; every other code with no more
+pub record Spans (code extent whole : ℕ) : Type 0 where
+  pub is : code ≡ 0 → extent ≡ whole
+  pub within : extent ≤ whole
+
 -- ---- between two categories
 
--- what the result unit holds, as the category found at a level; 10 where it has more than `limit` cells
-pub record MadePost (w : List ℕ) (limit budget level n : ℕ) (w′ : List ℕ) (code size left : ℕ) : Type 0 where
+-- what the result unit holds, as the category found at a level, of an expression of `whole` cells; 10 where it has more than
+-- `limit` cells
+pub record MadePost (w : List ℕ) (limit budget level n whole : ℕ) (w′ : List ℕ) (code size extent left : ℕ) : Type 0 where
   pub frame : Frame limit level w w′
+  pub spans : Spans code extent whole
   pub means : {e : Expr} → limit ≤ 4096 → 128 * limit ≤ length w → Held w limit n e → Finds w′ limit level code size left (made limit e budget)
 
 -- is it `type`?
@@ -65,34 +72,54 @@ pub record ComparePost (tb ts w : List ℕ) (limit budget l r : ℕ) (w′ : Lis
   pub means : {ls : Lines} {k : ℕ} {x y : Expr} → Book ls limit tb ts → 128 * limit ≤ length w → k ≤ 32 → KnownCategory ls k x → KnownCategory ls k y
       → Lies w limit l x → Lies w limit r y → Passes code left (compare ls limit x y budget)
 
--- the category of the variable of line v
-pub record VariablePost (tb ts w : List ℕ) (limit budget level v : ℕ) (w′ : List ℕ) (code size left : ℕ) : Type 0 where
+-- the category on line v
+pub record StoredPost (tb ts w : List ℕ) (limit budget level v : ℕ) (w′ : List ℕ) (code size extent left : ℕ) : Type 0 where
   pub frame : Frame limit level w w′
-  pub means : {ls : Lines} {l : Line} → Book ls limit tb ts → 128 * limit ≤ length w → IsLine ls v l → (sc : List Expr)
-      → Finds w′ limit level code size left (category ls limit sc (var v) budget)
+  pub spans : Spans code extent 1
+  pub means : {ls : Lines} {l : Line} → Book ls limit tb ts → 128 * limit ≤ length w → IsLine ls v l
+      → Finds w′ limit level code size left (made limit (l .category) budget)
 
 -- the category of the bound variable with i bindings between
-pub record BoundPost (tb ts : List ℕ) (scope : Scope) (w : List ℕ) (limit budget level i : ℕ) (w′ : List ℕ) (code size left : ℕ) : Type 0 where
+pub record BoundPost (tb ts : List ℕ) (scope : Scope) (w : List ℕ) (limit budget level i : ℕ) (w′ : List ℕ) (code size extent left : ℕ) : Type 0 where
   pub frame : Frame limit level w w′
+  pub spans : Spans code extent 1
   pub means : {ls : Lines} {sc : List Expr} → Book ls limit tb ts → 128 * limit ≤ length w → ScopeHolds ts limit scope sc → KnownScope ls sc → i < length sc
       → Finds w′ limit level code size left (category ls limit sc (bound i) budget)
 
--- a copy of the `count` arguments at the start of s, in the level's unit
-pub record KeptArguments (tb s : List ℕ) (count : ℕ) (w : List ℕ) (limit level : ℕ) (w′ : List ℕ) : Type 0 where
-  pub frame : Frame limit level w w′
-  pub means : {xs : Exprs} {behind : List ℕ} → limit ≤ 4096 → 128 * limit ≤ length w → Wfs tb xs → countExprs xs ≡ count → At s 0 (cellss xs) behind
-      → length (cellss xs) ≤ limit → LieAll w′ limit level xs
+-- a copy of the n cells of s from `at` on, as far behind `base`
+pub record KeptArgument (s : List ℕ) (at n : ℕ) (w : List ℕ) (base : ℕ) (w′ : List ℕ) : Type 0 where
+  pub frame : Outside (base + at) (base + at + n) w w′
+  pub copied : base ≤ length w → w′ ≡ copyCells s at n w (base + at)
 
--- the category of the constant of line v; `passed` and `budget` are the answer of its arguments, which lie in the level's unit
-pub record ConstantPost (tb ts w : List ℕ) (limit passed budget level v : ℕ) (w′ : List ℕ) (code size left : ℕ) : Type 0 where
+-- the arguments xs passed: they lie in a level's unit, of `extent` cells
+abbrev pub Kept : List ℕ → ℕ → ℕ → ℕ → List ℕ → Exprs → Type 0
+Kept w limit level extent starts xs = LieAll w limit level starts xs × (extent ≡ sizes xs)
+
+-- the category of the constant of line v; `passed`, `extent` and `budget` are the answer of its arguments
+pub record ConstantPost (tb ts w : List ℕ) (limit passed extent : ℕ) (starts : List ℕ) (budget level v : ℕ) (w′ : List ℕ) (code size whole left : ℕ) : Type 0 where
   pub frame : Frame limit level w w′
+  pub spans : Spans code whole (extent + 1)
   pub means : {ls : Lines} {l : Line} {k : ℕ} {xs : Exprs} {m : Answer ℕ (Unit {0})} → Book ls limit tb ts → 128 * limit ≤ length w → IsLine ls v l
-      → countExprs xs ≡ length (l .context) → k ≤ 32 → AllKnown ls k xs → LieAll w limit level xs → Passes passed budget m
+      → countExprs xs ≡ length (l .context) → k ≤ 32 → AllKnown ls k xs → Result (λ _. Kept w limit level extent starts xs) passed budget m
       → Finds w′ limit level code size left (andThen (λ _. made limit (instantiate (l .context) xs 0 (l .category))) m)
 
--- r is variable i of the context of line v, the outermost being 0
-pub record ContextVariable (tb : List ℕ) (v i r : ℕ) : Type 0 where
-  pub means : {ls : Lines} {l : Line} {L : ℕ} {ts : List ℕ} → Book ls L tb ts → IsLine ls v l → i < length (l .context) → r ≡ getD (l .context) i 0
+-- ---- contexts
+
+-- the lines of the first 64 variables of the context of line v, the outermost being 0
+pub record ContextLines (tb : List ℕ) (v : ℕ) (lines : List ℕ) : Type 0 where
+  pub are : {ls : Lines} {l : Line} {L : ℕ} {ts : List ℕ} → Book ls L tb ts → IsLine ls v l → (i : ℕ) → i < 64 → i < length (l .context)
+      → getD lines i 0 ≡ getD (l .context) i 0
+
+-- taken from the row of line v, whose context has `count` variables
+pub record ContextOf (tb : List ℕ) (v count : ℕ) (lines : List ℕ) : Type 0 where
+  pub means : count ≡ rowCell tb v 3 → ContextLines tb v lines
+
+-- r is variable i of the context of line v
+pub record ContextVariable (tb : List ℕ) (v : ℕ) (lines : List ℕ) (i r : ℕ) : Type 0 where
+  pub means : ContextLines tb v lines → {ls : Lines} {l : Line} {L : ℕ} {ts : List ℕ} → Book ls L tb ts → IsLine ls v l → i < length (l .context)
+      → r ≡ getD (l .context) i 0
+
+-- ---- an argument
 
 -- for an argument whose category was found: the wanted one, their comparison
 unfoldable pub wantedFits : Lines → ℕ → List ℕ → Exprs → ℕ → Expr → Act ℕ (Unit {0})
@@ -101,13 +128,28 @@ wantedFits ls L context earlier v found = do
   wanted ← made L (instantiate context earlier 0 (l .category))
   compare ls L found wanted
 
--- argument i of the constant of line v, which has `earlier` before it; what was found for it lies one level deeper
-pub record ArgumentFitsPost (tb ts w : List ℕ) (limit found size budget level v i : ℕ) (w′ : List ℕ) (code left : ℕ) : Type 0 where
+-- what was found for it, one level deeper, against the wanted category
+pub record WantedPost (tb ts w : List ℕ) (limit budget level wanted base count : ℕ) (starts w′ : List ℕ) (code left : ℕ) : Type 0 where
+  pub frame : Frame limit (level + 2) w w′
+  pub means : {ls : Lines} {k v : ℕ} {l : Line} {earlier : Exprs} {c : Expr} → Book ls limit tb ts → 128 * limit ≤ length w
+      → Awaits ls w limit level k base count starts wanted v l earlier → Lies w limit (level + 1) c → KnownCategory ls k c
+      → Passes code left (wantedFits ls limit (l .context) earlier wanted c budget)
+
+-- the argument is the variable of line u
+pub record VariableFitsPost (tb ts w : List ℕ) (limit budget level u wanted base count : ℕ) (starts w′ : List ℕ) (code left : ℕ) : Type 0 where
   pub frame : Frame limit (level + 1) w w′
-  pub means : {ls : Lines} {l : Line} {k : ℕ} {earlier : Exprs} {m : Answer ℕ Expr} → Book ls limit tb ts → 128 * limit ≤ length w → IsLine ls v l
-      → i < length (l .context) → countExprs earlier ≡ i → k ≤ 32 → AllKnown ls k earlier → LieAll w limit level earlier
-      → FindsKnown ls k w limit (level + 1) found size budget m
-      → Passes code left (andThen (wantedFits ls limit (l .context) earlier (getD (l .context) i 0)) m)
+  pub means : {ls : Lines} {k v : ℕ} {l d : Line} {earlier : Exprs} → Book ls limit tb ts → 128 * limit ≤ length w
+      → Awaits ls w limit level k base count starts wanted v l earlier → IsLine ls u d → (sc : List Expr)
+      → Passes code left (andThen (wantedFits ls limit (l .context) earlier wanted) (category ls limit sc (var u) budget))
+
+-- `found`, `size` and `budget` are the answer of the search for its category, one level deeper
+pub record ArgumentFitsPost (tb ts w : List ℕ) (limit found size budget level wanted base count : ℕ) (starts w′ : List ℕ) (code left : ℕ) : Type 0 where
+  pub frame : Frame limit (level + 1) w w′
+  pub means : {ls : Lines} {k v : ℕ} {l : Line} {earlier : Exprs} {m : Answer ℕ Expr} → Book ls limit tb ts → 128 * limit ≤ length w
+      → Awaits ls w limit level k base count starts wanted v l earlier → FindsKnown ls k w limit (level + 1) found size budget m
+      → Passes code left (andThen (wantedFits ls limit (l .context) earlier wanted) m)
+
+-- ---- an application, an abstraction
 
 -- the function that what was found reaches by head steps, with where its domain and its body lie
 pub record FunctionOfPost (tb ts w : List ℕ) (limit found size budget level : ℕ) (w′ : List ℕ) (code domain body left : ℕ) : Type 0 where
@@ -120,57 +162,72 @@ pub record FunctionOfPost (tb ts w : List ℕ) (limit found size budget level : 
 unfoldable pub applying : Lines → ℕ → Expr → Function → Expr → Act ℕ Expr
 applying ls L a f found = compare ls L found (f .domain) >>= λ _. made L (substitute a 0 (f .body))
 
--- `<A>B` at the start of e, with B at index b: the function lies at this level, what was found for A one level deeper
-pub record AppliedPost (tb ts e : List ℕ) (b : ℕ) (w : List ℕ) (limit level domain body found size budget : ℕ) (w′ : List ℕ) (code n left : ℕ) : Type 0 where
+-- `<A>B` at the start of e, with B, of `extent` cells, at index b: the function lies at this level, what was found for A one
+-- level deeper
+pub record AppliedPost (tb ts e : List ℕ) (b extent : ℕ) (w : List ℕ) (limit level domain body found size budget : ℕ) (w′ : List ℕ) (code n whole left : ℕ) : Type 0 where
   pub frame : Frame limit level w w′
+  pub spans : Spans code whole (b + extent)
   pub means : {ls : Lines} {k : ℕ} (a : Expr) {f : Function} {m : Answer ℕ Expr} {behind : List ℕ} → Book ls limit tb ts → 128 * limit ≤ length w → k ≤ 32
       → Known ls k a → Expr.size a ≤ limit → At e 1 (cells a) behind → b ≡ 1 + Expr.size a → FunctionKnown ls k w limit level domain body f
       → FindsKnown ls k w limit (level + 1) found size budget m
       → Finds w′ limit level code n left (andThen (applying ls limit a f) m)
 
--- `[x,P]`, the first t cells of e, before what was found, unless that is `type`
-pub record OverBindingPost (e : List ℕ) (t : ℕ) (w : List ℕ) (limit level found size budget : ℕ) (w′ : List ℕ) (code n left : ℕ) : Type 0 where
+-- `[x,P]`, the first t cells of e, before what was found for a T of `extent` cells, unless that is `type`
+pub record OverBindingPost (e : List ℕ) (t : ℕ) (w : List ℕ) (limit level found size extent budget : ℕ) (w′ : List ℕ) (code n whole left : ℕ) : Type 0 where
   pub frame : Frame limit level w w′
+  pub spans : Spans code whole (t + extent)
   pub means : (p : Expr) {m : Answer ℕ Expr} {behind : List ℕ} → limit ≤ 4096 → 128 * limit ≤ length w → At e 0 (5 ∷ cells p) behind → t ≡ 1 + Expr.size p
       → Finds w limit level found size budget m → Finds w′ limit level code n left (andThen (λ c. made limit (overBinding p c)) m)
 
 -- ---- categories and argument strings
 
--- the answer is the category of x
-pub record Categorises (tb ts e : List ℕ) (scope : Scope) (w : List ℕ) (limit budget level : ℕ) (w′ : List ℕ) (code size left : ℕ) (x : Expr) : Type 0 where
+-- the answer is the category of x, and how many cells x has
+pub record Categorises (tb ts e : List ℕ) (scope : Scope) (w : List ℕ) (limit budget level : ℕ) (w′ : List ℕ) (code size extent left : ℕ) (x : Expr) : Type 0 where
   pub finds : {ls : Lines} {sc : List Expr} → Book ls limit tb ts → 128 * limit ≤ length w → Expression ls ts e scope limit level sc x
       → Finds w′ limit level code size left (category ls limit sc x budget)
+  pub spans : {ls : Lines} {sc : List Expr} → Book ls limit tb ts → 128 * limit ≤ length w → Expression ls ts e scope limit level sc x
+      → code ≡ 0 → extent ≡ Expr.size x
 
 -- for whatever expression lies at the start of e, the rest of the term store from there on
-pub record CategoryPost (tb ts e : List ℕ) (scope : Scope) (w : List ℕ) (limit budget level : ℕ) (w′ : List ℕ) (code size left : ℕ) : Type 0 where
+pub record CategoryPost (tb ts e : List ℕ) (scope : Scope) (w : List ℕ) (limit budget level : ℕ) (w′ : List ℕ) (code size extent left : ℕ) : Type 0 where
   pub frame : Frame limit level w w′
-  pub means : (x : Expr) → Categorises tb ts e scope w limit budget level w′ code size left x
+  pub within : extent ≤ length e
+  pub means : (x : Expr) → Categorises tb ts e scope w limit budget level w′ code size extent left x
 
 -- for `<A>B`
-pub record ApplicationPost (tb ts e : List ℕ) (scope : Scope) (w : List ℕ) (limit budget level : ℕ) (w′ : List ℕ) (code size left : ℕ) : Type 0 where
+pub record ApplicationPost (tb ts e : List ℕ) (scope : Scope) (w : List ℕ) (limit budget level : ℕ) (w′ : List ℕ) (code size extent left : ℕ) : Type 0 where
   pub frame : Frame limit level w w′
-  pub means : (a b : Expr) → Categorises tb ts e scope w limit budget level w′ code size left (app a b)
+  pub within : extent ≤ length e
+  pub means : (a b : Expr) → Categorises tb ts e scope w limit budget level w′ code size extent left (app a b)
 
 -- for `[x,P]T`
-pub record AbstractionPost (tb ts e : List ℕ) (scope : Scope) (w : List ℕ) (limit budget level : ℕ) (w′ : List ℕ) (code size left : ℕ) : Type 0 where
+pub record AbstractionPost (tb ts e : List ℕ) (scope : Scope) (w : List ℕ) (limit budget level : ℕ) (w′ : List ℕ) (code size extent left : ℕ) : Type 0 where
   pub frame : Frame limit level w w′
-  pub means : (p t : Expr) → Categorises tb ts e scope w limit budget level w′ code size left (abs p t)
+  pub within : extent ≤ length e
+  pub means : (p t : Expr) → Categorises tb ts e scope w limit budget level w′ code size extent left (abs p t)
+
+-- the argument at the start of e, for the context variable on line `wanted`
+pub record ArgumentPost (tb ts e : List ℕ) (scope : Scope) (w : List ℕ) (limit budget level wanted base count : ℕ) (starts w′ : List ℕ) (code extent left : ℕ) : Type 0 where
+  pub frame : Frame limit (level + 1) w w′
+  pub within : extent ≤ length e
+  pub means : {ls : Lines} {sc : List Expr} {v : ℕ} {l : Line} {earlier : Exprs} (x : Expr) → Book ls limit tb ts → 128 * limit ≤ length w
+      → Awaits ls w limit level (length sc) base count starts wanted v l earlier → Expression ls ts e scope limit (level + 1) sc x
+      → Result (λ _. extent ≡ Expr.size x) code left (andThen (wantedFits ls limit (l .context) earlier wanted) (category ls limit sc x budget))
 
 -- the arguments at the start of s of the constant of line v, and a copy of them in the level's unit
-pub record ArgumentsPost (tb ts s : List ℕ) (scope : Scope) (w : List ℕ) (limit budget level v : ℕ) (w′ : List ℕ) (code left : ℕ) : Type 0 where
+pub record ArgumentsPost (tb ts s : List ℕ) (scope : Scope) (w : List ℕ) (limit budget level v : ℕ) (w′ : List ℕ) (code extent : ℕ) (starts : List ℕ) (left : ℕ) : Type 0 where
   pub frame : Frame limit level w w′
-  pub kept : {ls : Lines} {l : Line} {sc : List Expr} {xs : Exprs} → Book ls limit tb ts → 128 * limit ≤ length w → IsLine ls v l
-      → countExprs xs ≡ length (l .context) → Arguments ls ts s scope limit level sc xs → LieAll w′ limit level xs
+  pub within : extent ≤ length s
   pub means : {ls : Lines} {l : Line} {sc : List Expr} {xs : Exprs} → Book ls limit tb ts → 128 * limit ≤ length w → IsLine ls v l
       → countExprs xs ≡ length (l .context) → Arguments ls ts s scope limit level sc xs
-      → Passes code left (arguments ls limit sc xs (l .context) (l .context) nil budget)
+      → Result (λ _. Kept w′ limit level extent starts xs) code left (arguments ls limit sc xs (l .context) (l .context) nil budget)
 
 -- ---- the line at hand
 
 -- the written category, at index `at`
 pub record CheckWrittenPost (tb ts : List ℕ) (at : ℕ) (w : List ℕ) (limit budget : ℕ) (w′ : List ℕ) (code left : ℕ) : Type 0 where
   pub frame : Frame limit 0 w w′
-  pub means : {ls : Lines} {c : Expr} {behind : List ℕ} → Book ls limit tb ts → 128 * limit ≤ length w → At ts at (cells c) behind
+  pub means : {ls : Lines} {c : Expr} {behind : List ℕ} → Book ls limit tb ts → 128 * limit ≤ length w → length ts < 4294967296 → At ts at (cells c) behind
       → KnownCategory ls 0 c → size c ≤ limit → nesting c ≤ 32 → Passes code left (checkWritten ls limit c budget)
 
 -- the middle, in the cells start..at, against the category behind it

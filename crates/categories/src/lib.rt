@@ -2,15 +2,16 @@
 //
 // The line's cells are in the term store; a subexpression is handed on as the part of the store that starts with it. The
 // category of an expression at a level is left at the start of that level's unit. `<A>B` finds A's category one level deeper;
-// a constant keeps a copy of its arguments in its level's unit, finds their categories one level deeper, and makes the wanted
-// ones two levels deeper. An argument and A are one nesting deeper than their expression, so levels stay below 32.
+// a constant finds each argument's category one level deeper, makes the wanted one two levels deeper, if it is not seen at once
+// that it is the found one, and copies the argument to its level's unit. An argument and A are one nesting deeper than their
+// expression, so levels stay below 32.
 //
-// The functions that call each other are category, arguments, application and abstraction, the remaining cells falling; what
-// they do between two categories is in functions that call none of them.
+// The functions that call each other are category, arguments, argument, application and abstraction, the remaining cells
+// falling; what they do between two categories is in functions that call none of them.
 ghost use mathlib.Core.Path.{_≡_};
 ghost use Prim.Native.Nat.{ℕ, _≤_};
 ghost use lib.ListN.{length};
-ghost use Rattle.categories.specs.Posts.{CategoryPost, ArgumentsPost, ApplicationPost, AbstractionPost};
+ghost use Rattle.categories.specs.Posts.{CategoryPost, ArgumentsPost, ArgumentPost, ApplicationPost, AbstractionPost};
 
 mod checks;
 mod parts;
@@ -18,23 +19,46 @@ mod parts;
 use cells::Scope;
 use cells::bind;
 use cells::field;
+use cells::level_at;
 use cells::skip;
 pub use checks::check_cells;
 use parts::applied;
 use parts::argument_fits;
 use parts::bound;
 use parts::constant;
+use parts::context_of;
+use parts::context_variable;
 use parts::found_type;
 use parts::function_of;
-use parts::keep_arguments;
+use parts::keep_argument;
 use parts::over_binding;
 use parts::refused;
-use parts::variable;
+use parts::stored;
+use parts::unfit;
+use parts::variable_fits;
+use terms::Arguments;
 
-// code 0: a category of `size` cells was found; else a refusal. The budget that is left.
+// code 0: a category of `size` cells was found, of an expression of `extent` cells; else a refusal. The budget that is left.
 pub struct Found {
     pub code: u32,
     pub size: usize,
+    pub extent: usize,
+    pub budget: u32,
+}
+
+// code 0: the arguments, of `extent` cells, passed, and lie in the level's unit, each where `starts` says; else a refusal. The
+// budget that is left.
+pub struct Argued {
+    pub code: u32,
+    pub extent: usize,
+    pub starts: [u16; 64],
+    pub budget: u32,
+}
+
+// code 0: an argument of `extent` cells passed; else a refusal. The budget that is left.
+pub struct Fitted {
+    pub code: u32,
+    pub extent: usize,
     pub budget: u32,
 }
 
@@ -56,7 +80,7 @@ pub fn category(
     level: usize,
 ) -> Found
     requires { ⌜ length (now e) ≤ length (now store) ⌝ }
-    ensures { λ r. ⌜ CategoryPost (now (table .entry)) (now (store .entry)) (now (e .entry)) scope (now (w .entry)) limit budget level (now (w .exit)) (r .code) (r .size) (r .budget) ⌝ }
+    ensures { λ r. ⌜ CategoryPost (now (table .entry)) (now (store .entry)) (now (e .entry)) scope (now (w .entry)) limit budget level (now (w .exit)) (r .code) (r .size) (r .extent) (r .budget) ⌝ }
 {
     if level > 31 {
         return refused(cells::TOO_LARGE, budget);
@@ -68,9 +92,12 @@ pub fn category(
     let v = (x / 8) as usize;
     let k = x % 8;
     match k {
-        1 => variable(table, store, w, limit, budget, level, v),
+        1 => stored(table, store, w, limit, budget, level, v),
         2 => bound(table, store, scope, w, limit, budget, level, v),
         3 => {
+            if field(table, v, 3) == 0 {
+                return stored(table, store, w, limit, budget, level, v);
+            }
             let c = arguments(table, store, &e[1..], scope, w, limit, budget, level, v);
             constant(table, store, w, limit, c, level, v)
         }
@@ -80,8 +107,8 @@ pub fn category(
     }
 }
 
-// The arguments at the start of s of the constant of line v, from left to right: each one's category, the wanted one, their
-// comparison. A copy of them is left in the level's unit.
+// The arguments at the start of s of the constant of line v, from left to right, each copied to the level's unit when it has
+// passed.
 fn arguments(
     table: &[u32],
     store: &[u16],
@@ -92,32 +119,99 @@ fn arguments(
     budget: u32,
     level: usize,
     v: usize,
-) -> Checked
+) -> Argued
     requires { ⌜ (length (now s) ≤ length (now store)) × (level ≤ 31) ⌝ }
-    ensures { λ r. ⌜ ArgumentsPost (now (table .entry)) (now (store .entry)) (now (s .entry)) scope (now (w .entry)) limit budget level v (now (w .exit)) (r .code) (r .budget) ⌝ }
+    ensures { λ r. ⌜ ArgumentsPost (now (table .entry)) (now (store .entry)) (now (s .entry)) scope (now (w .entry)) limit budget level v (now (w .exit)) (r .code) (r .extent) (r .starts) (r .budget) ⌝ }
 {
     let count = field(table, v, 3);
-    keep_arguments(table, s, count, w, limit, level);
+    let context = context_of(table, v, count);
+    let base = level_at(limit, level);
+    let mut starts = [0; 64];
     let mut i = 0;
     let mut at = 0;
     let mut left = budget;
     while i < count {
-        let f = category(table, store, &s[at..], scope, w, limit, left, level + 1);
-        let c = argument_fits(table, store, w, limit, f, level, v, i);
-        left = c.budget;
-        let code = c.code;
+        let wanted = context_variable(table, v, context, i);
+        let args = Arguments {
+            base: base,
+            count: i,
+            starts: starts,
+        };
+        let f = argument(
+            table,
+            store,
+            &s[at..],
+            scope,
+            w,
+            limit,
+            left,
+            level,
+            wanted,
+            args,
+        );
+        left = f.budget;
+        let code = f.code;
         if code != 0 {
-            return Checked {
-                code: code,
-                budget: left,
-            };
+            return unfit(code, left);
         }
-        at = skip(table, s, at, 1);
+        let n = f.extent;
+        keep_argument(s, at, n, w, base);
+        at = at + n;
         i = i + 1;
+        if i < 64 {
+            if at < 65536 {
+                starts[i] = at as u16;
+            }
+        }
     }
-    Checked {
+    Argued {
         code: 0,
+        extent: at,
+        starts: starts,
         budget: left,
+    }
+}
+
+// The argument at the start of e, with those before it: its category, the wanted one, of the context variable on line `wanted`,
+// and their comparison. The category of a variable is compared where it is stored.
+fn argument(
+    table: &[u32],
+    store: &[u16],
+    e: &[u16],
+    scope: Scope,
+    w: &mut [u16],
+    limit: usize,
+    budget: u32,
+    level: usize,
+    wanted: usize,
+    args: Arguments,
+) -> Fitted
+    requires { ⌜ (length (now e) ≤ length (now store)) × (level ≤ 31) ⌝ }
+    ensures { λ r. ⌜ ArgumentPost (now (table .entry)) (now (store .entry)) (now (e .entry)) scope (now (w .entry)) limit budget level wanted (args .base) (args .count) (args .starts) (now (w .exit)) (r .code) (r .extent) (r .budget) ⌝ }
+{
+    if e.len() == 0 {
+        return Fitted {
+            code: cells::NOT_TYPE,
+            extent: 0,
+            budget: budget,
+        };
+    }
+    let x = e[0];
+    let v = (x / 8) as usize;
+    if x % 8 == 1 {
+        let c = variable_fits(table, store, w, limit, budget, level, v, wanted, args);
+        return Fitted {
+            code: c.code,
+            extent: 1,
+            budget: c.budget,
+        };
+    }
+    let f = category(table, store, e, scope, w, limit, budget, level + 1);
+    let c = argument_fits(table, store, w, limit, f, level, wanted, args);
+    Fitted {
+        code: c.code,
+        extent: f.extent,
+        budget: c.budget,
     }
 }
 
@@ -134,10 +228,11 @@ fn application(
     level: usize,
 ) -> Found
     requires { ⌜ (length (now e) ≤ length (now store)) × (1 ≤ length (now e)) × (level ≤ 31) ⌝ }
-    ensures { λ r. ⌜ ApplicationPost (now (table .entry)) (now (store .entry)) (now (e .entry)) scope (now (w .entry)) limit budget level (now (w .exit)) (r .code) (r .size) (r .budget) ⌝ }
+    ensures { λ r. ⌜ ApplicationPost (now (table .entry)) (now (store .entry)) (now (e .entry)) scope (now (w .entry)) limit budget level (now (w .exit)) (r .code) (r .size) (r .extent) (r .budget) ⌝ }
 {
     let b = skip(table, e, 1, 1);
     let c = category(table, store, &e[b..], scope, w, limit, budget, level);
+    let extent = c.extent;
     let f = function_of(table, store, w, limit, c, level);
     let code = f.code;
     let left = f.budget;
@@ -147,7 +242,7 @@ fn application(
     let a = category(table, store, &e[1..], scope, w, limit, left, level + 1);
     let domain = f.domain;
     let body = f.body;
-    applied(table, store, e, b, w, limit, level, domain, body, a)
+    applied(table, store, e, b, extent, w, limit, level, domain, body, a)
 }
 
 // The category of `[x,P]T` at the start of e: P's must be `type`; T's under one binding more; `type` if that is `type`, else
@@ -163,18 +258,22 @@ fn abstraction(
     level: usize,
 ) -> Found
     requires { ⌜ (length (now e) ≤ length (now store)) × (1 ≤ length (now e)) × (level ≤ 31) ⌝ }
-    ensures { λ r. ⌜ AbstractionPost (now (table .entry)) (now (store .entry)) (now (e .entry)) scope (now (w .entry)) limit budget level (now (w .exit)) (r .code) (r .size) (r .budget) ⌝ }
+    ensures { λ r. ⌜ AbstractionPost (now (table .entry)) (now (store .entry)) (now (e .entry)) scope (now (w .entry)) limit budget level (now (w .exit)) (r .code) (r .size) (r .extent) (r .budget) ⌝ }
 {
     let p = category(table, store, &e[1..], scope, w, limit, budget, level);
+    let extent = p.extent;
     let d = found_type(w, limit, level, p);
     let code = d.code;
     let left = d.budget;
     if code != 0 {
         return refused(code, left);
     }
-    let t = skip(table, e, 1, 1);
+    if extent > e.len() - 1 {
+        return refused(cells::NOT_TYPE, left);
+    }
+    let t = extent + 1;
     let start = store.len() - e.len() + 1;
-    let inner = bind(scope, start, t - 1);
+    let inner = bind(scope, start, extent);
     let c = category(table, store, &e[t..], inner, w, limit, left, level);
     over_binding(e, t, w, limit, level, c)
 }

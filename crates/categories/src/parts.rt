@@ -1,7 +1,9 @@
 // What is done between two categories: copies, comparisons, what is made of them.
 ghost use mathlib.Core.Path.{_≡_};
-ghost use Prim.Native.Nat.{ℕ, _≤_, _<_, _^_};
-ghost use Rattle.categories.specs.Posts.{MadePost, IsTypePost, FoundTypePost, ComparePost, VariablePost, BoundPost, KeptArguments, ConstantPost, ContextVariable, ArgumentFitsPost, FunctionOfPost, AppliedPost, OverBindingPost};
+ghost use Prim.Native.Nat.{ℕ, _+_, _≤_, _<_, _^_};
+ghost use lib.ListN.{length};
+ghost use Rattle.categories.specs.Posts.{MadePost, IsTypePost, FoundTypePost, ComparePost, StoredPost, BoundPost, KeptArgument, ConstantPost, ContextOf, ContextVariable, WantedPost, VariableFitsPost, ArgumentFitsPost, FunctionOfPost, AppliedPost, OverBindingPost};
+use crate::Argued;
 use crate::Checked;
 use crate::Found;
 use cells::Scope;
@@ -11,29 +13,44 @@ use cells::load;
 use cells::move_cells;
 use cells::result_at;
 use cells::scratch_at;
-use cells::skip;
 use comparison::compare;
 use reduction::Function;
-use reduction::put_in;
 use reduction::to_function;
+use terms::Arguments;
+use terms::instantiate;
+use terms::is_instance;
 use terms::raise;
 use terms::substitute;
 
 // A refusal in place of a category.
 pub fn refused(code: u32, budget: u32) -> Found
-    ensures { λ r. ⌜ (r .code ≡ code) × (r .budget ≡ budget) ⌝ }
+    ensures { λ r. ⌜ (r .code ≡ code) × (r .extent ≡ 0) × (r .budget ≡ budget) ⌝ }
 {
     Found {
         code: code,
         size: 0,
+        extent: 0,
         budget: budget,
     }
 }
 
-// The n cells in the result unit become what is found at a level; 10 where they are more than `limit`.
-fn made(w: &mut [u16], limit: usize, budget: u32, level: usize, n: usize) -> Found
+// A refusal in place of arguments that passed.
+pub fn unfit(code: u32, budget: u32) -> Argued
+    ensures { λ r. ⌜ (r .code ≡ code) × (r .extent ≡ 0) × (r .budget ≡ budget) ⌝ }
+{
+    Argued {
+        code: code,
+        extent: 0,
+        starts: [0; 64],
+        budget: budget,
+    }
+}
+
+// The n cells in the result unit become what is found at a level, for an expression of `extent` cells; 10 where they are more
+// than `limit`.
+fn made(w: &mut [u16], limit: usize, budget: u32, level: usize, n: usize, extent: usize) -> Found
     requires { ⌜ level < 36 ⌝ }
-    ensures { λ r. ⌜ MadePost (now (w .entry)) limit budget level n (now (w .exit)) (r .code) (r .size) (r .budget) ⌝ }
+    ensures { λ r. ⌜ MadePost (now (w .entry)) limit budget level n extent (now (w .exit)) (r .code) (r .size) (r .extent) (r .budget) ⌝ }
 {
     if n > limit {
         return refused(cells::TOO_LARGE, budget);
@@ -44,6 +61,7 @@ fn made(w: &mut [u16], limit: usize, budget: u32, level: usize, n: usize) -> Fou
     Found {
         code: 0,
         size: n,
+        extent: extent,
         budget: budget,
     }
 }
@@ -105,8 +123,8 @@ pub fn compare_units(
     }
 }
 
-// The category of the variable of line v: the one on its line.
-pub fn variable(
+// The category on line v: that of its variable, or of its constant without arguments.
+pub fn stored(
     table: &[u32],
     store: &[u16],
     w: &mut [u16],
@@ -116,7 +134,7 @@ pub fn variable(
     v: usize,
 ) -> Found
     requires { ⌜ level < 36 ⌝ }
-    ensures { λ r. ⌜ VariablePost (now (table .entry)) (now (store .entry)) (now (w .entry)) limit budget level v (now (w .exit)) (r .code) (r .size) (r .budget) ⌝ }
+    ensures { λ r. ⌜ StoredPost (now (table .entry)) (now (store .entry)) (now (w .entry)) limit budget level v (now (w .exit)) (r .code) (r .size) (r .extent) (r .budget) ⌝ }
 {
     let from = field(table, v, 6);
     let end = field(table, v, 7);
@@ -132,6 +150,7 @@ pub fn variable(
     Found {
         code: 0,
         size: n,
+        extent: 1,
         budget: budget,
     }
 }
@@ -148,75 +167,99 @@ pub fn bound(
     v: usize,
 ) -> Found
     requires { ⌜ level < 36 ⌝ }
-    ensures { λ r. ⌜ BoundPost (now (table .entry)) (now (store .entry)) scope (now (w .entry)) limit budget level v (now (w .exit)) (r .code) (r .size) (r .budget) ⌝ }
+    ensures { λ r. ⌜ BoundPost (now (table .entry)) (now (store .entry)) scope (now (w .entry)) limit budget level v (now (w .exit)) (r .code) (r .size) (r .extent) (r .budget) ⌝ }
 {
-    let depth = scope.depth;
-    if depth > 32 {
+    let bindings = scope.bound;
+    if bindings > 32 {
         return refused(cells::UNKNOWN_NAME, budget);
     }
-    if v >= depth {
+    if v >= bindings {
         return refused(cells::UNKNOWN_NAME, budget);
     }
-    let i = depth - 1 - v;
-    let from = scope.starts[i];
-    let len = scope.lens[i];
+    let i = bindings - 1 - v;
+    let from = scope.starts[i] as usize;
+    let len = scope.lens[i] as usize;
     let scratch = scratch_at(limit);
     let to = result_at(limit);
     load(store, from, len, w, scratch);
     let n = raise(table, w, scratch, v + 1, to, limit);
-    made(w, limit, budget, level, n)
+    made(w, limit, budget, level, n, 1)
 }
 
-// A copy of the `count` arguments at the start of s, in the level's unit.
-pub fn keep_arguments(
-    table: &[u32],
-    s: &[u16],
-    count: usize,
-    w: &mut [u16],
-    limit: usize,
-    level: usize,
-)
-    requires { ⌜ level < 36 ⌝ }
-    ensures { λ _. ⌜ KeptArguments (now (table .entry)) (now (s .entry)) count (now (w .entry)) limit level (now (w .exit)) ⌝ }
+// A copy of the n cells of s from `at` on, as far behind `base` in w.
+pub fn keep_argument(s: &[u16], at: usize, n: usize, w: &mut [u16], base: usize)
+    requires { ⌜ at ≤ length (now s) ⌝ }
+    ensures { λ _. ⌜ KeptArgument (now (s .entry)) at n (now (w .entry)) base (now (w .exit)) ⌝ }
 {
-    let n = skip(table, s, 0, count);
-    if n > limit {
+    if base > w.len() {
         return;
     }
-    let to = level_at(limit, level);
-    load(s, 0, n, w, to);
+    load(s, at, n, w, base + at);
 }
 
-// The category of the constant of line v, whose arguments lie in the level's unit: the one on its line, they put in; or the
-// refusal of its arguments.
+// The category of the constant of line v, whose arguments passed and lie in the level's unit: the one on its line, they put in;
+// or the refusal of its arguments.
 pub fn constant(
     table: &[u32],
     store: &[u16],
     w: &mut [u16],
     limit: usize,
-    passed: Checked,
+    passed: Argued,
     level: usize,
     v: usize,
 ) -> Found
-    requires { ⌜ level < 36 ⌝ }
-    ensures { λ r. ⌜ ConstantPost (now (table .entry)) (now (store .entry)) (now (w .entry)) limit (passed .code) (passed .budget) level v (now (w .exit)) (r .code) (r .size) (r .budget) ⌝ }
+    requires { ⌜ (level < 36) × (passed .extent < 2 ^ 63) ⌝ }
+    ensures { λ r. ⌜ ConstantPost (now (table .entry)) (now (store .entry)) (now (w .entry)) limit (passed .code) (passed .extent) (passed .starts) (passed .budget) level v (now (w .exit)) (r .code) (r .size) (r .extent) (r .budget) ⌝ }
 {
     if passed.code != 0 {
         return refused(passed.code, passed.budget);
     }
     let from = field(table, v, 6);
-    let end = field(table, v, 7);
     let count = field(table, v, 3);
-    let args = level_at(limit, level);
-    let n = put_in(table, store, w, limit, from, end, args, count, limit);
-    made(w, limit, passed.budget, level, n)
+    let base = level_at(limit, level);
+    let starts = passed.starts;
+    let args = Arguments {
+        base: base,
+        count: count,
+        starts: starts,
+    };
+    let to = result_at(limit);
+    let n = instantiate(table, store, from, w, args, to, limit);
+    made(w, limit, passed.budget, level, n, passed.extent + 1)
+}
+
+// The context of a line: the lines of its first 64 variables, the outermost first.
+pub struct Context {
+    pub lines: [u16; 64],
+}
+
+// The context of line v, of `count` variables.
+pub fn context_of(table: &[u32], v: usize, count: usize) -> Context
+    ensures { λ r. ⌜ ContextOf (now (table .entry)) v count (r .lines) ⌝ }
+{
+    let mut context = Context { lines: [0; 64] };
+    let mut c = field(table, v, 2);
+    let mut behind = count;
+    while behind > 0 {
+        behind = behind - 1;
+        if behind < 64 {
+            if c < 65536 {
+                context.lines[behind] = c as u16;
+            }
+        }
+        c = field(table, c, 2);
+    }
+    context
 }
 
 // The line of variable i of the context of line v, the outermost being 0.
-fn context_variable(table: &[u32], v: usize, i: usize) -> usize
+pub fn context_variable(table: &[u32], v: usize, context: Context, i: usize) -> usize
     requires { ⌜ i < 2 ^ 32 ⌝ }
-    ensures { λ r. ⌜ ContextVariable (now (table .entry)) v i r ⌝ }
+    ensures { λ r. ⌜ ContextVariable (now (table .entry)) v (context .lines) i r ⌝ }
 {
+    if i < 64 {
+        return context.lines[i] as usize;
+    }
     let mut c = field(table, v, 2);
     let mut behind = field(table, v, 3);
     while behind > i + 1 {
@@ -226,8 +269,75 @@ fn context_variable(table: &[u32], v: usize, i: usize) -> usize
     c
 }
 
-// Argument i of the constant of line v, whose category was found at the next level: the wanted category, made of the
-// arguments before it, and their comparison; or the refusal of the found one.
+// The wanted category of an argument, that of the context variable on line `wanted` with the arguments before put in, two levels
+// deeper; its comparison with what was found one level deeper.
+fn compare_wanted(
+    table: &[u32],
+    store: &[u16],
+    w: &mut [u16],
+    limit: usize,
+    budget: u32,
+    level: usize,
+    wanted: usize,
+    args: Arguments,
+) -> Checked
+    requires { ⌜ level < 34 ⌝ }
+    ensures { λ r. ⌜ WantedPost (now (table .entry)) (now (store .entry)) (now (w .entry)) limit budget level wanted (args .base) (args .count) (args .starts) (now (w .exit)) (r .code) (r .budget) ⌝ }
+{
+    let from = field(table, wanted, 6);
+    let to = level_at(limit, level + 2);
+    let n = instantiate(table, store, from, w, args, to, limit);
+    if n > limit {
+        return Checked {
+            code: cells::TOO_LARGE,
+            budget: budget,
+        };
+    }
+    compare_units(table, store, w, limit, budget, level + 1, level + 2)
+}
+
+// An argument of a constant, the variable of line v: its category, which is on that line, and the wanted one, of the context
+// variable on line `wanted` with the arguments before put in, compared.
+pub fn variable_fits(
+    table: &[u32],
+    store: &[u16],
+    w: &mut [u16],
+    limit: usize,
+    budget: u32,
+    level: usize,
+    v: usize,
+    wanted: usize,
+    args: Arguments,
+) -> Checked
+    requires { ⌜ level < 34 ⌝ }
+    ensures { λ r. ⌜ VariableFitsPost (now (table .entry)) (now (store .entry)) (now (w .entry)) limit budget level v wanted (args .base) (args .count) (args .starts) (now (w .exit)) (r .code) (r .budget) ⌝ }
+{
+    let at = field(table, v, 6);
+    let end = field(table, v, 7);
+    let from = field(table, wanted, 6);
+    let stop = field(table, wanted, 7);
+    if end >= at {
+        if end - at <= limit {
+            if is_instance(table, store, from, stop, w, args, store, at, end - at) {
+                return Checked {
+                    code: 0,
+                    budget: budget,
+                };
+            }
+        }
+    }
+    let f = stored(table, store, w, limit, budget, level + 1, v);
+    if f.code != 0 {
+        return Checked {
+            code: f.code,
+            budget: f.budget,
+        };
+    }
+    compare_wanted(table, store, w, limit, f.budget, level, wanted, args)
+}
+
+// An argument of a constant whose category was found at the next level: the wanted category, of the context variable on line
+// `wanted` with the arguments before put in, and their comparison; or the refusal of the found one.
 pub fn argument_fits(
     table: &[u32],
     store: &[u16],
@@ -235,11 +345,11 @@ pub fn argument_fits(
     limit: usize,
     found: Found,
     level: usize,
-    v: usize,
-    i: usize,
+    wanted: usize,
+    args: Arguments,
 ) -> Checked
-    requires { ⌜ (level < 34) × (i < 2 ^ 32) ⌝ }
-    ensures { λ r. ⌜ ArgumentFitsPost (now (table .entry)) (now (store .entry)) (now (w .entry)) limit (found .code) (found .size) (found .budget) level v i (now (w .exit)) (r .code) (r .budget) ⌝ }
+    requires { ⌜ level < 34 ⌝ }
+    ensures { λ r. ⌜ ArgumentFitsPost (now (table .entry)) (now (store .entry)) (now (w .entry)) limit (found .code) (found .size) (found .budget) level wanted (args .base) (args .count) (args .starts) (now (w .exit)) (r .code) (r .budget) ⌝ }
 {
     if found.code != 0 {
         return Checked {
@@ -247,19 +357,16 @@ pub fn argument_fits(
             budget: found.budget,
         };
     }
-    let c = context_variable(table, v, i);
-    let from = field(table, c, 6);
-    let end = field(table, c, 7);
-    let args = level_at(limit, level);
-    let n = put_in(table, store, w, limit, from, end, args, i, limit);
-    let wanted = made(w, limit, found.budget, level + 2, n);
-    if wanted.code != 0 {
+    let from = field(table, wanted, 6);
+    let stop = field(table, wanted, 7);
+    let at = level_at(limit, level + 1);
+    if is_instance(table, store, from, stop, w, args, w, at, found.size) {
         return Checked {
-            code: wanted.code,
-            budget: wanted.budget,
+            code: 0,
+            budget: found.budget,
         };
     }
-    compare_units(table, store, w, limit, wanted.budget, level + 1, level + 2)
+    compare_wanted(table, store, w, limit, found.budget, level, wanted, args)
 }
 
 // Head steps of the category that was found at a level until it is an abstraction (else 7); or the refusal of that category.
@@ -287,13 +394,14 @@ pub fn function_of(
     to_function(table, store, w, limit, found.budget, at, found.size)
 }
 
-// The category of `<A>B` at the start of e, B at index b, from the function that B's category reaches, at this level, and A's
-// category, at the next: their comparison, then the body with A put in; or the refusal of A's.
+// The category of `<A>B` at the start of e, B of `extent` cells at index b, from the function that B's category reaches, at this
+// level, and A's category, at the next: their comparison, then the body with A put in; or the refusal of A's.
 pub fn applied(
     table: &[u32],
     store: &[u16],
     e: &[u16],
     b: usize,
+    extent: usize,
     w: &mut [u16],
     limit: usize,
     level: usize,
@@ -301,8 +409,8 @@ pub fn applied(
     body: usize,
     found: Found,
 ) -> Found
-    requires { ⌜ (level < 35) × (1 ≤ b) ⌝ }
-    ensures { λ r. ⌜ AppliedPost (now (table .entry)) (now (store .entry)) (now (e .entry)) b (now (w .entry)) limit level domain body (found .code) (found .size) (found .budget) (now (w .exit)) (r .code) (r .size) (r .budget) ⌝ }
+    requires { ⌜ (level < 35) × (1 ≤ b) × (b + extent ≤ length (now e)) ⌝ }
+    ensures { λ r. ⌜ AppliedPost (now (table .entry)) (now (store .entry)) (now (e .entry)) b extent (now (w .entry)) limit level domain body (found .code) (found .size) (found .budget) (now (w .exit)) (r .code) (r .size) (r .extent) (r .budget) ⌝ }
 {
     if found.code != 0 {
         return refused(found.code, found.budget);
@@ -316,7 +424,7 @@ pub fn applied(
     let to = result_at(limit);
     load(e, 1, b - 1, w, scratch);
     let n = substitute(table, w, body, scratch, to, limit);
-    made(w, limit, c.budget, level, n)
+    made(w, limit, c.budget, level, n, b + extent)
 }
 
 // The category of `[x,P]T` from T's, which was found at this level: `type` if that is, else `[x,P]`, the first t cells of e,
@@ -329,8 +437,8 @@ pub fn over_binding(
     level: usize,
     found: Found,
 ) -> Found
-    requires { ⌜ level < 36 ⌝ }
-    ensures { λ r. ⌜ OverBindingPost (now (e .entry)) t (now (w .entry)) limit level (found .code) (found .size) (found .budget) (now (w .exit)) (r .code) (r .size) (r .budget) ⌝ }
+    requires { ⌜ (level < 36) × (t + found .extent ≤ length (now e)) ⌝ }
+    ensures { λ r. ⌜ OverBindingPost (now (e .entry)) t (now (w .entry)) limit level (found .code) (found .size) (found .extent) (found .budget) (now (w .exit)) (r .code) (r .size) (r .extent) (r .budget) ⌝ }
 {
     if found.code != 0 {
         return refused(found.code, found.budget);
@@ -339,6 +447,7 @@ pub fn over_binding(
         return Found {
             code: 0,
             size: found.size,
+            extent: t + found.extent,
             budget: found.budget,
         };
     }
@@ -356,5 +465,5 @@ pub fn over_binding(
     let from = level_at(limit, level);
     load(e, 0, t, w, to);
     move_cells(w, from, to + t, size);
-    made(w, limit, found.budget, level, t + size)
+    made(w, limit, found.budget, level, t + size, t + found.extent)
 }

@@ -85,7 +85,11 @@ copyCells s from n w to =
 unfoldable pub moveCells : List ℕ → ℕ → ℕ → ℕ → List ℕ
 moveCells w from n to = elim (leb to from || leb (from + n) to) [ true ↦ copyCells w from n w to | false ↦ w ]
 
--- the n cells of w from a on are those from b on, and both parts are whole
-unfoldable pub sameCells : List ℕ → ℕ → ℕ → ℕ → Bool
-sameCells w a b n =
-    leb (a + n) (length w) && leb (b + n) (length w) && sameBytes (take n (drop a w)) (take n (drop b w))
+-- the n cells of s from index a on are those of f from index b on, and both runs are whole
+unfoldable pub sameRun : List ℕ → ℕ → List ℕ → ℕ → ℕ → Bool
+sameRun s a f b n =
+    leb (a + n) (length s) && leb (b + n) (length f) && sameBytes (take n (drop a s)) (take n (drop b f))
+
+-- the same within one store
+abbrev pub sameCells : List ℕ → ℕ → ℕ → ℕ → Bool
+sameCells w a b n = sameRun w a w b n

@@ -1,5 +1,6 @@
 -- The working store of 128 × limit cells, in units of `limit` cells:
---     0   24  hints of name lookup, in its first cells; the rest is free
+--     0   23  hints of name lookup, in the first cells; the rest is free
+--    23    1  the context of the line that is read
 --    24    2  the line's cells before storage; then the term cells that they displaced
 --    26   36  categories, one unit a level
 --    62   64  comparison: left and right side at each depth 1 to 32

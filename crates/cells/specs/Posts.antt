@@ -31,9 +31,24 @@ pub record Extent (tb s : List ℕ) (at r : ℕ) : Type 0 where
 unfoldable pub cleared : ℕ → List ℕ → List ℕ
 cleared n w = elim (leb n (length w)) [ true ↦ over (replicate n 0) w | false ↦ w ]
 
--- r is the scope with one entry more, as long as it has fewer than 32
+-- r is the scope one nesting level deeper
+pub record Nested (scope r : Scope) : Type 0 where
+  pub boundIs : r .bound ≡ scope .bound
+  pub startsAre : r .starts ≡ scope .starts
+  pub lensAre : r .lens ≡ scope .lens
+  pub deeper : scope .depth < 32 → r .depth ≡ scope .depth + 1
+
+-- there is room for a binding of `len` from `start` on
+pub record Bindable (scope : Scope) (start len : ℕ) : Type 0 where
+  pub shallow : scope .depth < 32
+  pub few : scope .bound < 32
+  pub startFits : start < 4294967296
+  pub lenFits : len < 4294967296
+
+-- r is the scope one nesting level deeper, with one binding more if there is room
 pub record Bound (scope : Scope) (start len : ℕ) (r : Scope) : Type 0 where
   pub deeper : scope .depth < 32 → r .depth ≡ scope .depth + 1
-  pub startsAre : scope .depth < 32 → r .starts ≡ set (scope .starts) (scope .depth) start
-  pub lensAre : scope .depth < 32 → r .lens ≡ set (scope .lens) (scope .depth) len
-  pub full : 32 ≤ scope .depth → r ≡ scope
+  pub more : Bindable scope start len → r .bound ≡ scope .bound + 1
+  pub startsAre : Bindable scope start len → r .starts ≡ set (scope .starts) (scope .bound) start
+  pub lensAre : Bindable scope start len → r .lens ≡ set (scope .lens) (scope .bound) len
+  pub shallow : scope .depth ≤ 32 → r .depth ≤ 32

@@ -4,7 +4,7 @@ ghost use mathlib.Core.Path.{_≡_};
 ghost use Prim.Native.Nat.{ℕ, _+_};
 ghost use lib.Dec.{leb};
 ghost use lib.ListN.{set};
-ghost use Rattle.cells.specs.Cells.{copyCells, moveCells, sameCells};
+ghost use Rattle.cells.specs.Cells.{copyCells, moveCells, sameRun, sameCells};
 ghost use Rattle.cells.specs.Posts.{cleared};
 
 // Does a store of `len` cells have n cells from index `from` on?
@@ -53,15 +53,15 @@ pub fn move_cells(w: &mut [u16], from: usize, to: usize, n: usize)
     }
 }
 
-// Are the n cells from a on the n cells from b on?
-pub fn same_cells(w: &[u16], a: usize, b: usize, n: usize) -> bool
-    ensures { λ r. ⌜ r ≡ sameCells (now (w .entry)) a b n ⌝ }
+// Are the n cells of s from `from` on the n cells of f from `at` on?
+pub fn same_run(s: &[u16], from: usize, f: &[u16], at: usize, n: usize) -> bool
+    ensures { λ r. ⌜ r ≡ sameRun (now (s .entry)) from (now (f .entry)) at n ⌝ }
 {
-    if whole(a, n, w.len()) {
-        if whole(b, n, w.len()) {
+    if whole(from, n, s.len()) {
+        if whole(at, n, f.len()) {
             let mut i = 0;
             while i < n {
-                if w[a + i] != w[b + i] {
+                if s[from + i] != f[at + i] {
                     return false;
                 }
                 i = i + 1;
@@ -70,6 +70,13 @@ pub fn same_cells(w: &[u16], a: usize, b: usize, n: usize) -> bool
         }
     }
     false
+}
+
+// Are the n cells from a on the n cells from b on?
+pub fn same_cells(w: &[u16], a: usize, b: usize, n: usize) -> bool
+    ensures { λ r. ⌜ r ≡ sameCells (now (w .entry)) a b n ⌝ }
+{
+    same_run(w, a, w, b, n)
 }
 
 // Exchanges the n term cells from `from` on with the n working cells from `to` on.

@@ -1,29 +1,45 @@
-// The bindings around an expression, by value: where each starts and how long it is.
+// The bindings around an expression, by value: where each starts and how long it is; and how deep the expression is nested.
 ghost use mathlib.Core.Path.{_≡_};
 ghost use Prim.Native.Nat.{ℕ};
 ghost use lib.ListN.{replicate};
-ghost use Rattle.cells.specs.Posts.{Bound};
+ghost use Rattle.cells.specs.Posts.{Bound, Nested};
 
-// `depth` entries, the outermost first. The reader has an entry for each nesting level (a bound name in the book; length 0
-// where the level binds nothing), the categories one for each binding (its domain in the term store).
+// `bound` bindings, the outermost first, at nesting depth `depth`. The reader has where a bound name is in the line, the
+// categories where its domain is in the term store.
 pub struct Scope {
-    pub starts: [usize; 32],
-    pub lens: [usize; 32],
+    pub starts: [u32; 32],
+    pub lens: [u32; 32],
+    pub bound: usize,
     pub depth: usize,
 }
 
-// The scope with no entry.
+// The scope outside every binding.
 pub fn no_bindings() -> Scope
-    ensures { λ r. ⌜ (r .depth ≡ 0) × (r .starts ≡ replicate 32 0) × (r .lens ≡ replicate 32 0) ⌝ }
+    ensures { λ r. ⌜ (r .bound ≡ 0) × (r .depth ≡ 0) × (r .starts ≡ replicate 32 0) × (r .lens ≡ replicate 32 0) ⌝ }
 {
     Scope {
         starts: [0; 32],
         lens: [0; 32],
+        bound: 0,
         depth: 0,
     }
 }
 
-// The scope with one entry more, the innermost; as it is where it has 32.
+// The scope one nesting level deeper; as it is at depth 32.
+pub fn nest(scope: Scope) -> Scope
+    ensures { λ r. ⌜ Nested scope r ⌝ }
+{
+    let depth = scope.depth;
+    if depth >= 32 {
+        return scope;
+    }
+    let mut inner = scope;
+    inner.depth = depth + 1;
+    inner
+}
+
+// The scope one nesting level deeper, with one binding more, the innermost; as it is at depth 32. Without the binding where
+// there are 32, or the numbers are too large for it.
 pub fn bind(scope: Scope, start: usize, len: usize) -> Scope
     ensures { λ r. ⌜ Bound scope start len r ⌝ }
 {
@@ -31,9 +47,20 @@ pub fn bind(scope: Scope, start: usize, len: usize) -> Scope
     if depth >= 32 {
         return scope;
     }
+    let bound = scope.bound;
     let mut inner = scope;
-    inner.starts[depth] = start;
-    inner.lens[depth] = len;
     inner.depth = depth + 1;
+    if bound >= 32 {
+        return inner;
+    }
+    if start > 4294967295 {
+        return inner;
+    }
+    if len > 4294967295 {
+        return inner;
+    }
+    inner.starts[bound] = start as u32;
+    inner.lens[bound] = len as u32;
+    inner.bound = bound + 1;
     inner
 }

@@ -13,7 +13,7 @@ use Rattle.cells.specs.Stores.{at-taken, at-of-taken}
 use Rattle.reduction.specs.Frames.{Framed}
 
 -- the cells themselves, one by one
-at-cell : {s : List ℕ} {i : ℕ} {xs rest : List ℕ} → At s i xs rest → (j : ℕ) → j < length xs → getD s (i + j) 0 ≡ getD xs j 0
+pub at-cell : {s : List ℕ} {i : ℕ} {xs rest : List ℕ} → At s i xs rest → (j : ℕ) → j < length xs → getD s (i + j) 0 ≡ getD xs j 0
 at-cell {s} {i} {xs} a j h = sym (getD-drop i s j 0) ∙ sym (getD-take (length xs) (drop i s) j 0 h) ∙ ap (λ (l : List ℕ). getD l j 0) (at-taken a)
 
 -- they lie in any store that agrees with the first where they lie

@@ -4,13 +4,14 @@
 // copies upwards, and nothing at a lesser depth changes.
 ghost use mathlib.Core.Path.{_≡_};
 ghost use Prim.Native.Nat.{ℕ, _+_};
-ghost use Rattle.comparison.specs.Posts.{Compares, ComparesParts, SaysIdentical, Chooses, Proceeds, Settles};
+ghost use Rattle.comparison.specs.Posts.{Compares, ComparesParts, SaysIdentical, SaysSame, Chooses, Redexes, Proceeds, Settles};
 use cells::extent;
 use cells::kids;
 use cells::move_cells;
 use cells::same_cells;
 use cells::side_at;
 use cells::skip;
+use reduction::Head;
 use reduction::head_of;
 use reduction::step;
 
@@ -20,13 +21,19 @@ pub struct Compared {
     pub budget: u32,
 }
 
-// Where the head steps of two sides ended: 0 they are identical, 1 no side has a head step, 2 a step was taken and there may be
-// more; else a refusal. The sizes of both sides, and the budget that is left.
+// One side: its size, and the head step that it has.
+struct Side {
+    size: usize,
+    head: Head,
+}
+
+// Two sides between head steps. state 0: they are identical, 1: neither has a head step, 2: they differ, and one may have one;
+// else a refusal. The budget that is left.
 struct Progress {
     state: u32,
-    left: usize,
-    right: usize,
     budget: u32,
+    left: Side,
+    right: Side,
 }
 
 // Are the sides of n and m cells at l and r identical?
@@ -37,6 +44,34 @@ fn identical(w: &[u16], l: usize, n: usize, r: usize, m: usize) -> bool
         return false;
     }
     same_cells(w, l, r, n)
+}
+
+// Are the expressions at a and b identical? They are compared where they lie.
+fn same_expression(table: &[u32], w: &[u16], a: usize, b: usize) -> bool
+    ensures { λ x. ⌜ SaysSame (now (table .entry)) (now (w .entry)) a b x ⌝ }
+{
+    let mut i = a;
+    let mut j = b;
+    let mut pending = 1;
+    while pending > 0 {
+        if i >= w.len() {
+            return false;
+        }
+        if j >= w.len() {
+            return false;
+        }
+        if pending > w.len() - i {
+            return false;
+        }
+        let x = w[i];
+        if x != w[j] {
+            return false;
+        }
+        pending = pending - 1 + kids(table, x);
+        i = i + 1;
+        j = j + 1;
+    }
+    true
 }
 
 // The side of the next head step, by the kind and the line of each side's: 0 none, 1 left, 2 right (choose).
@@ -64,83 +99,68 @@ fn choose(kind: u32, line: usize, other_kind: u32, other_line: usize) -> u32
     2
 }
 
-// One head step in the sides of n and m cells at l and r, if one is next.
+// One head step in the sides at l and r, which differ, if one is next.
 fn turn(
     table: &[u32],
     store: &[u16],
     w: &mut [u16],
     limit: usize,
-    budget: u32,
     l: usize,
-    n: usize,
     r: usize,
-    m: usize,
+    sides: Progress,
 ) -> Progress
-    ensures { λ x. ⌜ (x .state ≡ 2 → x .budget + 1 ≡ budget) × Proceeds (now (table .entry)) (now (store .entry)) (now (w .entry)) limit budget l n r m (now (w .exit)) (x .state) (x .left) (x .right) (x .budget) ⌝ }
+    requires { ⌜ Redexes l r sides ⌝ }
+    ensures { λ x. ⌜ (x .state ≡ 2 → x .budget + 1 ≡ sides .budget) × Proceeds (now (table .entry)) (now (store .entry)) (now (w .entry)) limit l r sides (now (w .exit)) x ⌝ }
 {
-    if identical(w, l, n, r, m) {
-        return Progress {
-            state: 0,
-            left: n,
-            right: m,
-            budget: budget,
-        };
-    }
-    let hl = head_of(table, w, l, n);
-    let hr = head_of(table, w, r, m);
+    let left = sides.left;
+    let right = sides.right;
+    let hl = left.head;
+    let hr = right.head;
     let side = choose(hl.kind, hl.line, hr.kind, hr.line);
+    let mut after = sides;
     if side == 0 {
-        return Progress {
-            state: 1,
-            left: n,
-            right: m,
-            budget: budget,
-        };
+        after.state = 1;
+        return after;
     }
+    let budget = sides.budget;
     if budget == 0 {
-        return Progress {
-            state: cells::OUT_OF_BUDGET,
-            left: n,
-            right: m,
-            budget: budget,
-        };
+        after.state = cells::OUT_OF_BUDGET;
+        return after;
     }
     if side == 1 {
-        let left = step(table, store, w, limit, hl);
-        if left > limit {
-            return Progress {
-                state: cells::TOO_LARGE,
-                left: n,
-                right: m,
-                budget: budget,
-            };
+        let n = step(table, store, w, limit, hl);
+        if n > limit {
+            after.state = cells::TOO_LARGE;
+            return after;
         }
-        return Progress {
-            state: 2,
-            left: left,
-            right: m,
-            budget: budget - 1,
-        };
+        after.budget = budget - 1;
+        if identical(w, l, n, r, right.size) {
+            after.state = 0;
+            return after;
+        }
+        let h = head_of(table, w, l, n);
+        let stepped = Side { size: n, head: h };
+        after.left = stepped;
+        return after;
     }
-    let right = step(table, store, w, limit, hr);
-    if right > limit {
-        return Progress {
-            state: cells::TOO_LARGE,
-            left: n,
-            right: m,
-            budget: budget,
-        };
+    let m = step(table, store, w, limit, hr);
+    if m > limit {
+        after.state = cells::TOO_LARGE;
+        return after;
     }
-    Progress {
-        state: 2,
-        left: n,
-        right: right,
-        budget: budget - 1,
+    after.budget = budget - 1;
+    if identical(w, l, left.size, r, m) {
+        after.state = 0;
+        return after;
     }
+    let h = head_of(table, w, r, m);
+    let stepped = Side { size: m, head: h };
+    after.right = stepped;
+    after
 }
 
-// The expressions at a and b put at l and r as the sides; then head steps until the sides are identical or neither has one
-// (sides, up to the parts). The budget falls.
+// The expressions at a and b, put at l and r as the sides unless they are identical; then head steps until the sides are
+// identical or neither has one, which is code 1 (sides, up to the parts). The head of a side that no step changed is kept.
 fn settle(
     table: &[u32],
     store: &[u16],
@@ -151,24 +171,38 @@ fn settle(
     b: usize,
     l: usize,
     r: usize,
-) -> Progress
-    ensures { λ x. ⌜ Settles (now (table .entry)) (now (store .entry)) (now (w .entry)) limit budget a b l r (now (w .exit)) (x .state) (x .budget) ⌝ }
+) -> Compared
+    ensures { λ x. ⌜ Settles (now (table .entry)) (now (store .entry)) (now (w .entry)) limit budget a b l r (now (w .exit)) (x .code) (x .budget) ⌝ }
 {
+    if same_expression(table, w, a, b) {
+        return Compared {
+            code: 0,
+            budget: budget,
+        };
+    }
     let n = extent(table, w, a);
     let m = extent(table, w, b);
     move_cells(w, a, l, n);
     move_cells(w, b, r, m);
-    let mut left = n;
-    let mut right = m;
-    let mut budget_left = budget;
+    let hl = head_of(table, w, l, n);
+    let hr = head_of(table, w, r, m);
+    let left = Side { size: n, head: hl };
+    let right = Side { size: m, head: hr };
+    let mut sides = Progress {
+        state: 2,
+        budget: budget,
+        left: left,
+        right: right,
+    };
     loop {
-        let t = turn(table, store, w, limit, budget_left, l, left, r, right);
-        if t.state != 2 {
-            return t;
+        let after = turn(table, store, w, limit, l, r, sides);
+        if after.state != 2 {
+            return Compared {
+                code: after.state,
+                budget: after.budget,
+            };
         }
-        left = t.left;
-        right = t.right;
-        budget_left = t.budget;
+        sides = after;
     }
 }
 
@@ -206,13 +240,10 @@ pub fn compare(
     let l = side_at(limit, levels);
     let r = l + limit;
     let s = settle(table, store, w, limit, budget, a, b, l, r);
-    if s.state == 1 {
+    if s.code == 1 {
         return compare_parts(table, store, w, limit, s.budget, l, r, levels - 1);
     }
-    Compared {
-        code: s.state,
-        budget: s.budget,
-    }
+    s
 }
 
 // The parts of the sides at l and r, from left to right, one level deeper (compareParts): 9 where the shapes differ.

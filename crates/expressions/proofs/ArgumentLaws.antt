@@ -31,7 +31,7 @@ pub record ArgumentsSoFar (ks s : Bytes) (scope : Scope) (book tb : List ℕ) (l
   pub inside : at ≤ length s
   pub fewer : to ≤ length w₀ + at
   pub few : count ≤ at
-  pub left : (ls : Lines) → Ready ls ks book tb lines indicator scope w₀ (r .to) → (n : ℕ) → length s - r .at < n
+  pub left : (ls : Lines) → Ready ls ks s book tb lines indicator scope w₀ (r .to) → (n : ℕ) → length s - r .at < n
       → (m : ℕ) × (length s - at < m) × ((w′ : List ℕ) (r′ : Reading) → SameBelow to w w′
       → ReadTo s (Counted ls s indicator scope w w′ to fault count r′) (r′ .code) (r′ .at) (arguments (anExpression (32 - scope .depth)) m (drop at s))
       → ReadTo s (Counted ls s indicator scope w₀ w′ (r .to) (r .fault) 0 r′) (r′ .code) (r′ .at) (arguments (anExpression (32 - scope .depth)) n (drop (r .at) s)))

@@ -17,11 +17,12 @@ use Rattle.aut68.specs.Procedure.Resolve.{resolve, contextAt}
 use Rattle.kinds.specs.Kinds.{KindsTable, kindOf, placeOr0, opensKind}
 use Rattle.symbols.specs.Symbols.{firstKind, PastSpaces, KindAt, PastSymbol}
 use Rattle.cells.specs.declared.scope.Scope.{Scope}
-use Rattle.cells.specs.Posts.{Bound}
-use Rattle.names.specs.Known.{partOf, bindingOnto, boundNames}
+use Rattle.cells.specs.Posts.{Nested, Bindable, Bound}
+use Rattle.names.specs.Known.{boundNames}
 use Rattle.names.specs.Hints.{slots}
 use Rattle.names.specs.HintLaws.{hinted-same}
-use Rattle.names.proofs.PartLaws.{part-whole, onto-none, onto-one, bound-names}
+use Rattle.names.specs.NotedContext.{context-noted-same}
+use Rattle.names.proofs.PartLaws.{part-whole, nested-names, bound-names}
 use Rattle.expressions.specs.declared.parts.Reading.{Reading}
 use Rattle.expressions.specs.Walk.{ReadTo, SameBelow, Written}
 use Rattle.expressions.specs.Posts.{Sized, Ready, Refusing, Onward, WrittenOne, ExpressionRead}
@@ -30,61 +31,87 @@ use Rattle.expressions.proofs.ReadLaws.{read-is, read-stop, choose-appl
 
 -- ---- names are looked up further on, where nothing is written below
 
-pub ready-on : {ls : Lines} {ks book tb : List ℕ} {lines indicator : ℕ} {scope : Scope} {w w′ : List ℕ} {to to′ : ℕ} → SameBelow to w w′ → to ≤ to′
-    → Ready ls ks book tb lines indicator scope w to → Ready ls ks book tb lines indicator scope w′ to′
-ready-on {to = to} s l h =
+pub ready-on : {ls : Lines} {ks s book tb : List ℕ} {lines indicator : ℕ} {scope : Scope} {w w′ : List ℕ} {to to′ : ℕ} → SameBelow to w w′ → to ≤ to′
+    → Ready ls ks s book tb lines indicator scope w to → Ready ls ks s book tb lines indicator scope w′ to′
+ready-on {to = to} b l h =
     record {
       table = h .table;
       known = h .known;
-      hinted = hinted-same to (h .below) (s .long) (s .is) (h .hinted);
-      below = omega (arith, h .below, ap slots (s .long));
+      hinted = hinted-same to (h .below) (b .long) (b .is) (h .hinted);
+      below = omega (arith, h .below, ap slots (b .long));
+      context = context-noted-same to (h .above) (b .long) (b .is) (h .context);
+      above = omega (arith, h .above, b .long);
       earlier = h .earlier;
+      short = h .short;
       sized = h .sized;
     }
 
 -- ---- one level deeper
 
-sized-inner : {scope inner : Scope} {start len : ℕ} → Bound scope start len inner → scope .depth < 32 → Sized scope → Sized inner
-sized-inner {scope} {inner} {start} {len} b l z =
+pub ready-inner : {ls : Lines} {ks s book tb : List ℕ} {lines indicator : ℕ} {scope inner : Scope} {w : List ℕ} {to : ℕ} → Sized inner
+    → Ready ls ks s book tb lines indicator scope w to → Ready ls ks s book tb lines indicator inner w to
+ready-inner z h =
     record {
-      starts = ap length (b .startsAre l) ∙ length-set (scope .starts) (scope .depth) start ∙ z .starts;
-      lens = ap length (b .lensAre l) ∙ length-set (scope .lens) (scope .depth) len ∙ z .lens;
-      deep = omega (arith, b .deeper l);
+      table = h .table;
+      known = h .known;
+      hinted = h .hinted;
+      below = h .below;
+      context = h .context;
+      above = h .above;
+      earlier = h .earlier;
+      short = h .short;
+      sized = z;
     }
 
-module _ {ls : Lines} {ks book tb : List ℕ} {lines indicator : ℕ} {scope inner : Scope} {start len : ℕ} {w : List ℕ} {to : ℕ}
-    (b : Bound scope start len inner) (l : scope .depth < 32) where
-  pub ready-inner : Ready ls ks book tb lines indicator scope w to → Ready ls ks book tb lines indicator inner w to
-  ready-inner h =
-      record { table = h .table; known = h .known; hinted = h .hinted; below = h .below; earlier = h .earlier; sized = sized-inner b l (h .sized) }
+pub sized-nested : {scope inner : Scope} → Nested scope inner → scope .depth < 32 → Sized scope → Sized inner
+sized-nested b l z =
+    record {
+      starts = ap length (b .startsAre) ∙ z .starts;
+      lens = ap length (b .lensAre) ∙ z .lens;
+      deep = omega (arith, b .deeper l);
+      few = omega (arith, b .deeper l, b .boundIs, z .few);
+    }
 
-module _ {ks s book tb : List ℕ} {lines indicator : ℕ} {scope inner : Scope} {start len : ℕ} {w w′ : List ℕ} {r r′ : Reading}
-    (b : Bound scope start len inner) (l : scope .depth < 32)
+sized-bound : {scope inner : Scope} {start len : ℕ} → Bound scope start len inner → Bindable scope start len → Sized scope → Sized inner
+sized-bound {scope} {inner} {start} {len} b f z =
+    record {
+      starts = ap length (b .startsAre f) ∙ length-set (scope .starts) (scope .bound) start ∙ z .starts;
+      lens = ap length (b .lensAre f) ∙ length-set (scope .lens) (scope .bound) len ∙ z .lens;
+      deep = omega (arith, b .deeper (f .shallow), f .shallow);
+      few = omega (arith, b .deeper (f .shallow), b .more f, z .few);
+    }
+
+-- a name of the line can be bound
+bindable : {ls : Lines} {ks s book tb : List ℕ} {lines indicator : ℕ} {scope : Scope} {w : List ℕ} {to start len : ℕ}
+    → Ready ls ks s book tb lines indicator scope w to → scope .depth < 32 → start + len ≤ length s → Bindable scope start len
+bindable h l e = record { shallow = l; few = omega (arith, h .sized .few); startFits = omega (arith, h .short); lenFits = omega (arith, h .short) }
+
+module _ {ks s book tb : List ℕ} {lines indicator : ℕ} {inner : Scope} {w w′ : List ℕ} {r r′ : Reading}
     (h : ExpressionRead (anExpression (32 - inner .depth)) ks s inner book tb lines indicator w w′ r r′) where
-  -- the part one level deeper, under the names that are bound there
-  deeper-read : (ls : Lines) → Ready ls ks book tb lines indicator scope w (r .to) → (bs : List Bytes) → bindingOnto len (partOf s start len) (boundNames s scope) ≡ bs
+  -- the part one level deeper than d, under the names that are bound there
+  deeper-read : (d : ℕ) → inner .depth ≡ d + 1 → (ls : Lines) → Ready ls ks s book tb lines indicator inner w (r .to) → (bs : List Bytes) → boundNames s inner ≡ bs
       → ReadTo s (Written cellsOfSrc cells (resolve ls (contextAt ls indicator) bs) w w′ (r .to) (r′ .to) (r .fault) (r′ .fault)) (r′ .code) (r′ .at)
-      (anExpression (31 - scope .depth) (drop (r .at) s))
-  deeper-read ls ready bs e =
-      let names : boundNames s inner ≡ bs = bound-names s b l (ready .sized .starts) (ready .sized .lens) ∙ e in
-      let level : 31 - scope .depth ≡ 32 - inner .depth = omega (arith, b .deeper l) in
+      (anExpression (31 - d) (drop (r .at) s))
+  deeper-read d q ls ready bs names =
+      let level : 31 - d ≡ 32 - inner .depth = omega arith in
       read-is (ap (λ d. anExpression d (drop (r .at) s)) level)
       (subst (λ bs. ReadTo s (Written cellsOfSrc cells (resolve ls (contextAt ls indicator) bs) w w′ (r .to) (r′ .to) (r .fault) (r′ .fault)) (r′ .code) (r′ .at)
       (anExpression (32 - inner .depth) (drop (r .at) s))) names
-      (h .read ls (ready-inner b l ready)))
+      (h .read ls ready))
 
   -- a level that binds nothing
-  pub level-read : len ≡ 0 → (ls : Lines) → Ready ls ks book tb lines indicator scope w (r .to)
+  pub level-read : {scope : Scope} → Nested scope inner → scope .depth < 32 → (ls : Lines) → Ready ls ks s book tb lines indicator scope w (r .to)
       → ReadTo s (WrittenOne ls s indicator scope w w′ (r .to) (r′ .to) (r .fault) (r′ .fault)) (r′ .code) (r′ .at) (anExpression (31 - scope .depth) (drop (r .at) s))
-  level-read z ls ready = deeper-read ls ready (boundNames s scope) (onto-none len _ _ z)
+  level-read {scope} b l ls ready = deeper-read (scope .depth) (b .deeper l) ls (ready-inner (sized-nested b l (ready .sized)) ready) (boundNames s scope) (nested-names s b)
 
   -- a level that binds a name of the line
-  pub body-read : len ≢ 0 → start + len ≤ length s → (ls : Lines) → Ready ls ks book tb lines indicator scope w (r .to)
+  pub body-read : {scope : Scope} {start len : ℕ} → Bound scope start len inner → scope .depth < 32 → start + len ≤ length s → (ls : Lines) → Ready ls ks s book tb lines indicator scope w (r .to)
       → ReadTo s (Written cellsOfSrc cells (resolve ls (contextAt ls indicator) (slice start (start + len) s ∷ boundNames s scope)) w w′ (r .to) (r′ .to) (r .fault) (r′ .fault)) (r′ .code) (r′ .at)
       (anExpression (31 - scope .depth) (drop (r .at) s))
-  body-read n e ls ready =
-      deeper-read ls ready (slice start (start + len) s ∷ boundNames s scope)
-      (onto-one len _ _ n ∙ ap (λ x. x ∷ boundNames s scope) (part-whole s start len e))
+  body-read {scope} {start} {len} b l e ls ready =
+      let f : Bindable scope start len = bindable ready l e in
+      deeper-read (scope .depth) (b .deeper l) ls (ready-inner (sized-bound b f (ready .sized)) ready) (slice start (start + len) s ∷ boundNames s scope)
+      (bound-names s b f (ready .sized .starts) (ready .sized .lens) ∙ ap (λ x. x ∷ boundNames s scope) (part-whole s start len e))
 
 -- ---- kinds of symbols
 

@@ -14,18 +14,18 @@ use Rattle.aut68.specs.Procedure.Parse.{named, anExpression, arguments}
 use Rattle.aut68.specs.Procedure.Resolve.{contextAt, resolves, meaning}
 use Rattle.symbols.specs.Symbols.{PastSymbol, NameAt}
 use Rattle.cells.specs.declared.scope.Scope.{Scope}
-use Rattle.cells.specs.Posts.{Bound}
+use Rattle.cells.specs.Posts.{Nested}
 use Rattle.names.specs.Known.{boundNames}
 use Rattle.names.specs.Posts.{Meant, MeaningFound}
 use Rattle.names.specs.declared.names.Meaning.{Meaning}
-use Rattle.names.proofs.PartLaws.{onto-none, bound-names}
+use Rattle.names.proofs.PartLaws.{nested-names}
 use Rattle.expressions.specs.declared.parts.Reading.{Reading}
 use Rattle.expressions.specs.Walk.{ReadTo, passed, CellPut, Written}
 use Rattle.expressions.specs.Posts.{Ready, Refusing, ExpressionRead, Counted, ArgumentsRead, NamePut, CountTested}
 use Rattle.expressions.proofs.StoreLaws.{below-same, below-then, below-put}
 use Rattle.expressions.proofs.ReadLaws.{then-done, then-stop, then-give-on, then-map, read-is, no-arguments, some-arguments}
 use Rattle.expressions.proofs.WrittenLaws.{no-arguments-written, name-written}
-use Rattle.expressions.proofs.ExpressionLaws.{ready-on, ready-inner, onward-refused, symbol-read, symbol-missing, symbol-kinds, code-malformed}
+use Rattle.expressions.proofs.ExpressionLaws.{ready-on, ready-inner, sized-nested, onward-refused, symbol-read, symbol-missing, symbol-kinds, code-malformed}
 use Rattle.expressions.proofs.PairLaws.{goOn}
 
 -- ---- a name's cell
@@ -51,20 +51,20 @@ module _ {s : Bytes} {scope : Scope} {book tb : List ℕ} {lines indicator : ℕ
         below = below-put put;
         kept = λ n. absurd (n z);
         stored = λ z m. put;
-        meant = λ z r p q ls k hinted i d.
+        meant = λ z r p q ls k hinted context i d.
             subst (λ x. Meant ls (contextAt ls indicator) (m .fault) (m .cell) (m .wanted) (meaning ls (contextAt ls indicator) x (boundNames s scope))) e
-            (h .is ls k hinted i d (omega (arith, ap length e, length-slice start (start + len) s l)));
+            (h .is ls k hinted context i d (omega (arith, ap length e, length-slice start (start + len) s l)));
       }
 
 -- the argument string one level deeper, with the names that are bound around it
-level-arguments : {ks s book tb : List ℕ} {lines indicator : ℕ} {scope inner : Scope} {w w′ : List ℕ} {r r′ : Reading} → Bound scope 0 0 inner → scope .depth < 32
-    → ArgumentsRead ks s inner book tb lines indicator w w′ r r′ → (ls : Lines) → Ready ls ks book tb lines indicator scope w (r .to) → (n : ℕ) → length s - r .at < n
+level-arguments : {ks s book tb : List ℕ} {lines indicator : ℕ} {scope inner : Scope} {w w′ : List ℕ} {r r′ : Reading} → Nested scope inner → scope .depth < 32
+    → ArgumentsRead ks s inner book tb lines indicator w w′ r r′ → (ls : Lines) → Ready ls ks s book tb lines indicator scope w (r .to) → (n : ℕ) → length s - r .at < n
     → ReadTo s (Counted ls s indicator scope w w′ (r .to) (r .fault) 0 r′) (r′ .code) (r′ .at) (arguments (anExpression (31 - scope .depth)) n (drop (r .at) s))
 level-arguments {s = s} {indicator = indicator} {scope} {inner} {w} {w′} {r} {r′} b l h ls ready n m =
-    let names : boundNames s inner ≡ boundNames s scope = bound-names s b l (ready .sized .starts) (ready .sized .lens) ∙ onto-none 0 _ _ refl in
+    let names : boundNames s inner ≡ boundNames s scope = nested-names s b in
     let level : 31 - scope .depth ≡ 32 - inner .depth = omega (arith, b .deeper l) in
     read-is (ap (λ d. arguments (anExpression d) n (drop (r .at) s)) level)
-    (then-map (h .read ls (ready-inner b l ready) n m) (λ xs X.
+    (then-map (h .read ls (ready-inner (sized-nested b l (ready .sized)) ready) n m) (λ xs X.
     record {
       number = X .number;
       written = subst (λ bs. Written cellsOfSrcs cellss (resolves ls (contextAt ls indicator) bs) w w′ (r .to) (r′ .to) (r .fault) (r′ .fault) xs) names (X .written);
@@ -100,11 +100,11 @@ module _ {ks s book tb : List ℕ} {lines indicator : ℕ} {scope : Scope} {w : 
               then-done _ (n .read (ready .table) inside e)
               (then-done _ (no-arguments (anExpression (31 - scope .depth)) (drop (start + len) s) (symbol-missing 40 p (symbol-kinds .3) (omega arith) i (ready .table)))
               (passed (h .code) (ap (λ i. drop i s) (h .at))
-              (name-written ls put (ready .known) (ready .hinted) (ready .earlier) (ready .sized .deep) (omega arith) (n .within inside) (below-same (r .to + 1) w₁) nil h refl refl
+              (name-written ls put (ready .known) (ready .hinted) (ready .context) (ready .earlier) (omega (arith, ready .sized .few)) (omega arith) (n .within inside) (below-same (r .to + 1) w₁) nil h refl refl
               (no-arguments-written ls (contextAt ls indicator) (boundNames s scope) w₁ (r .to + 1) (m .fault)))));
         }
 
-    pub named-read : {wA : List ℕ} {inner : Scope} {a r′ : Reading} → o ≤ length s → Bound scope 0 0 inner
+    pub named-read : {wA : List ℕ} {inner : Scope} {a r′ : Reading} → o ≤ length s → Nested scope inner
         → ArgumentsRead ks s inner book tb lines indicator w₁ wA (goOn o (r .to + 1) (m .fault)) a → CountTested a m r′
         → ExpressionRead (named (anExpression (31 - scope .depth))) ks s scope book tb lines indicator w wA r r′
     unfolding named
@@ -125,6 +125,6 @@ module _ {ks s book tb : List ℕ} {lines indicator : ℕ} {scope : Scope} {w : 
               (read-is (some-arguments (anExpression (31 - scope .depth)) (drop (start + len) s) (symbol-read 40 p (symbol-kinds .3) (omega arith) i (ready .table)))
               (level-arguments b l A ls (ready-on (put .below) (omega arith) ready) (length (drop (start + len) s)) (omega (arith, length-drop (start + len) s, from))))
               (λ xs z X.
-              name-written ls put (ready .known) (ready .hinted) (ready .earlier) (ready .sized .deep) (omega arith) (n .within inside) (A .onward .below) xs h z
+              name-written ls put (ready .known) (ready .hinted) (ready .context) (ready .earlier) (omega (arith, ready .sized .few)) (omega arith) (n .within inside) (A .onward .below) xs h z
               (X .number ∙ omega arith) (X .written)));
         }

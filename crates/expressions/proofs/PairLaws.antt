@@ -1,5 +1,5 @@
 -- `<A>B` and `[x,A]B`: what is left of the walk where it stops at each symbol, and at the end.
-use mathlib.Core.Path.{_≡_, refl, sym, _∙_}
+use mathlib.Core.Path.{_≡_, sym, _∙_}
 use mathlib.Core.Logic.{_≢_}
 use mathlib.Core.List.{List}
 use Prim.Native.Nat.{ℕ, _+_, _-_, _≤_, _<_}
@@ -13,7 +13,7 @@ use Rattle.aut68.specs.Procedure.Parse.{application, abstraction, anExpression}
 use Rattle.aut68.specs.Procedure.Resolve.{contextAt}
 use Rattle.symbols.specs.Symbols.{PastSymbol, NameAt}
 use Rattle.cells.specs.declared.scope.Scope.{Scope}
-use Rattle.cells.specs.Posts.{Bound}
+use Rattle.cells.specs.Posts.{Nested, Bound}
 use Rattle.names.specs.Known.{boundNames}
 use Rattle.expressions.specs.declared.parts.Reading.{Reading}
 use Rattle.expressions.specs.Walk.{CellPut}
@@ -49,12 +49,12 @@ onward-put put l m k =
     }
 
 -- names are looked up behind the cell of a pair, and behind its first part
-module _ {ls : Lines} {ks book tb : List ℕ} {lines indicator : ℕ} {scope : Scope} {w w₁ : List ℕ} {to x : ℕ} (put : CellPut w w₁ to x) where
-  ready-first : Ready ls ks book tb lines indicator scope w to → Ready ls ks book tb lines indicator scope w₁ (to + 1)
+module _ {ls : Lines} {ks s book tb : List ℕ} {lines indicator : ℕ} {scope : Scope} {w w₁ : List ℕ} {to x : ℕ} (put : CellPut w w₁ to x) where
+  ready-first : Ready ls ks s book tb lines indicator scope w to → Ready ls ks s book tb lines indicator scope w₁ (to + 1)
   ready-first h = ready-on (below-put put) (omega arith) h
 
-  ready-second : {s : Bytes} {wA : List ℕ} {o fault : ℕ} {a : Reading} → Onward s w₁ wA (goOn o (to + 1) fault) a
-      → Ready ls ks book tb lines indicator scope w to → Ready ls ks book tb lines indicator scope wA (a .to)
+  ready-second : {wA : List ℕ} {o fault : ℕ} {a : Reading} → Onward s w₁ wA (goOn o (to + 1) fault) a
+      → Ready ls ks s book tb lines indicator scope w to → Ready ls ks s book tb lines indicator scope wA (a .to)
   ready-second A h = ready-on (A .below) (A .up) (ready-first h)
 
 module _ {ks s book tb : List ℕ} {lines indicator : ℕ} {scope : Scope} {w : List ℕ} {r : Reading} {o : ℕ}
@@ -69,7 +69,7 @@ module _ {ks s book tb : List ℕ} {lines indicator : ℕ} {scope : Scope} {w : 
           read = λ ls ready. then-stop _ (symbol-missing 60 p (symbol-kinds .0) (omega arith) m (ready .table)) (h .codeIs ∙ sym code-malformed);
         }
 
-    module _ (i : o ≤ length s) {w₁ wA : List ℕ} {inner : Scope} {a : Reading} (put : CellPut w w₁ (r .to) 4) (b : Bound scope 0 0 inner)
+    module _ (i : o ≤ length s) {w₁ wA : List ℕ} {inner : Scope} {a : Reading} (put : CellPut w w₁ (r .to) 4) (b : Nested scope inner)
         (A : ExpressionRead (anExpression (32 - inner .depth)) ks s inner book tb lines indicator w₁ wA (goOn o (r .to + 1) (r .fault)) a) where
       pub application-first-refused : a .code ≢ 0 → ExpressionRead (application (anExpression (31 - scope .depth))) ks s scope book tb lines indicator w wA r a
       unfolding application
@@ -77,7 +77,7 @@ module _ {ks s book tb : List ℕ} {lines indicator : ℕ} {scope : Scope} {w : 
           record {
             onward = onward-put put (omega (arith, p .from inside)) (omega arith) (A .onward);
             read = λ ls ready.
-                then-done _ (symbol-read 60 p (symbol-kinds .0) (omega arith) i (ready .table)) (then-refused _ n (level-read b l A refl ls (ready-first put ready)));
+                then-done _ (symbol-read 60 p (symbol-kinds .0) (omega arith) i (ready .table)) (then-refused _ n (level-read A b l ls (ready-first put ready)));
           }
 
       module _ (z : a .code ≡ 0) {close : ℕ} (q : PastSymbol ks s (a .at) 10 close) where
@@ -91,7 +91,7 @@ module _ {ks s book tb : List ℕ} {lines indicator : ℕ} {scope : Scope} {w : 
                   (omega (arith, p .from inside, A .onward .from)) (omega (arith, p .from inside, A .onward .from)) (A .onward .inside);
               read = λ ls ready.
                   then-done _ (symbol-read 60 p (symbol-kinds .0) (omega arith) i (ready .table))
-                  (then-passed _ z (level-read b l A refl ls (ready-first put ready)) (λ x X.
+                  (then-passed _ z (level-read A b l ls (ready-first put ready)) (λ x X.
                   then-stop _ (symbol-missing 62 q (symbol-kinds .5) (omega arith) m (ready .table)) (h .codeIs ∙ sym code-malformed)));
             }
 
@@ -106,9 +106,9 @@ module _ {ks s book tb : List ℕ} {lines indicator : ℕ} {scope : Scope} {w : 
                   (omega (arith, A .onward .up)) (B .onward);
               read = λ ls ready.
                   then-done _ (symbol-read 60 p (symbol-kinds .0) (omega arith) i (ready .table))
-                  (then-passed _ z (level-read b l A refl ls (ready-first put ready)) (λ x X.
+                  (then-passed _ z (level-read A b l ls (ready-first put ready)) (λ x X.
                   then-done _ (symbol-read 62 q (symbol-kinds .5) (omega arith) c (ready .table))
-                  (then-give (Source.app x) (level-read b l B refl ls (ready-second put (A .onward) ready)) (λ y Y.
+                  (then-give (Source.app x) (level-read B b l ls (ready-second put (A .onward) ready)) (λ y Y.
                   application-written ls (contextAt ls indicator) (boundNames s scope) put (A .onward .below) (omega (arith, A .onward .up)) (B .onward .below) X Y))));
             }
 
@@ -147,7 +147,7 @@ module _ {ks s book tb : List ℕ} {lines indicator : ℕ} {scope : Scope} {w : 
                   (then-stop _ (symbol-missing 44 k (symbol-kinds .2) (omega arith) m (ready .table)) (h .codeIs ∙ sym code-malformed)));
             }
 
-        module _ (j : comma ≤ length s) {w₁ wA : List ℕ} {level : Scope} {a : Reading} (put : CellPut w w₁ (r .to) 5) (b : Bound scope 0 0 level)
+        module _ (j : comma ≤ length s) {w₁ wA : List ℕ} {level : Scope} {a : Reading} (put : CellPut w w₁ (r .to) 5) (b : Nested scope level)
             (A : ExpressionRead (anExpression (32 - level .depth)) ks s level book tb lines indicator w₁ wA (goOn comma (r .to + 1) (r .fault)) a) where
           pub abstraction-first-refused : a .code ≢ 0 → ExpressionRead (abstraction (anExpression (31 - scope .depth))) ks s scope book tb lines indicator w wA r a
           unfolding abstraction
@@ -158,7 +158,7 @@ module _ {ks s book tb : List ℕ} {lines indicator : ℕ} {scope : Scope} {w : 
                     then-done _ (symbol-read 91 p (symbol-kinds .1) (omega arith) i (ready .table))
                     (then-done _ (n .read (ready .table) i e)
                     (then-done _ (symbol-read 44 k (symbol-kinds .2) (omega arith) j (ready .table))
-                    (then-refused _ x (level-read b l A refl ls (ready-first put ready)))));
+                    (then-refused _ x (level-read A b l ls (ready-first put ready)))));
               }
 
           module _ (z : a .code ≡ 0) {close : ℕ} (q : PastSymbol ks s (a .at) 11 close) where
@@ -175,7 +175,7 @@ module _ {ks s book tb : List ℕ} {lines indicator : ℕ} {scope : Scope} {w : 
                       then-done _ (symbol-read 91 p (symbol-kinds .1) (omega arith) i (ready .table))
                       (then-done _ (n .read (ready .table) i e)
                       (then-done _ (symbol-read 44 k (symbol-kinds .2) (omega arith) j (ready .table))
-                      (then-passed _ z (level-read b l A refl ls (ready-first put ready)) (λ x X.
+                      (then-passed _ z (level-read A b l ls (ready-first put ready)) (λ x X.
                       then-stop _ (symbol-missing 93 q (symbol-kinds .6) (omega arith) m (ready .table)) (h .codeIs ∙ sym code-malformed)))));
                 }
 
@@ -192,9 +192,9 @@ module _ {ks s book tb : List ℕ} {lines indicator : ℕ} {scope : Scope} {w : 
                       then-done _ (symbol-read 91 p (symbol-kinds .1) (omega arith) i (ready .table))
                       (then-done _ (n .read (ready .table) i e)
                       (then-done _ (symbol-read 44 k (symbol-kinds .2) (omega arith) j (ready .table))
-                      (then-passed _ z (level-read b l A refl ls (ready-first put ready)) (λ x X.
+                      (then-passed _ z (level-read A b l ls (ready-first put ready)) (λ x X.
                       then-done _ (symbol-read 93 q (symbol-kinds .6) (omega arith) c (ready .table))
-                      (then-give (Source.abs (slice start (start + len) s) x) (body-read b′ l B e (n .within i) ls (ready-second put (A .onward) ready)) (λ y Y.
+                      (then-give (Source.abs (slice start (start + len) s) x) (body-read B b′ l (n .within i) ls (ready-second put (A .onward) ready)) (λ y Y.
                       abstraction-written ls (contextAt ls indicator) (boundNames s scope) put (A .onward .below) (omega (arith, A .onward .up))
                       (B .onward .below) X Y))))));
                 }

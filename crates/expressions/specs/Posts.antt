@@ -2,7 +2,7 @@
 use mathlib.Core.Path.{_≡_}
 use mathlib.Core.Logic.{_≢_}
 use mathlib.Core.List.{List}
-use Prim.Native.Nat.{ℕ, _+_, _-_, _≤_, _<_}
+use Prim.Native.Nat.{ℕ, _+_, _-_, _*_, _/_, _≤_, _<_}
 use lib.ListN.{length, drop}
 use lib.Seq.{slice}
 use Rattle.aut68.specs.Bytes.{Bytes}
@@ -15,25 +15,30 @@ use Rattle.kinds.specs.Kinds.{KindsTable}
 use Rattle.cells.specs.declared.scope.Scope.{Scope}
 use Rattle.names.specs.Known.{Known, boundNames}
 use Rattle.names.specs.Hints.{slots, Hinted}
+use Rattle.names.specs.NotedContext.{ContextNoted}
 use Rattle.names.specs.Posts.{Meant}
 use Rattle.names.specs.declared.names.Meaning.{Meaning}
 use Rattle.expressions.specs.declared.parts.Reading.{Reading}
 use Rattle.expressions.specs.Walk.{ReadTo, SameBelow, CellPut, Written}
 
--- a scope of at most 32 entries
+-- a scope of at most 32 nesting levels, of which no more bind a name
 pub record Sized (scope : Scope) : Type 0 where
   pub starts : length (scope .starts) ≡ 32
   pub lens : length (scope .lens) ≡ 32
   pub deep : scope .depth ≤ 32
+  pub few : scope .bound ≤ scope .depth
 
--- what the names are looked up in: the table of kinds, the earlier lines, their hints, which lie below the cell `to`, the line's
--- indicator, the bindings around
-pub record Ready (ls : Lines) (ks book tb : List ℕ) (lines indicator : ℕ) (scope : Scope) (w : List ℕ) (to : ℕ) : Type 0 where
+-- what the names of the line s are looked up in: the table of kinds, the earlier lines, their hints and the line's context, which are
+-- noted below the cell `to`, the line's indicator, the bindings around
+pub record Ready (ls : Lines) (ks s book tb : List ℕ) (lines indicator : ℕ) (scope : Scope) (w : List ℕ) (to : ℕ) : Type 0 where
   pub table : KindsTable ks
   pub known : Known ls book tb lines
   pub hinted : Hinted book tb lines w
   pub below : slots (length w) + 32 ≤ to
+  pub context : ContextNoted ls indicator w
+  pub above : 24 * (length w / 26) ≤ to
   pub earlier : indicator ≤ lines
+  pub short : length s < 4294967296
   pub sized : Sized scope
 
 -- the walk ends at byte `at`, cell `to`, with a refusal of the form
@@ -62,7 +67,7 @@ module _ (ls : Lines) (s : Bytes) (indicator : ℕ) (scope : Scope) (w w′ : Li
 -- the reader m read an expression from r on, and came to r′
 pub record ExpressionRead (m : Read Src) (ks s : Bytes) (scope : Scope) (book tb : List ℕ) (lines indicator : ℕ) (w w′ : List ℕ) (r r′ : Reading) : Type 0 where
   pub onward : Onward s w w′ r r′
-  pub read : (ls : Lines) → Ready ls ks book tb lines indicator scope w (r .to)
+  pub read : (ls : Lines) → Ready ls ks s book tb lines indicator scope w (r .to)
       → ReadTo s (WrittenOne ls s indicator scope w w′ (r .to) (r′ .to) (r .fault) (r′ .fault)) (r′ .code) (r′ .at) (m (drop (r .at) s))
 
 -- the arguments xs, counted from `count` on, with their cells
@@ -73,7 +78,7 @@ pub record Counted (ls : Lines) (s : Bytes) (indicator : ℕ) (scope : Scope) (w
 -- the argument string behind `(` was read from r on, up to its `)`; n bounds how many arguments there can be
 pub record ArgumentsRead (ks s : Bytes) (scope : Scope) (book tb : List ℕ) (lines indicator : ℕ) (w w′ : List ℕ) (r r′ : Reading) : Type 0 where
   pub onward : Onward s w w′ r r′
-  pub read : (ls : Lines) → Ready ls ks book tb lines indicator scope w (r .to) → (n : ℕ) → length s - r .at < n
+  pub read : (ls : Lines) → Ready ls ks s book tb lines indicator scope w (r .to) → (n : ℕ) → length s - r .at < n
       → ReadTo s (Counted ls s indicator scope w w′ (r .to) (r .fault) 0 r′) (r′ .code) (r′ .at)
       (arguments (anExpression (32 - scope .depth)) n (drop (r .at) s))
 
@@ -83,7 +88,7 @@ pub record NamePut (s : Bytes) (scope : Scope) (book tb : List ℕ) (lines indic
   pub kept : fault ≢ 0 → m .fault ≡ fault
   pub stored : fault ≡ 0 → to < length w → CellPut w w′ to (m .cell)
   pub meant : fault ≡ 0 → to < length w → 1 ≤ len → start + len ≤ length s
-      → (ls : Lines) → Known ls book tb lines → Hinted book tb lines w → indicator ≤ lines → scope .depth ≤ 32
+      → (ls : Lines) → Known ls book tb lines → Hinted book tb lines w → ContextNoted ls indicator w → indicator ≤ lines → scope .bound ≤ 32
       → Meant ls (contextAt ls indicator) (m .fault) (m .cell) (m .wanted)
       (meaning ls (contextAt ls indicator) (slice start (start + len) s) (boundNames s scope))
 

@@ -54,7 +54,7 @@ pub fn put(w: &mut [u16], to: usize, x: u16)
     }
 }
 
-// The meaning of the name of `len` bytes at `start`, by the hints in w, with its cell at index `to` of w. It is not looked up
+// The meaning of the name of `len` bytes at `start`, by the hints and the context noted in w, with its cell at index `to` of w. It is not looked up
 // where a fault came before or there is no room, since it is not asked for then.
 pub fn put_name(
     line: &[u8],

@@ -7,6 +7,7 @@ use crate::parts::put_name;
 use crate::parts::refused;
 use cells::Scope;
 use cells::bind;
+use cells::nest;
 use symbols::kind_at;
 use symbols::name_at;
 use symbols::spaces;
@@ -16,7 +17,7 @@ ghost use lib.ListN.{length};
 ghost use Rattle.aut68.specs.Procedure.Parse.{anExpression, named, application, abstraction};
 ghost use Rattle.expressions.specs.Posts.{ExpressionRead, ArgumentsRead};
 
-// The expression that stands next (anExpression, resolve). The scope has one entry for each nesting level around it.
+// The expression that stands next (anExpression, resolve), with the bindings and the nesting levels around it as the scope.
 // Falls: 32 - depth.
 pub fn expression(
     line: &[u8],
@@ -102,7 +103,7 @@ fn named(
         fault: fault,
         count: 0,
     };
-    let inner = bind(scope, 0, 0);
+    let inner = nest(scope);
     let a = arguments(line, kinds, book, table, lines, indicator, w, inside, inner);
     counted(a, m)
 }
@@ -188,7 +189,7 @@ fn application(
         fault: r.fault,
         count: 0,
     };
-    let inner = bind(scope, 0, 0);
+    let inner = nest(scope);
     let a = expression(line, kinds, book, table, lines, indicator, w, here, inner);
     if a.code != 0 {
         return a;
@@ -244,7 +245,7 @@ fn abstraction(
         fault: r.fault,
         count: 0,
     };
-    let level = bind(scope, 0, 0);
+    let level = nest(scope);
     let a = expression(line, kinds, book, table, lines, indicator, w, here, level);
     if a.code != 0 {
         return a;

@@ -15,7 +15,7 @@ use Rattle.aut68.specs.Rules.Names.{IsLine, Context, within}
 use Rattle.lookup.specs.Contexts.{line-context, context-at}
 use Rattle.cells.specs.Cells.{rowCell}
 use Rattle.names.specs.Known.{Known}
-use Rattle.names.specs.Posts.{InContext}
+use Rattle.names.specs.Posts.{OnChain}
 use Rattle.names.proofs.FindLaws.{line-at}
 
 or-assoc : (x y z : Bool) → (x || (y || z)) ≡ ((x || y) || z)
@@ -35,12 +35,12 @@ unfolding member
 member-last v [] c = or-none (eqb v c)
 member-last v (x ∷ xs) c = ap (λ t. eqb v x || t) (member-last v xs c) ∙ or-assoc (eqb v x) (member v xs) (eqb v c)
 
-zero-context : (ls : Lines) → contextAt ls 0 ≡ []
+pub zero-context : (ls : Lines) → contextAt ls 0 ≡ []
 unfolding contextAt
 zero-context ls = refl
 
 module _ {ls : Lines} {book tb : List ℕ} {lines : ℕ} (k : Known ls book tb lines) where
-  context-is : {v : ℕ} {vs : List ℕ} → Context ls v vs → contextAt ls v ≡ vs
+  pub context-is : {v : ℕ} {vs : List ℕ} → Context ls v vs → contextAt ls v ≡ vs
   context-is c = context-at (λ v l h. k .contexts h) c
 
   pub lineAt : (c : ℕ) → 0 < c → c ≤ lines → (l : Line) × IsLine ls c l
@@ -96,7 +96,7 @@ module _ {tb : List ℕ} {last v c : ℕ} (h : ChainSoFar tb last v c) where
               ∙ or-none (member v (contextAt ls next));
         }
 
-    pub chain-broken : c ≤ next → InContext tb last v false
+    pub chain-broken : c ≤ next → OnChain tb last v false
     chain-broken b =
         record {
           is = λ ls book lines k d p.
@@ -104,7 +104,7 @@ module _ {tb : List ℕ} {last v c : ℕ} (h : ChainSoFar tb last v c) where
               absurd (omega (arith, k .behind i));
         }
 
-  pub chain-found : c ≡ v → InContext tb last v true
+  pub chain-found : c ≡ v → OnChain tb last v true
   chain-found e =
       record {
         is = λ ls book lines k d p.
@@ -112,7 +112,7 @@ module _ {tb : List ℕ} {last v c : ℕ} (h : ChainSoFar tb last v c) where
             sym (h .left ls book lines k d ∙ member-step k v i ∙ ap (λ t. member v (contextAt ls (x .indicator)) || t) (eq-eqb v c (sym e)) ∙ or-true (member v (contextAt ls (x .indicator))));
       }
 
-  pub chain-passed : c ≤ v → c ≢ v → InContext tb last v false
+  pub chain-passed : c ≤ v → c ≢ v → OnChain tb last v false
   chain-passed b n =
       record {
         is = λ ls book lines k d p. sym (h .left ls book lines k d ∙ member-above k c v c (omega arith) (omega (arith, h .within)) (omega arith));

@@ -3,5 +3,6 @@ pub mod PartLaws
 pub mod HashLaws
 pub mod FindLaws
 pub mod ContextLaws
+pub mod NotedLaws
 pub mod ProbeLaws
 pub mod MeaningLaws

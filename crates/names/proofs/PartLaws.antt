@@ -6,19 +6,18 @@ use mathlib.Core.Option.{none, some}
 use mathlib.Core.List.{List, [], _∷_}
 use Prim.Native.Nat.{ℕ, zero, suc, _+_, _*_, _-_, _≤_, _<_}
 use native.Mathlib.Omega.{arith}
-use native.Mathlib.Numerals.{add-one}
 use lib.Dec.{leb}
 use lib.ListN.{length, getD, take, drop, set}
 use lib.Seq.{slice, length-slice, getD-set-same, getD-set-other}
-use borrow.Author.Tests.{eq-eqb, ne-eqb, le-leb, lt-leb, leb-true, leb-false}
+use borrow.Author.Tests.{le-leb, lt-leb, leb-true, leb-false}
 use Rattle.aut68.specs.Bytes.{Bytes, sameBytes}
 use Rattle.aut68.specs.Procedure.Resolve.{placeFrom}
 use Rattle.cells.specs.declared.scope.Scope.{Scope}
-use Rattle.cells.specs.Posts.{Bound}
+use Rattle.cells.specs.Posts.{Nested, Bindable, Bound}
 use Rattle.cells.specs.Cells.{rowCell}
 use Rattle.cells.specs.RowLaws.{row-cell-is}
 use Rattle.symbols.proofs.Laws.{part, lengths-differ}
-use Rattle.names.specs.Known.{partOf, bindingOnto, namesFrom, boundNames, identifierPart, identifierStart}
+use Rattle.names.specs.Known.{partOf, namesFrom, boundNames, identifierPart, identifierStart}
 use Rattle.names.specs.Posts.{BindingFound}
 
 -- ---- parts
@@ -54,39 +53,36 @@ part-compared s word start len l = ap (sameBytes word) (part s start (start + le
 
 -- ---- bound names
 
-pub onto-none : (len : ℕ) (x : Bytes) (xs : List Bytes) → len ≡ 0 → bindingOnto len x xs ≡ xs
-unfolding bindingOnto
-onto-none len x xs e = rw (eq-eqb len 0 e, bindingOnto)
-
-pub onto-one : (len : ℕ) (x : Bytes) (xs : List Bytes) → len ≢ 0 → bindingOnto len x xs ≡ x ∷ xs
-unfolding bindingOnto
-onto-one len x xs n = rw (ne-eqb len 0 n, bindingOnto)
-
--- an entry at depth d says nothing of those below it
-names-below : (s : Bytes) (starts lens : List ℕ) (d x y i : ℕ) → i ≤ d → namesFrom s (set starts d x) (set lens d y) i ≡ namesFrom s starts lens i
+-- binding n says nothing of those before it
+names-below : (s : Bytes) (starts lens : List ℕ) (n x y i : ℕ) → i ≤ n → namesFrom s (set starts n x) (set lens n y) i ≡ namesFrom s starts lens i
 unfolding namesFrom
-names-below s starts lens d x y zero l = refl
-names-below s starts lens d x y (suc i) l =
-    let p = getD-set-other starts d i x 0 (λ e. omega arith) in
-    let q = getD-set-other lens d i y 0 (λ e. omega arith) in
-    let r = names-below s starts lens d x y i (omega arith) in
-    λ j. bindingOnto (q j) (partOf s (p j) (q j)) (r j)
+names-below s starts lens n x y zero l = refl
+names-below s starts lens n x y (suc i) l =
+    let p = getD-set-other starts n i x 0 (λ e. omega arith) in
+    let q = getD-set-other lens n i y 0 (λ e. omega arith) in
+    let r = names-below s starts lens n x y i (omega arith) in
+    λ j. partOf s (p j) (q j) ∷ r j
 
--- the names of a scope with one entry more
-pub bound-names : (s : Bytes) {scope inner : Scope} {start len : ℕ} → Bound scope start len inner → scope .depth < 32
+-- the names of a scope with one binding more
+pub bound-names : (s : Bytes) {scope inner : Scope} {start len : ℕ} → Bound scope start len inner → Bindable scope start len
     → length (scope .starts) ≡ 32 → length (scope .lens) ≡ 32
-    → boundNames s inner ≡ bindingOnto len (partOf s start len) (boundNames s scope)
+    → boundNames s inner ≡ partOf s start len ∷ boundNames s scope
 unfolding boundNames namesFrom
-bound-names s {scope} {inner} {start} {len} b l m n =
-    let d = scope .depth in
-    let e : inner .depth ≡ suc d = b .deeper l ∙ omega arith in
-    let p = getD-set-same (scope .starts) d start 0 (omega arith) in
-    let q = getD-set-same (scope .lens) d len 0 (omega arith) in
+bound-names s {scope} {inner} {start} {len} b f m n =
+    let d = scope .bound in
+    let e : inner .bound ≡ suc d = b .more f ∙ omega arith in
+    let p = getD-set-same (scope .starts) d start 0 (omega (arith, f .few)) in
+    let q = getD-set-same (scope .lens) d len 0 (omega (arith, f .few)) in
     let r = names-below s (scope .starts) (scope .lens) d start len d (omega arith) in
-    (λ j. namesFrom s (b .startsAre l j) (b .lensAre l j) (e j))
-    ∙ (λ j. bindingOnto (q j) (partOf s (p j) (q j)) (r j))
+    (λ j. namesFrom s (b .startsAre f j) (b .lensAre f j) (e j))
+    ∙ (λ j. partOf s (p j) (q j) ∷ r j)
 
-pub no-names : (s : Bytes) (scope : Scope) → scope .depth ≡ 0 → boundNames s scope ≡ []
+-- and of one with no binding more
+pub nested-names : (s : Bytes) {scope inner : Scope} → Nested scope inner → boundNames s inner ≡ boundNames s scope
+unfolding boundNames
+nested-names s h = λ j. namesFrom s (h .startsAre j) (h .lensAre j) (h .boundIs j)
+
+pub no-names : (s : Bytes) (scope : Scope) → scope .bound ≡ 0 → boundNames s scope ≡ []
 unfolding boundNames namesFrom
 no-names s scope e = ap (namesFrom s (scope .starts) (scope .lens)) e
 
@@ -100,69 +96,65 @@ place-later : (k : ℕ) (w x : Bytes) (xs : List Bytes) → sameBytes w x ≡ fa
 unfolding placeFrom
 place-later k w x xs e = rw (e, placeFrom)
 
--- the word is none of the bound names of the entries from i on, `between` of them
-pub record BoundSoFar (s : Bytes) (scope : Scope) (word : Bytes) (i between : ℕ) : Type 0 where
-  pub deep : scope .depth ≤ 32
-  pub within : i + between ≤ scope .depth
-  pub left : 1 ≤ length word → placeFrom 0 word (boundNames s scope) ≡ placeFrom between word (namesFrom s (scope .starts) (scope .lens) i)
+-- the word is none of the bound names of the bindings from i on
+pub record BoundSoFar (s : Bytes) (scope : Scope) (word : Bytes) (i : ℕ) : Type 0 where
+  pub few : scope .bound ≤ 32
+  pub within : i ≤ scope .bound
+  pub left : 1 ≤ length word → placeFrom 0 word (boundNames s scope) ≡ placeFrom (scope .bound - i) word (namesFrom s (scope .starts) (scope .lens) i)
 
-pub bound-start : {s : Bytes} {scope : Scope} {word : Bytes} → scope .depth ≤ 32 → BoundSoFar s scope word (scope .depth) 0
+pub bound-start : {s : Bytes} {scope : Scope} {word : Bytes} → scope .bound ≤ 32 → BoundSoFar s scope word (scope .bound)
 unfolding boundNames
-bound-start l = record { deep = l; within = omega arith; left = λ p. refl }
+bound-start {s} {scope} {word} l =
+    let e : 0 ≡ scope .bound - scope .bound = omega arith in
+    record { few = l; within = omega arith; left = λ p. ap (λ k. placeFrom k word (namesFrom s (scope .starts) (scope .lens) (scope .bound))) e }
 
--- entry i - 1 is n bytes from `first` on
-module _ {s : Bytes} {scope : Scope} {word : Bytes} {i between n first : ℕ} (h : BoundSoFar s scope word i between) (l : 0 < i)
+-- binding i - 1 is n bytes from `first` on
+module _ {s : Bytes} {scope : Scope} {word : Bytes} {i n first : ℕ} (h : BoundSoFar s scope word i) (l : 0 < i)
     (en : n ≡ getD (scope .lens) (i - 1) 0) (ef : first ≡ getD (scope .starts) (i - 1) 0) where
-  entry : namesFrom s (scope .starts) (scope .lens) i ≡ bindingOnto n (partOf s first n) (namesFrom s (scope .starts) (scope .lens) (i - 1))
+  entry : namesFrom s (scope .starts) (scope .lens) i ≡ partOf s first n ∷ namesFrom s (scope .starts) (scope .lens) (i - 1)
   unfolding namesFrom
   entry =
       let e : i ≡ suc (i - 1) = omega arith in
       ap (namesFrom s (scope .starts) (scope .lens)) e
-      ∙ (λ j. bindingOnto (sym en j) (partOf s (sym ef j) (sym en j)) (namesFrom s (scope .starts) (scope .lens) (i - 1)))
+      ∙ (λ j. partOf s (sym ef j) (sym en j) ∷ namesFrom s (scope .starts) (scope .lens) (i - 1))
 
-  pub bound-skip : n ≤ 0 → BoundSoFar s scope word (i - 1) between
-  bound-skip z =
+  pub bound-more : (1 ≤ length word → sameBytes word (partOf s first n) ≡ false) → BoundSoFar s scope word (i - 1)
+  bound-more e =
+      let q : suc (scope .bound - i) ≡ scope .bound - (i - 1) = omega (arith, h .within) in
       record {
-        deep = h .deep;
-        within = omega (arith, h .within);
-        left = λ p. h .left p ∙ ap (placeFrom between word) (entry ∙ onto-none n _ _ (omega arith));
-      }
-
-  named-entry : 0 < n → namesFrom s (scope .starts) (scope .lens) i ≡ partOf s first n ∷ namesFrom s (scope .starts) (scope .lens) (i - 1)
-  named-entry z = entry ∙ onto-one n _ _ (λ e. omega arith)
-
-  pub bound-more : 0 < n → (1 ≤ length word → sameBytes word (partOf s first n) ≡ false) → BoundSoFar s scope word (i - 1) (between + 1)
-  bound-more z e =
-      record {
-        deep = h .deep;
+        few = h .few;
         within = omega (arith, h .within);
         left = λ p.
             h .left p
-            ∙ ap (placeFrom between word) (named-entry z)
-            ∙ place-later between word (partOf s first n) _ (e p)
-            ∙ ap (λ k. placeFrom k word (namesFrom s (scope .starts) (scope .lens) (i - 1))) (sym (add-one between));
+            ∙ ap (placeFrom (scope .bound - i) word) entry
+            ∙ place-later (scope .bound - i) word (partOf s first n) _ (e p)
+            ∙ ap (λ k. placeFrom k word (namesFrom s (scope .starts) (scope .lens) (i - 1))) q;
       }
 
-  pub bound-found : 0 < n → (1 ≤ length word → sameBytes word (partOf s first n) ≡ true) → BindingFound s scope word between
-  bound-found z e =
+  pub bound-found : {r : ℕ} → r ≡ scope .bound - i → (1 ≤ length word → sameBytes word (partOf s first n) ≡ true) → BindingFound s scope word r
+  bound-found {r} er e =
       record {
-        within = omega (arith, h .within, h .deep);
-        bound = λ d p q. h .left p ∙ ap (placeFrom between word) (named-entry z) ∙ place-here between word (partOf s first n) _ (e p);
-        free = λ d p q. absurd (omega (arith, h .within, h .deep));
+        within = omega (arith, h .few);
+        bound = λ d p q.
+            h .left p
+            ∙ ap (placeFrom (scope .bound - i) word) entry
+            ∙ place-here (scope .bound - i) word (partOf s first n) _ (e p)
+            ∙ ap some (sym er);
+        free = λ d p q. absurd (omega (arith, h .within, h .few));
       }
 
-pub bound-nowhere : {s : Bytes} {scope : Scope} {word : Bytes} {i between : ℕ} → BoundSoFar s scope word i between → i ≤ 0 → BindingFound s scope word 32
+pub bound-nowhere : {s : Bytes} {scope : Scope} {word : Bytes} {i : ℕ} → BoundSoFar s scope word i → i ≤ 0 → BindingFound s scope word 32
 unfolding namesFrom placeFrom
-bound-nowhere {s} {scope} {word} {i} {between} h l =
+bound-nowhere {s} {scope} {word} {i} h l =
     let e : i ≡ 0 = omega arith in
     record {
       within = omega arith;
       bound = λ d p q. absurd (omega arith);
-      free = λ d p q. h .left p ∙ ap (λ k. placeFrom between word (namesFrom s (scope .starts) (scope .lens) k)) e;
+      free = λ d p q. h .left p ∙ ap (λ k. placeFrom (scope .bound - i) word (namesFrom s (scope .starts) (scope .lens) k)) e;
     }
 
-pub bound-too-deep : {s : Bytes} {scope : Scope} {word : Bytes} → 32 < scope .depth → BindingFound s scope word 32
-bound-too-deep l = record { within = omega arith; bound = λ d p q. absurd (omega arith); free = λ d p q. absurd (omega arith) }
+pub bound-too-many : {s : Bytes} {scope : Scope} {word : Bytes} → 32 < scope .bound → BindingFound s scope word 32
+bound-too-many l = record { within = omega arith; bound = λ d p q. absurd (omega arith); free = λ d p q. absurd (omega arith) }
 
 -- ---- identifiers
 

@@ -41,8 +41,8 @@ slots-inside n = split (leb (n - n / 4) 32768) refl
     split true e = omega arith
     split false e = omega (arith, leb-false (n - n / 4) 32768 e)
 
--- the cells of all searches in the store of the reader, below those of the line
-pub slots-fit : (limit : ℕ) → 16 ≤ limit → slots (26 * limit) + 32 ≤ 24 * limit
+-- the cells of all searches in the store of the reader, below those that note a context
+pub slots-fit : (limit : ℕ) → 16 ≤ limit → slots (26 * limit) + 32 ≤ 23 * limit
 slots-fit limit l = omega (arith, slots-inside (26 * limit))
 
 -- where a product with a number below 2 to the 32 lands, scaled back
@@ -69,7 +69,7 @@ identifier-name book tb v p l = rw (le-leb 1 v p, le-leb (8 * v) (length tb) l, 
 pub no-line-hinted : (book tb w : List ℕ) → Hinted book tb 0 w
 no-line-hinted book tb w = record { hint = λ v e a b. absurd (omega arith) }
 
-cell-same : (w w′ : List ℕ) (n i : ℕ) → take n w′ ≡ take n w → i < n → getD w′ i 0 ≡ getD w i 0
+pub cell-same : (w w′ : List ℕ) (n i : ℕ) → take n w′ ≡ take n w → i < n → getD w′ i 0 ≡ getD w i 0
 cell-same w w′ n i e h = sym (getD-take n w′ i 0 h) ∙ ap (λ x. getD x i 0) e ∙ getD-take n w i 0 h
 
 -- hints stay where the cells of all searches are as they were

@@ -3,7 +3,7 @@ use mathlib.Core.Path.{_≡_}
 use mathlib.Core.Bool.{true, false, _&&_}
 use mathlib.Core.List.{List, [], _∷_}
 use Prim.Native.Nat.{ℕ, zero, suc, _+_, _*_, _<_}
-use lib.Dec.{eqb, leb}
+use lib.Dec.{leb}
 use lib.ListN.{length, getD}
 use denote.Ref.{RefT}
 use lib.Seq.{slice}
@@ -29,17 +29,13 @@ pub record Known (ls : Lines) (book tb : List ℕ) (lines : ℕ) : Type 0 where
 unfoldable pub partOf : Bytes → ℕ → ℕ → Bytes
 partOf s start len = elim (leb (start + len) (length s)) [ true ↦ slice start (start + len) s | false ↦ [] ]
 
--- a bound name in front of the others; an entry of length 0 binds nothing
-unfoldable pub bindingOnto : ℕ → Bytes → List Bytes → List Bytes
-bindingOnto len x xs = elim (eqb len 0) [ true ↦ xs | false ↦ x ∷ xs ]
-
--- the bound names among the first `depth` entries, innermost first
+-- the bound names of the first n bindings, innermost first
 unfoldable pub namesFrom : Bytes → List ℕ → List ℕ → ℕ → List Bytes
 namesFrom s starts lens zero = []
-namesFrom s starts lens (suc i) = bindingOnto (getD lens i 0) (partOf s (getD starts i 0) (getD lens i 0)) (namesFrom s starts lens i)
+namesFrom s starts lens (suc i) = partOf s (getD starts i 0) (getD lens i 0) ∷ namesFrom s starts lens i
 
 unfoldable pub boundNames : Bytes → Scope → List Bytes
-boundNames s scope = namesFrom s (scope .starts) (scope .lens) (scope .depth)
+boundNames s scope = namesFrom s (scope .starts) (scope .lens) (scope .bound)
 
 -- the part r of what s lends: the same memory, from index `start` on, with these bytes
 pub record PartLent (s r : RefT (List ℕ)) (start : ℕ) (bytes : Bytes) : Type 0 where

@@ -2,4 +2,5 @@
 pub mod Known
 pub mod Hints
 pub mod HintLaws
+pub mod NotedContext
 pub mod Posts

@@ -4,15 +4,17 @@ use mathlib.Core.Bool.{Bool, true, false}
 use mathlib.Core.Logic.{_≢_}
 use mathlib.Core.Option.{Option, none, some}
 use mathlib.Core.List.{List}
-use Prim.Native.Nat.{ℕ, _+_, _*_, _≤_, _<_}
-use lib.ListN.{length}
+use Prim.Native.Nat.{ℕ, _+_, _*_, _/_, _≤_, _<_}
+use lib.ListN.{length, getD}
 use Rattle.aut68.specs.Bytes.{Bytes}
 use Rattle.aut68.specs.Lines.{Lines, numberOf}
 use Rattle.aut68.specs.Procedure.Answer.{Refusal, codeOf}
 use Rattle.aut68.specs.Procedure.Resolve.{Found, Meaning, aBound, aVariable, aConstant, member, placeFrom, meaning, wanted, contextAt}
+use Rattle.cells.specs.Cells.{Outside}
 use Rattle.cells.specs.declared.scope.Scope.{Scope}
 use Rattle.names.specs.Known.{Known, boundNames}
 use Rattle.names.specs.Hints.{Hinted, Noted, nameAt}
+use Rattle.names.specs.NotedContext.{ContextNoted}
 
 -- the number, or the given one where there is none
 unfoldable pub numberOr : ℕ → Option ℕ → ℕ
@@ -32,12 +34,27 @@ pub record LineFound (book tb : List ℕ) (lines : ℕ) (w : List ℕ) (word : B
 -- r is the number of bindings between a name and its innermost binding; 32: it is not bound
 pub record BindingFound (s : Bytes) (scope : Scope) (word : Bytes) (r : ℕ) : Type 0 where
   pub within : r ≤ 32
-  pub bound : scope .depth ≤ 32 → 1 ≤ length word → r < 32 → placeFrom 0 word (boundNames s scope) ≡ some r
-  pub free : scope .depth ≤ 32 → 1 ≤ length word → 32 ≤ r → placeFrom 0 word (boundNames s scope) ≡ none
+  pub bound : scope .bound ≤ 32 → 1 ≤ length word → r < 32 → placeFrom 0 word (boundNames s scope) ≡ some r
+  pub free : scope .bound ≤ 32 → 1 ≤ length word → 32 ≤ r → placeFrom 0 word (boundNames s scope) ≡ none
 
--- is line v in the context that ends with line `last`?
-pub record InContext (tb : List ℕ) (last v : ℕ) (r : Bool) : Type 0 where
+-- is line v in the context that ends with line `last`? By the chain of indicators
+pub record OnChain (tb : List ℕ) (last v : ℕ) (r : Bool) : Type 0 where
   pub is : (ls : Lines) (book : Bytes) (lines : ℕ) → Known ls book tb lines → last ≤ lines → 1 ≤ v → r ≡ member v (contextAt ls last)
+
+-- the same by what is noted of that context in w
+pub record InContext (tb w : List ℕ) (last v : ℕ) (r : Bool) : Type 0 where
+  pub is : (ls : Lines) (book : Bytes) (lines : ℕ) → Known ls book tb lines → ContextNoted ls last w → last ≤ lines → 1 ≤ v → r ≡ member v (contextAt ls last)
+
+-- line c was noted as variable i of the context, if there is a cell for it
+pub record VariablePut (w w′ : List ℕ) (i c : ℕ) : Type 0 where
+  pub kept : Outside (23 * (length w / 26)) (24 * (length w / 26)) w w′
+  pub others : (j : ℕ) → j ≢ i → getD w′ (23 * (length w / 26) + j) 0 ≡ getD w (23 * (length w / 26) + j) 0
+  pub put : c < 65536 → i < length w / 26 → getD w′ (23 * (length w / 26) + i) 0 ≡ c
+
+-- the context that ends with line `last` was noted
+pub record ContextPost (tb w w′ : List ℕ) (last : ℕ) : Type 0 where
+  pub kept : Outside (23 * (length w / 26)) (24 * (length w / 26)) w w′
+  pub noted : (ls : Lines) (book : Bytes) (lines : ℕ) → Known ls book tb lines → last ≤ lines → ContextNoted ls last w′
 
 -- the cell of a name: what it means, without its arguments
 unfoldable pub cellOf : Meaning → ℕ
@@ -52,7 +69,8 @@ pub data Meant (ls : Lines) (context : List ℕ) (fault cell count : ℕ) : Foun
 
 -- the meaning of a word, with the indicator of its line
 pub record MeaningFound (s : Bytes) (scope : Scope) (book tb : List ℕ) (lines indicator : ℕ) (w : List ℕ) (word : Bytes) (fault cell count : ℕ) : Type 0 where
-  pub is : (ls : Lines) → Known ls book tb lines → Hinted book tb lines w → indicator ≤ lines → scope .depth ≤ 32 → 1 ≤ length word
+  pub is : (ls : Lines) → Known ls book tb lines → Hinted book tb lines w → ContextNoted ls indicator w → indicator ≤ lines → scope .bound ≤ 32
+      → 1 ≤ length word
       → Meant ls (contextAt ls indicator) fault cell count (meaning ls (contextAt ls indicator) word (boundNames s scope))
 
 -- does the row of line v, of the first `lines`, point to the word?

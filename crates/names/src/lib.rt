@@ -1,7 +1,9 @@
 // What names mean, and the identifiers of recorded lines.
+mod contexts;
 mod hints;
 mod names;
 
+pub use contexts::note_context;
 pub use hints::note;
 pub use names::Meaning;
 pub use names::find;

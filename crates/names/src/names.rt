@@ -1,4 +1,5 @@
 // What names mean. specs/Posts has the contracts.
+use crate::contexts::in_context;
 use crate::hints::PROBES;
 use crate::hints::slot_of;
 use cells::Scope;
@@ -9,7 +10,7 @@ ghost use Prim.Native.Nat.{_≤_};
 ghost use lib.ListN.{length};
 ghost use Rattle.aut68.specs.Bytes.{sameBytes};
 ghost use Rattle.names.specs.Known.{partOf, PartLent, identifierPart, identifierStart};
-ghost use Rattle.names.specs.Posts.{LineSought, LineIs, LineFound, BindingFound, InContext, MeaningFound};
+ghost use Rattle.names.specs.Posts.{LineSought, LineIs, LineFound, BindingFound, MeaningFound};
 
 // Is the word the n bytes of s from `first` on? No, where they are not whole in s.
 fn part_is(s: &[u8], first: usize, n: usize, word: &[u8]) -> bool
@@ -84,46 +85,30 @@ pub fn find(book: &[u8], table: &[u32], lines: usize, w: &[u16], word: &[u8]) ->
     search(book, table, lines, word)
 }
 
+fn wide(x: u32) -> usize
+    ensures { λ r. ⌜ r ≡ x ⌝ }
+{
+    x as usize
+}
+
 // The number of bindings between a name and its innermost binding (placeFrom); 32: it is not bound.
 fn binding(line: &[u8], scope: Scope, word: &[u8]) -> usize
     ensures { λ r. ⌜ BindingFound (now (line .entry)) scope (now (word .entry)) r ⌝ }
 {
-    if scope.depth > 32 {
+    let bindings = scope.bound;
+    if bindings > 32 {
         return 32;
     }
-    let mut i = scope.depth;
-    let mut between = 0;
+    let mut i = bindings;
     while i > 0 {
         i = i - 1;
-        let n = scope.lens[i];
-        let first = scope.starts[i];
-        if n > 0 {
-            if part_is(line, first, n, word) {
-                return between;
-            }
-            between = between + 1;
+        let n = wide(scope.lens[i]);
+        let first = wide(scope.starts[i]);
+        if part_is(line, first, n, word) {
+            return bindings - 1 - i;
         }
     }
     32
-}
-
-// Is line v in the context that ends with line `last` (member, contextAt)? An indicator stands before its line, so the
-// chain falls.
-fn in_context(table: &[u32], last: usize, v: usize) -> bool
-    ensures { λ r. ⌜ InContext (now (table .entry)) last v r ⌝ }
-{
-    let mut c = last;
-    while c > v {
-        let next = field(table, c, 2);
-        if next >= c {
-            return false;
-        }
-        c = next;
-    }
-    if c == v {
-        return true;
-    }
-    false
 }
 
 // What a name means: its cell, and how many arguments it takes; or the refusal 5 as fault.
@@ -133,7 +118,7 @@ pub struct Meaning {
     pub wanted: usize,
 }
 
-// The meaning of a word (meaning): the innermost binding, else the earlier line.
+// The meaning of a word (meaning): the innermost binding, else the earlier line; by the hints and the context noted in w.
 pub fn meaning_of(
     line: &[u8],
     scope: Scope,
@@ -178,7 +163,7 @@ pub fn meaning_of(
             wanted: count,
         };
     }
-    if in_context(table, indicator, v) {
+    if in_context(table, w, indicator, v) {
         return Meaning {
             fault: 0,
             cell: (8 * v + 1) as u16,

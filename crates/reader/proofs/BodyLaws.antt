@@ -23,6 +23,7 @@ use Rattle.symbols.proofs.Laws.{part, word-ahead, past-word}
 use Rattle.cells.specs.declared.scope.Scope.{Scope}
 use Rattle.names.specs.Hints.{slots}
 use Rattle.names.specs.HintLaws.{hinted-same}
+use Rattle.names.specs.NotedContext.{context-noted-same}
 use Rattle.names.proofs.PartLaws.{no-names}
 use Rattle.expressions.specs.declared.parts.Reading.{Reading}
 use Rattle.expressions.specs.Walk as Walk
@@ -75,25 +76,34 @@ module _ {ks s : Bytes} {at start end : ℕ} (b : at ≤ length s) (p : PastSpac
 
 -- the scope has no entry
 abbrev pub NoEntry : Scope → Type 0
-NoEntry scope = (scope .depth ≡ 0) × (scope .starts ≡ replicate 32 0) × (scope .lens ≡ replicate 32 0)
+NoEntry scope = (scope .bound ≡ 0) × (scope .depth ≡ 0) × (scope .starts ≡ replicate 32 0) × (scope .lens ≡ replicate 32 0)
 
 module _ {ks s book tb : List ℕ} {lines indicator : ℕ} {scope : Scope} {w w′ : List ℕ} {r r′ : Reading}
     (n : NoEntry scope)
     (E : ExpressionRead (anExpression (32 - scope .depth)) ks s scope book tb lines indicator w w′ r r′) where
-  pub outer-read : (ls : Lines) → Lookup ls ks book tb lines indicator w (r .to)
+  pub outer-read : (ls : Lines) → Lookup ls ks s book tb lines indicator w (r .to)
       → ReadTo s (Walk.Written cellsOfSrc cells (resolve ls (contextAt ls indicator) []) w w′ (r .to) (r′ .to) (r .fault) (r′ .fault)) (r′ .code) (r′ .at)
       (anExpression 32 (drop (r .at) s))
   outer-read ls l =
-      let ready : Ready ls ks book tb lines indicator scope w (r .to) =
+      let ready : Ready ls ks s book tb lines indicator scope w (r .to) =
       record {
         table = l .table;
         known = l .known;
         hinted = l .hinted;
         below = l .below;
+        context = l .context;
+        above = l .above;
         earlier = l .earlier;
-        sized = record { starts = ap length (n .1) ∙ length-replicate {A = ℕ} 32 0; lens = ap length (n .2) ∙ length-replicate {A = ℕ} 32 0; deep = omega (arith, n .0) };
+        short = l .short;
+        sized =
+            record {
+              starts = ap length (n .2) ∙ length-replicate {A = ℕ} 32 0;
+              lens = ap length (n .3) ∙ length-replicate {A = ℕ} 32 0;
+              deep = omega (arith, n .1);
+              few = omega (arith, n .0);
+            };
       } in
-      let level : 32 ≡ 32 - scope .depth = omega (arith, n .0) in
+      let level : 32 ≡ 32 - scope .depth = omega (arith, n .1) in
       read-is (ap (λ d. anExpression d (drop (r .at) s)) level)
       (subst (λ bs. ReadTo s (Walk.Written cellsOfSrc cells (resolve ls (contextAt ls indicator) bs) w w′ (r .to) (r′ .to) (r .fault) (r′ .fault)) (r′ .code) (r′ .at)
       (anExpression (32 - scope .depth) (drop (r .at) s))) (no-names s scope (n .0))
@@ -153,7 +163,7 @@ module _ {ks s book tb : List ℕ} {lines indicator : ℕ} {w : List ℕ} {at to
         read = λ ls k m. by-kind ls k m kind refl;
       }
     where
-      by-kind : (ls : Lines) → Lookup ls ks book tb lines indicator w to → MiddleKind ks s at kind → (n : ℕ) → kind ≡ n
+      by-kind : (ls : Lines) → Lookup ls ks s book tb lines indicator w to → MiddleKind ks s at kind → (n : ℕ) → kind ≡ n
           → ReadTo s (λ m. (middleNumber m ≡ kind) × WrittenMiddle ls indicator w w to to 0 0 m) 0 end (aMiddle (drop at s))
       by-kind ls k m zero e =
           read-is (middle-EB (drop at s) (m .isEB (k .table) e)) (passed refl (sym (past-word p q (k .table) b)) (sym e, variable-written ls indicator w to))
@@ -247,14 +257,17 @@ line-goes-on (b ∷ bs) n = refl
 
 module _ {ks s book tb : List ℕ} {lines indicator : ℕ} {w w₁ : List ℕ} {at to kind : ℕ} {m : Reading} (M : MiddleRead ks s book tb lines indicator w w₁ at to kind m) where
   -- behind the middle, names are looked up in the same
-  lookup-on : {ls : Lines} → Lookup ls ks book tb lines indicator w to → Lookup ls ks book tb lines indicator w₁ (m .to)
+  lookup-on : {ls : Lines} → Lookup ls ks s book tb lines indicator w to → Lookup ls ks s book tb lines indicator w₁ (m .to)
   lookup-on k =
       record {
         table = k .table;
         known = k .known;
         hinted = hinted-same to (k .below) (M .below .long) (M .below .is) (k .hinted);
         below = omega (arith, k .below, M .up, ap slots (M .below .long));
+        context = context-noted-same to (k .above) (M .below .long) (M .below .is) (k .context);
+        above = omega (arith, k .above, M .up, M .below .long);
         earlier = k .earlier;
+        short = k .short;
       }
 
   pub body-middle-refused : m .code ≢ 0 → BodyRead ks s book tb lines indicator w w₁ at to kind m

@@ -1,15 +1,15 @@
 -- Where a line of a book ends.
-use mathlib.Core.Path.{_≡_, refl, sym, ap, _∙_}
+use mathlib.Core.Path.{_≡_, refl, sym, ap, subst, _∙_}
 use mathlib.Core.Logic.{_≢_}
 use mathlib.Core.List.{List, [], _∷_, _++_}
-use Prim.Native.Nat.{ℕ, suc, _+_, _-_, _≤_, _<_}
+use Prim.Native.Nat.{ℕ, zero, suc, _+_, _-_, _≤_, _<_}
 use native.Mathlib.Omega.{arith}
 use lib.ListN.{length, getD, drop, take, length-drop, length-take}
-use lib.Seq.{take-suc, getD-drop}
+use lib.Seq.{take-suc, take-add, getD-take, getD-drop, drop-drop}
 use borrow.Author.Tests.{ne-eqb}
 use Rattle.aut68.specs.Bytes.{Bytes, onto, lines}
 use Rattle.symbols.proofs.Laws.{step, ended}
-use Rattle.reader.specs.Posts.{LineEnd}
+use Rattle.reader.specs.Posts.{NoEnd, LineEnd}
 
 -- bytes without byte 10, in front of lines
 pub ontoAll : Bytes → List Bytes → List Bytes
@@ -101,3 +101,36 @@ module _ {book : Bytes} {at i : ℕ} (h : NoEndSoFar book at i) where
             ∙ all-last (take (i - at) (drop at book)) (λ e. omega (arith, length-take (i - at) (drop at book), length-drop at book))
             ∙ ap (λ ls. take (i - at) (drop at book) ∷ ls) (sym (ap lines (ended book i l) ∙ no-lines));
       }
+
+  -- what ends the line from i on ends it from `at` on
+  pub line-ends-later : {r : ℕ} → i < length book → LineEnd book i r → LineEnd book at r
+  line-ends-later {r} l e =
+      record {
+        from = λ m. omega (arith, h .from, e .from l);
+        within = λ m. e .within (omega arith);
+        is = λ m.
+            h .left
+            ∙ ap (ontoAll (take (i - at) (drop at book))) (e .is l)
+            ∙ all-cons (take (i - at) (drop at book)) (take (r - i) (drop i book)) (lines (drop r book))
+            ∙ ap (λ xs. xs ∷ lines (drop r book)) (taken-on (e .from l));
+      }
+    where
+      taken-on : i < r → take (i - at) (drop at book) ++ take (r - i) (drop i book) ≡ take (r - at) (drop at book)
+      taken-on n =
+          let p : at + (i - at) ≡ i = omega (arith, h .from) in
+          let q : (i - at) + (r - i) ≡ r - at = omega (arith, h .from) in
+          ap (λ d. take (i - at) (drop at book) ++ take (r - i) d) (ap (λ n. drop n book) (sym p) ∙ sym (drop-drop (i - at) at book))
+          ∙ sym (take-add (i - at) (r - i) (drop at book))
+          ∙ ap (λ n. take n (drop at book)) q
+
+-- n bytes more
+no-end-many : {book : Bytes} {at i : ℕ} (n : ℕ) → NoEndSoFar book at i → i + n ≤ length book → ((j : ℕ) → j < n → getD book (i + j) 0 ≢ 10) → NoEndSoFar book at (i + n)
+no-end-many {book} {at} {i} zero h l f = subst (NoEndSoFar book at) (omega arith) h
+no-end-many {book} {at} {i} (suc n) h l f =
+    let e : i + n + 1 ≡ i + suc n = omega arith in
+    subst (NoEndSoFar book at) e (no-end-more (no-end-many n h (omega arith) (λ j m. f j (omega arith))) (omega arith) (f n (omega arith)))
+
+-- the 32 bytes that has_end passes
+pub no-end-part : {book : Bytes} {at i : ℕ} → NoEndSoFar book at i → i + 32 ≤ length book → NoEnd (take (i + 32 - i) (drop i book)) 32 → NoEndSoFar book at (i + 32)
+no-end-part {book} {at} {i} h l f =
+    no-end-many 32 h l (λ j m e. f j m (getD-take (i + 32 - i) (drop i book) j 0 (omega arith) ∙ getD-drop i book j 0 ∙ e))

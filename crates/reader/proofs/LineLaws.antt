@@ -4,7 +4,7 @@ use mathlib.Core.Logic.{_≢_, _⊎_, inl, inr, ⊎-elim}
 use mathlib.Core.Bool.{Bool, true, false}
 use mathlib.Core.Option.{Option, none, some}
 use mathlib.Core.List.{List, [], _∷_, _++_, append-assoc}
-use Prim.Native.Nat.{ℕ, zero, suc, _+_, _-_, _*_, _≤_, _<_}
+use Prim.Native.Nat.{ℕ, zero, suc, _+_, _-_, _*_, _/_, _≤_, _<_}
 use native.Mathlib.Omega.{arith}
 use lib.ListN.{length, getD, drop, take, List·getD-append, length-append, length-drop, take-append-drop}
 use lib.Seq.{slice, length-slice, length-take-le, take-take, drop-append-le, getD-append-add, getD-take, getD-drop}
@@ -23,17 +23,18 @@ use Rattle.lookup.specs.Answers.{found-value}
 use Rattle.symbols.proofs.Laws.{part}
 use Rattle.kinds.specs.Kinds.{KindsTable}
 use Rattle.cells.specs.Cells.{rowCell, At, Outside}
+use Rattle.cells.specs.Stores.{outside-below}
 use Rattle.cells.specs.Results.{Result, code-nonzero}
 use Rattle.cells.specs.Results as Results
 use Rattle.names.specs.Known.{Known}
 use Rattle.names.specs.Hints.{slots, Hinted}
 use Rattle.names.specs.HintLaws.{slots-fit, hinted-same}
-use Rattle.names.specs.Posts.{LineFound}
+use Rattle.names.specs.Posts.{LineFound, ContextPost}
 use Rattle.names.proofs.MeaningLaws.{option-none, option-some, number-positive}
 use Rattle.names.proofs.ContextLaws.{lineAt}
 use Rattle.expressions.specs.declared.parts.Reading.{Reading}
 use Rattle.expressions.specs.Walk.{ReadTo, passed, refused, Faulted, whole, faulty, SameBelow}
-use Rattle.expressions.proofs.StoreLaws.{below-same, part-append, part-stays}
+use Rattle.expressions.proofs.StoreLaws.{below-same, below-then, part-append, part-stays}
 use Rattle.expressions.proofs.ReadLaws.{read-is}
 use Rattle.reader.specs.declared.heading.Head.{Head}
 use Rattle.reader.specs.declared.lines.Line.{Line as LineOf}
@@ -162,16 +163,16 @@ module _ {ks s book tb : List ℕ} {lines limit : ℕ} {w : List ℕ} {h : Head}
   unfolding readLine fromReading codeOf
   line-heading-refused n e =
       record {
-        below = below-same (24 * limit) w;
-        read = λ ls t k large long hints b.
+        below = below-same (23 * limit) w;
+        read = λ ls t k short large hints b.
             let (rest, c, q) = H .missing t n in
             step-stopped _ (ap (λ m. fromReading m b) q) (e ∙ c);
       }
 
 -- ---- a line whose heading was read
 
--- a search for a name stays below the line's cells
-hints-below : {limit n : ℕ} → 16 ≤ limit → n ≡ 26 * limit → slots n + 32 ≤ 24 * limit
+-- a search for a name stays below what is noted of the line's context
+hints-below : {limit n : ℕ} → 16 ≤ limit → n ≡ 26 * limit → slots n + 32 ≤ 23 * limit
 hints-below {limit} large long = omega (arith, ap slots long, slots-fit limit large)
 
 -- the name of the line p, as it was looked up
@@ -182,30 +183,52 @@ looked-up {s = s} {h} H hz P =
     let e = part s (h .first) (h .first + h .size) (omega arith) in
     (e ∙ sym (P .identifierIs), omega (arith, ap length e, length-slice (h .first) (h .first + h .size) s (H .named), H .sized hz))
 
-module _ {ks s book tb : List ℕ} {lines limit : ℕ} {w w′ : List ℕ} {h : Head} (H : HeadRead ks s h) (hz : h .code ≡ 0) {found indicator kind : ℕ} {r : Reading}
+module _ {ks s book tb : List ℕ} {lines : ℕ} (limit : ℕ) {w w₁ w′ : List ℕ} (long : length w ≡ 26 * limit) {h : Head} (H : HeadRead ks s h) (hz : h .code ≡ 0)
+    {found indicator kind : ℕ} {r : Reading}
     (F : (ls : Lines) → Known ls book tb lines → Hinted book tb lines w → IndicatorFound lines found (indicatorLine ls (nameOr s (h .start) (h .len))))
     (I : (8191 < found → indicator ≡ 0) × (found ≤ 8191 → indicator ≡ found))
-    (M : MiddleKind ks s (h .at) kind) (B : BodyRead ks s book tb lines indicator w w′ (h .at) (24 * limit) kind r) where
-  reading : (ls : Lines) → KindsTable ks → Known ls book tb lines → 16 ≤ limit → length w ≡ 26 * limit → Hinted book tb lines w
-      → ReadTo s (LineWritten ls indicator w w′ (24 * limit) kind (r .count) (r .to) (r .fault) (h .first) (nameOr s (h .start) (h .len)) (slice (h .first) (h .first + h .size) s))
+    (C : ContextPost tb w w₁ indicator)
+    (M : MiddleKind ks s (h .at) kind) (B : BodyRead ks s book tb lines indicator w₁ w′ (h .at) (24 * limit) kind r) where
+  -- the unit of the context
+  unit : length w / 26 ≡ limit
+  unit = omega (arith, long)
+
+  below-noted : SameBelow (23 * limit) w w₁
+  below-noted = record { long = C .kept .long; is = outside-below {n = 23 * limit} (omega (arith, unit)) (C .kept) }
+
+  below-kept : SameBelow (23 * limit) w w′
+  below-kept = below-then below-noted (omega arith) (B .below)
+
+  reading : (ls : Lines) → KindsTable ks → Known ls book tb lines → length s < 4294967296 → 16 ≤ limit → Hinted book tb lines w
+      → ReadTo s (LineWritten ls indicator w₁ w′ (24 * limit) kind (r .count) (r .to) (r .fault) (h .first) (nameOr s (h .start) (h .len)) (slice (h .first) (h .first + h .size) s))
       (r .code) (r .at) (aLine (length s) s)
-  reading ls t k large long hints =
+  reading ls t k short large hints =
+      let earlier = indicator-within (F ls k hints) (k .few) I in
       read-is (H .read t hz)
       (B .read ls
-      (record { table = t; known = k; hinted = hints; below = hints-below large long; earlier = indicator-within (F ls k hints) (k .few) I }) M
+      (record {
+        table = t;
+        known = k;
+        hinted = hinted-same (23 * limit) (hints-below large long) (below-noted .long) (below-noted .is) hints;
+        below = omega (arith, hints-below large (below-noted .long ∙ long));
+        context = C .noted ls book lines k earlier;
+        above = omega (arith, unit, below-noted .long);
+        earlier = earlier;
+        short = short;
+      }) M
       (nameOr s (h .start) (h .len)) (h .first) (slice (h .first) (h .first + h .size) s))
 
   -- the hints are where they were
-  hints-stay : 16 ≤ limit → length w ≡ 26 * limit → Hinted book tb lines w → Hinted book tb lines w′
-  hints-stay large long hints = hinted-same (24 * limit) (hints-below large long) (B .below .long) (B .below .is) hints
+  hints-stay : 16 ≤ limit → Hinted book tb lines w → Hinted book tb lines w′
+  hints-stay large hints = hinted-same (23 * limit) (hints-below large long) (below-kept .long) (below-kept .is) hints
 
   pub line-body-refused : {l : LineOf} → r .code ≢ 0 → l .code ≡ r .code → LineReadInto ks s book tb lines limit w w′ l
   unfolding readLine
   line-body-refused {l} n e =
       record {
-        below = B .below;
-        read = λ ls t k large long hints b.
-            subst (λ c. Result (LineRead s w′ (24 * limit) l) c b (readLine ls limit s b)) (sym e) (Results.then-refused _ n (reading-result b (reading ls t k large long hints)));
+        below = below-kept;
+        read = λ ls t k short large hints b.
+            subst (λ c. Result (LineRead s w′ (24 * limit) l) c b (readLine ls limit s b)) (sym e) (Results.then-refused _ n (reading-result b (reading ls t k short large hints)));
       }
 
   module _ (rz : r .code ≡ 0) where
@@ -213,9 +236,9 @@ module _ {ks s book tb : List ℕ} {lines limit : ℕ} {w w′ : List ℕ} {h : 
     unfolding readLine
     line-no-indicator g e =
         record {
-          below = B .below;
-          read = λ ls t k large long hints b.
-              Results.then-passed _ rz (reading-result b (reading ls t k large long hints)) (λ p P.
+          below = below-kept;
+          read = λ ls t k short large hints b.
+              Results.then-passed _ rz (reading-result b (reading ls t k short large hints)) (λ p P.
               step-no-indicator _ (subst (λ o. IndicatorFound lines found (indicatorLine ls o)) (sym (P .indicatorIs)) (F ls k hints)) (k .few) g e);
         }
 
@@ -224,12 +247,12 @@ module _ {ks s book tb : List ℕ} {lines limit : ℕ} {w w′ : List ℕ} {h : 
       unfolding readLine codeOf
       line-taken n e =
           record {
-            below = B .below;
-            read = λ ls t k large long hints b.
-                Results.then-passed _ rz (reading-result b (reading ls t k large long hints)) (λ p P.
+            below = below-kept;
+            read = λ ls t k short large hints b.
+                Results.then-passed _ rz (reading-result b (reading ls t k short large hints)) (λ p P.
                 let (q, m) = looked-up H hz P in
                 step-indicator _ (subst (λ o. IndicatorFound lines found (indicatorLine ls o)) (sym (P .indicatorIs)) (F ls k hints)) le (I .1 le)
-                (step-wrong _ duplicate (ap (λ x. unused x ls) (sym q) ∙ name-taken T k (hints-stay large long hints) m n) e));
+                (step-wrong _ duplicate (ap (λ x. unused x ls) (sym q) ∙ name-taken T k (hints-stay large hints) m n) e));
           }
 
       module _ (free : taken ≡ 0) where
@@ -237,12 +260,12 @@ module _ {ks s book tb : List ℕ} {lines limit : ℕ} {w w′ : List ℕ} {h : 
         unfolding readLine codeOf
         line-large-middle g e =
             record {
-              below = B .below;
-              read = λ ls t k large long hints b.
-                  Results.then-passed _ rz (reading-result b (reading ls t k large long hints)) (λ p P.
+              below = below-kept;
+              read = λ ls t k short large hints b.
+                  Results.then-passed _ rz (reading-result b (reading ls t k short large hints)) (λ p P.
                   let (q, m) = looked-up H hz P in
                   step-indicator _ (subst (λ o. IndicatorFound lines found (indicatorLine ls o)) (sym (P .indicatorIs)) (F ls k hints)) le (I .1 le)
-                  (step-right _ duplicate (ap (λ x. unused x ls) (sym q) ∙ name-unused T k (hints-stay large long hints) m free)
+                  (step-right _ duplicate (ap (λ x. unused x ls) (sym q) ∙ name-unused T k (hints-stay large hints) m free)
                   (step-wrong _ tooLarge (lt-leb (middleCells (p .line .middle)) limit (omega (arith, P .middleWritten .size))) e)));
             }
 
@@ -250,12 +273,12 @@ module _ {ks s book tb : List ℕ} {lines limit : ℕ} {w w′ : List ℕ} {h : 
         unfolding readLine codeOf
         line-large-category f g e =
             record {
-              below = B .below;
-              read = λ ls t k large long hints b.
-                  Results.then-passed _ rz (reading-result b (reading ls t k large long hints)) (λ p P.
+              below = below-kept;
+              read = λ ls t k short large hints b.
+                  Results.then-passed _ rz (reading-result b (reading ls t k short large hints)) (λ p P.
                   let (q, m) = looked-up H hz P in
                   step-indicator _ (subst (λ o. IndicatorFound lines found (indicatorLine ls o)) (sym (P .indicatorIs)) (F ls k hints)) le (I .1 le)
-                  (step-right _ duplicate (ap (λ x. unused x ls) (sym q) ∙ name-unused T k (hints-stay large long hints) m free)
+                  (step-right _ duplicate (ap (λ x. unused x ls) (sym q) ∙ name-unused T k (hints-stay large hints) m free)
                   (step-right _ tooLarge (le-leb (middleCells (p .line .middle)) limit (omega (arith, P .middleWritten .size)))
                   (step-wrong _ tooLarge (lt-leb (writtenCells (p .line .category)) limit (omega (arith, P .categoryWritten .size))) e))));
             }
@@ -265,13 +288,13 @@ module _ {ks s book tb : List ℕ} {lines limit : ℕ} {w w′ : List ℕ} {h : 
           unfolding readLine
           line-fault n e =
               record {
-                below = B .below;
-                read = λ ls t k large long hints b.
-                    Results.then-passed _ rz (reading-result b (reading ls t k large long hints)) (λ p P.
+                below = below-kept;
+                read = λ ls t k short large hints b.
+                    Results.then-passed _ rz (reading-result b (reading ls t k short large hints)) (λ p P.
                     let (q, m) = looked-up H hz P in
                     let middle = P .middleWritten .names refl (omega arith) in
                     step-indicator _ (subst (λ o. IndicatorFound lines found (indicatorLine ls o)) (sym (P .indicatorIs)) (F ls k hints)) le (I .1 le)
-                    (step-right _ duplicate (ap (λ x. unused x ls) (sym q) ∙ name-unused T k (hints-stay large long hints) m free)
+                    (step-right _ duplicate (ap (λ x. unused x ls) (sym q) ∙ name-unused T k (hints-stay large hints) m free)
                     (step-right _ tooLarge (le-leb (middleCells (p .line .middle)) limit (omega (arith, P .middleWritten .size)))
                     (step-right _ tooLarge (le-leb (writtenCells (p .line .category)) limit (omega (arith, P .categoryWritten .size)))
                     (⊎-elim
@@ -286,16 +309,16 @@ module _ {ks s book tb : List ℕ} {lines limit : ℕ} {w w′ : List ℕ} {h : 
           unfolding readLine lineCells
           line-read {context} n c =
               record {
-                below = B .below;
-                read = λ ls t k large long hints b.
-                    Results.then-passed _ rz (reading-result b (reading ls t k large long hints)) (λ p P.
+                below = below-kept;
+                read = λ ls t k short large hints b.
+                    Results.then-passed _ rz (reading-result b (reading ls t k short large hints)) (λ p P.
                     let (q, m) = looked-up H hz P in
                     let z : P .faultBetween ≡ 0 = ⊎-elim (λ z. z) (λ y. absurd (y (sym (P .categoryWritten .kept y) ∙ n))) (zero-or-not (P .faultBetween)) in
                     let lengths = P .long in
                     let (start, more) = B .upward rz in
                     let end : r .to ≤ length w′ = omega (arith, B .below .long) in
                     step-indicator _ (subst (λ o. IndicatorFound lines found (indicatorLine ls o)) (sym (P .indicatorIs)) (F ls k hints)) le (I .1 le)
-                    (step-right _ duplicate (ap (λ x. unused x ls) (sym q) ∙ name-unused T k (hints-stay large long hints) m free)
+                    (step-right _ duplicate (ap (λ x. unused x ls) (sym q) ∙ name-unused T k (hints-stay large hints) m free)
                     (step-right _ tooLarge (le-leb (middleCells (p .line .middle)) limit (omega (arith, P .middleWritten .size)))
                     (step-right _ tooLarge (le-leb (writtenCells (p .line .category)) limit (omega (arith, P .categoryWritten .size)))
                     (step-names _ (P .middleWritten .names refl (omega arith)) z (λ x ex sx.
@@ -351,7 +374,7 @@ module _ {ks s book tb : List ℕ} {lines limit : ℕ} {w : List ℕ} {l : LineO
       record {
         outside = record { long = refl; same = λ i h. refl };
         noRoom = λ n. (refl, e);
-        read = λ ls t k large room. absurd (omega arith);
+        read = λ ls t k short large room. absurd (omega arith);
       }
 
   pub line-in-front : {part : List ℕ} → 26 * limit ≤ length w → LineReadInto ks s book tb lines limit (take (26 * limit) w) part l
@@ -359,9 +382,9 @@ module _ {ks s book tb : List ℕ} {lines limit : ℕ} {w : List ℕ} {l : LineO
   line-in-front {part} m h =
       let long : length part ≡ 26 * limit = h .below .long ∙ length-take-le (26 * limit) w m in
       record {
-        outside = front-outside w part (24 * limit) (26 * limit) (omega arith) m (h .below);
+        outside = front-outside w part (23 * limit) (26 * limit) (omega arith) m (h .below);
         noRoom = λ z. absurd (omega arith);
-        read = λ ls t k large room hints b.
+        read = λ ls t k short large room hints b.
             Results.result-map (λ p P.
             record {
               firstIs = P .firstIs;
@@ -381,5 +404,5 @@ module _ {ks s book tb : List ℕ} {lines limit : ℕ} {w : List ℕ} {l : LineO
                         ∙ ap (λ x. x ++ drop (26 * limit) w) (P .cellsAt .is)
                         ∙ append-assoc (lineCells (p .line)) (P .after) (drop (26 * limit) w);
                   };
-            }) (h .read ls t k large (length-take-le (26 * limit) w m) hints b);
+            }) (h .read ls t k short large hints b);
       }

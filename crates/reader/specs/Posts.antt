@@ -4,8 +4,8 @@ use mathlib.Core.Logic.{_≢_}
 use mathlib.Core.Bool.{true, false}
 use mathlib.Core.Option.{Option}
 use mathlib.Core.List.{List, _∷_}
-use Prim.Native.Nat.{ℕ, _+_, _-_, _*_, _≤_, _<_}
-use lib.ListN.{length, drop, take}
+use Prim.Native.Nat.{ℕ, _+_, _-_, _*_, _/_, _≤_, _<_}
+use lib.ListN.{length, getD, drop, take}
 use lib.Seq.{slice}
 use Rattle.aut68.specs.Bytes.{Bytes, lines, sameBytes, wordPN, wordEB}
 use Rattle.aut68.specs.Source.{Middle, variable, primitive, meaning, Written, middleCells, writtenCells}
@@ -20,6 +20,7 @@ use Rattle.cells.specs.Results.{Result}
 use Rattle.kinds.specs.Kinds.{KindsTable}
 use Rattle.names.specs.Known.{Known}
 use Rattle.names.specs.Hints.{slots, Hinted}
+use Rattle.names.specs.NotedContext.{ContextNoted}
 use Rattle.expressions.specs.declared.parts.Reading.{Reading}
 use Rattle.expressions.specs.Walk as Walk
 use Rattle.expressions.specs.Walk.{ReadTo, SameBelow}
@@ -58,13 +59,16 @@ middleNumber variable = 0
 middleNumber primitive = 1
 middleNumber (meaning e) = 2
 
--- what names are looked up in, outside every binding: hints lie below the cell `to`
-pub record Lookup (ls : Lines) (ks book tb : List ℕ) (lines indicator : ℕ) (w : List ℕ) (to : ℕ) : Type 0 where
+-- what the names of the line s are looked up in, outside every binding: hints and the line's context lie below the cell `to`
+pub record Lookup (ls : Lines) (ks s book tb : List ℕ) (lines indicator : ℕ) (w : List ℕ) (to : ℕ) : Type 0 where
   pub table : KindsTable ks
   pub known : Known ls book tb lines
   pub hinted : Hinted book tb lines w
   pub below : slots (length w) + 32 ≤ to
+  pub context : ContextNoted ls indicator w
+  pub above : 24 * (length w / 26) ≤ to
   pub earlier : indicator ≤ lines
+  pub short : length s < 4294967296
 
 module _ (ls : Lines) (indicator : ℕ) (w w′ : List ℕ) (to end fault fault′ : ℕ) where
   -- the cells of a middle, and of a written category
@@ -81,13 +85,13 @@ pub record MiddleRead (ks s book tb : List ℕ) (lines indicator : ℕ) (w w′ 
   pub from : at ≤ r′ .at
   pub inside : r′ .at ≤ length s
   pub fewer : r′ .to ≤ length w + r′ .at
-  pub read : (ls : Lines) → Lookup ls ks book tb lines indicator w to → MiddleKind ks s at kind
+  pub read : (ls : Lines) → Lookup ls ks s book tb lines indicator w to → MiddleKind ks s at kind
       → ReadTo s (λ m. (middleNumber m ≡ kind) × WrittenMiddle ls indicator w w′ to (r′ .to) 0 (r′ .fault) m) (r′ .code) (r′ .at) (aMiddle (drop at s))
 
 -- a written category was read from r on
 pub record CategoryRead (ks s book tb : List ℕ) (lines indicator : ℕ) (w w′ : List ℕ) (r r′ : Reading) : Type 0 where
   pub onward : Onward s w w′ r r′
-  pub read : (ls : Lines) → Lookup ls ks book tb lines indicator w (r .to)
+  pub read : (ls : Lines) → Lookup ls ks s book tb lines indicator w (r .to)
       → ReadTo s (WrittenCategory ls indicator w w′ (r .to) (r′ .to) (r .fault) (r′ .fault)) (r′ .code) (r′ .at) (aCategory (drop (r .at) s))
 
 -- the cells of the line p: the middle's from `to` on below index `middle`, the category's behind them up to `end`
@@ -107,7 +111,7 @@ pub record LineWritten (ls : Lines) (indicator : ℕ) (w w′ : List ℕ) (to ki
 pub record BodyRead (ks s book tb : List ℕ) (lines indicator : ℕ) (w w′ : List ℕ) (at to kind : ℕ) (r′ : Reading) : Type 0 where
   pub below : SameBelow to w w′
   pub upward : r′ .code ≡ 0 → (to ≤ r′ .count) × (r′ .count ≤ r′ .to)
-  pub read : (ls : Lines) → Lookup ls ks book tb lines indicator w to → MiddleKind ks s at kind → (i : Option Bytes) (before : ℕ) (name : Bytes)
+  pub read : (ls : Lines) → Lookup ls ks s book tb lines indicator w to → MiddleKind ks s at kind → (i : Option Bytes) (before : ℕ) (name : Bytes)
       → ReadTo s (LineWritten ls indicator w w′ to kind (r′ .count) (r′ .to) (r′ .fault) before i name) (r′ .code) (r′ .at) (afterHeading i before name (drop at s))
 
 -- r is the indicator's line, 0 if empty; 8,192 where it is no `EB` line
@@ -129,19 +133,25 @@ pub record LineRead (s : Bytes) (w′ : List ℕ) (to : ℕ) (l : Line) (p : Pas
   pub after : List ℕ
   pub cellsAt : At w′ to (lineCells (p .line)) after
 
--- the same for a store of 26 × limit cells: hints in the first 24 × limit, which stay as they were, then the line's cells
+-- the same for a store of 26 × limit cells: hints in the first 23 × limit, which stay as they were, then the line's context and,
+-- from 24 × limit on, its cells
 pub record LineReadInto (ks s book tb : List ℕ) (lines limit : ℕ) (w w′ : List ℕ) (l : Line) : Type 0 where
-  pub below : SameBelow (24 * limit) w w′
-  pub read : (ls : Lines) → KindsTable ks → Known ls book tb lines → 16 ≤ limit → length w ≡ 26 * limit → Hinted book tb lines w
+  pub below : SameBelow (23 * limit) w w′
+  pub read : (ls : Lines) → KindsTable ks → Known ls book tb lines → length s < 4294967296 → 16 ≤ limit → Hinted book tb lines w
       → (b : ℕ) → Result (LineRead s w′ (24 * limit) l) (l .code) b (readLine ls limit s b)
 
--- Only the units 24 and 25 are written. With them there, the code is 0 where the line passes, and else that of its first refusal;
+-- Only the units 23 to 25 are written. With them there, the code is 0 where the line passes, and else that of its first refusal;
 -- without them it is 10.
 pub record LineReadTo (ks s book tb : List ℕ) (lines limit : ℕ) (w w′ : List ℕ) (l : Line) : Type 0 where
-  pub outside : Outside (24 * limit) (26 * limit) w w′
+  pub outside : Outside (23 * limit) (26 * limit) w w′
   pub noRoom : length w < 26 * limit → (w′ ≡ w) × (l .code ≡ 10)
-  pub read : (ls : Lines) → KindsTable ks → Known ls book tb lines → 16 ≤ limit → 26 * limit ≤ length w → Hinted book tb lines (take (26 * limit) w)
+  pub read : (ls : Lines) → KindsTable ks → Known ls book tb lines → length s < 4294967296 → 16 ≤ limit → 26 * limit ≤ length w
+      → Hinted book tb lines (take (26 * limit) w)
       → (b : ℕ) → Result (LineRead s w′ (24 * limit) l) (l .code) b (readLine ls limit s b)
+
+-- none of the first n bytes is 10
+abbrev pub NoEnd : Bytes → ℕ → Type 0
+NoEnd part n = (j : ℕ) → j < n → getD part j 0 ≢ 10
 
 -- r is the end of the first line of what is left of the book at `at`
 pub record LineEnd (book : Bytes) (at r : ℕ) : Type 0 where

@@ -1,8 +1,27 @@
 // Where the lines of a book end.
-ghost use Rattle.reader.specs.Posts.{LineEnd};
+ghost use mathlib.Core.Path.{_≡_};
+ghost use mathlib.Core.Bool.{false};
+ghost use lib.ListN.{length};
+ghost use Rattle.reader.specs.Posts.{NoEnd, LineEnd};
 
-// The end of the line that starts at `at`: behind its byte 10, or the book's end.
-pub fn line_end(book: &[u8], at: usize) -> usize
+// Is there a byte 10 among the 32 bytes?
+fn has_end(part: &[u8]) -> bool
+    requires { ⌜ length (now part) ≡ 32 ⌝ }
+    ensures { λ r. ⌜ (r ≡ false → NoEnd (now (part .entry)) 32) ⌝ }
+{
+    let mut found = false;
+    let mut j = 0;
+    while j < 32 {
+        if part[j] == 10 {
+            found = true;
+        }
+        j = j + 1;
+    }
+    found
+}
+
+// The end of the line, looked for byte by byte from `at` on.
+fn byte_end(book: &[u8], at: usize) -> usize
     ensures { λ r. ⌜ LineEnd (now (book .entry)) at r ⌝ }
 {
     let mut i = at;
@@ -11,6 +30,24 @@ pub fn line_end(book: &[u8], at: usize) -> usize
             return i + 1;
         }
         i = i + 1;
+    }
+    i
+}
+
+// The end of the line that starts at `at`: behind its byte 10, or the book's end. 32 bytes at once are passed that do not end it.
+pub fn line_end(book: &[u8], at: usize) -> usize
+    ensures { λ r. ⌜ LineEnd (now (book .entry)) at r ⌝ }
+{
+    let mut i = at;
+    while i < book.len() {
+        if book.len() - i < 32 {
+            return byte_end(book, i);
+        }
+        let next = i + 32;
+        if has_end(&book[i..next]) {
+            return byte_end(book, i);
+        }
+        i = next;
     }
     i
 }

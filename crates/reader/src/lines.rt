@@ -3,6 +3,7 @@ use crate::body::body;
 use crate::body::middle_kind;
 use crate::heading::heading;
 use names::find;
+use names::note_context;
 ghost use mathlib.Core.Path.{_≡_};
 ghost use Prim.Native.Nat.{_+_, _*_, _≤_, _<_};
 ghost use lib.ListN.{length};
@@ -71,8 +72,8 @@ fn bad_line(code: u32) -> Line
     }
 }
 
-// The line: form, indicator, identifier, sizes, names, in that order of refusals (readLine), with the cells of middle and
-// category in the last two of the 26 units of w, behind the hints.
+// The line: form, indicator, identifier, sizes, names, in that order of refusals (readLine). Of the 26 units of w, the last two
+// get the cells of middle and category, the one before them the line's context; hints lie below.
 fn read_into(
     line: &[u8],
     kinds: &[u8; 256],
@@ -95,6 +96,7 @@ fn read_into(
     let size = h.size;
     let found = indicator_line(line, book, table, lines, w, h.start, h.len);
     let indicator = known_line(found);
+    note_context(table, w, indicator);
     let kind = middle_kind(line, kinds, at);
     let b = body(line, kinds, book, table, lines, indicator, w, at, to, kind);
     if b.code != 0 {
@@ -132,8 +134,8 @@ fn read_into(
     }
 }
 
-// The line, with the cells of middle and category from unit 24 of w on, and the hints in the units before it. Writes the units 24
-// and 25 alone; where w does not have them, nothing, and the answer is 10.
+// The line, with the cells of middle and category from unit 24 of w on, its context in unit 23, and the hints in the units before
+// it. Writes the units 23 to 25 alone; where w does not have them, nothing, and the answer is 10.
 pub fn read_line(
     line: &[u8],
     kinds: &[u8; 256],

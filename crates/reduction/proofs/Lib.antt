@@ -1,4 +1,5 @@
 mod HeadLaws
+mod ArgumentLaws
 mod PutLaws
 mod StepLaws
 mod FormLaws

@@ -1,31 +1,33 @@
--- What is made in the result unit: a substitution, a middle or a category with its arguments put in.
+-- What is made in the result unit, a substitution or a middle with its arguments put in; and a middle put in place.
 use mathlib.Core.Path.{_≡_, refl, sym, ap, subst, _∙_}
 use mathlib.Core.Logic.{inl, inr}
 use mathlib.Core.List.{List, _∷_, _++_}
 use Prim.Native.Nat.{ℕ, _+_, _-_, _*_, _≤_, _<_}
 use native.Mathlib.Omega.{arith}
-use lib.ListN.{length, drop, length-append}
+use lib.ListN.{length, take, drop, length-append}
 use lib.Seq.{sets, take-all}
 use Rattle.aut68.specs.Expr.{Expr, const, app, abs, nil, cons, size, cells, cellss, countExprs}
 use Rattle.aut68.specs.Substitution.{instantiate}
-use Rattle.aut68.specs.Lines.{kindCells}
+use Rattle.aut68.specs.Lines.{Line, Lines, abbreviation, kindCells}
+use Rattle.aut68.specs.Rules.Names.{IsLine}
 use Rattle.aut68.specs.Procedure.HeadStep.{left}
 use Rattle.calculus.specs.Scoped.{Scoped}
 use Rattle.calculus.specs.CategoryScoped.{known-head}
 use Rattle.calculus.specs.Resolved.{Known}
-use Rattle.cells.specs.Cells.{rowCell, AllFormed, Wf, At, Outside, copyCells}
+use Rattle.cells.specs.Cells.{rowCell, AllFormed, Wf, At, copyCells}
 use Rattle.cells.specs.CopyLaws.{copy-outside, copy-at}
 use Rattle.cells.specs.Forests.{at-inside, at-tail, at-front, at-second, at-one, cells-one, cells-long, size-is-length, sizes-is-length}
 use Rattle.cells.specs.Layout.{unitAt, scratchUnit, resultUnit, unit-below, unit-inside}
 use Rattle.cells.specs.Posts.{Skipped}
-use Rattle.cells.specs.Stores.{at-sets, at-kept, at-before}
+use Rattle.cells.specs.Stores.{outside-same, outside-more, at-sets, at-before}
 use Rattle.terms.specs.Made.{noRoom, Made, Confined, SubstitutePost, InstantiatePost}
-use Rattle.reduction.specs.Book.{right-count, all-known-wf}
+use Rattle.terms.specs.declared.instances.Arguments.{Arguments}
+use Rattle.reduction.specs.Book.{Book, right-count, all-known-wf}
 use Rattle.reduction.specs.Depths.{instantiated-below}
-use Rattle.reduction.specs.Frames.{Quiet, framed-same, framed-then, outside-quiet}
+use Rattle.reduction.specs.Frames.{Quiet, Lies, framed-same, framed-then, outside-quiet}
 use Rattle.reduction.specs.Heads.{const-unfolds}
 use Rattle.reduction.specs.Places.{middle-numbered}
-use Rattle.reduction.specs.Posts.{InResult, Prepared, PutPost, ContractedPost, UnfoldedPost}
+use Rattle.reduction.specs.Posts.{MadeAt, Prepared, ArgumentsAtPost, ContractedPost, UnfoldedPost, InPlacePost}
 
 -- ---- the result unit
 
@@ -47,9 +49,9 @@ pub prepared-by : {limit room r : ℕ} {w w₁ w′ : List ℕ} {to : ℕ} → Q
 prepared-by {limit} q e c =
     record { quiet = framed-then q (outside-quiet (omega (arith, scratch-below-result limit)) (c .outside)); answers = c .answers }
 
-pub in-result : {limit room : ℕ} {e : Expr} {r to : ℕ} {w w′ : List ℕ} → to ≡ unitAt limit resultUnit → to + room ≤ length w → Made room e r to w w′
-    → InResult limit room e r w′
-in-result {limit} {room} {e} {r} {to} {w} {w′} q h m = record {
+pub in-result : (limit : ℕ) {room : ℕ} {e : Expr} {r to : ℕ} {w w′ : List ℕ} → to ≡ unitAt limit resultUnit → to + room ≤ length w → Made room e r to w w′
+    → MadeAt (unitAt limit resultUnit) room e r w′
+in-result limit {room} {e} {r} {to} {w} {w′} q h m = record {
   fits = λ s. (
     m .fits s,
     record {
@@ -62,32 +64,6 @@ in-result {limit} {room} {e} {r} {to} {w} {w′} q h m = record {
   where
     written : size e ≤ room → sets w to (cells e) ≡ w′
     written s = ap (sets w to) (sym (take-all room (cells e) (omega (arith, size-is-length e)))) ∙ sym (m .cellsAre)
-
--- ---- an expression of the term store, with arguments
-
-module _ {tb : List ℕ} (ts : List ℕ) {w w₁ w′ : List ℕ} (limit from end : ℕ) {args count room r scratch result : ℕ} (small : limit ≤ 4096) (s : scratch ≡ unitAt limit scratchUnit)
-    (t : result ≡ unitAt limit resultUnit) (ordered : from ≤ end) (loaded : w₁ ≡ copyCells ts from (end - from) w scratch)
-    (I : InstantiatePost tb w₁ w′ scratch args count result room r) where
-  load-outside : Outside scratch (scratch + (end - from)) w w₁
-  load-outside = subst (λ (l : List ℕ). Outside scratch (scratch + (end - from)) w l) (sym loaded) (copy-outside ts from (end - from) w scratch)
-
-  pub put-law : PutPost tb ts w w′ limit from end args count room r
-  put-law = record {
-    prepared = prepared-by (outside-quiet (omega arith) load-outside) t (I .confined);
-    made = λ q h d vs xs x {rx} {ra} f g c a b m p l o.
-        let n : end - from ≡ length (cells x) = omega arith in
-        let S = scratch-below-result limit in
-        let E = result-inside limit in
-        let z : At w₁ scratch (cells x) (drop (scratch + length (cells x)) w) =
-        subst (λ (u : List ℕ). At u scratch (cells x) (drop (scratch + length (cells x)) w))
-        (sym (loaded ∙ ap (λ (k : ℕ). copyCells ts from k w scratch) n))
-        (copy-at ts from w scratch a (omega (arith, at-inside x a)) (omega arith)) in
-        in-result t (omega (arith, load-outside .long))
-        (I .made vs xs x _ _ (omega (arith, load-outside .long)) f g c
-        (at-before {n = result} (omega arith) z)
-        (at-before {n = result} (omega arith) (at-kept load-outside (inl (omega arith)) p))
-        o);
-  }
 
 -- ---- a contraction
 
@@ -145,7 +121,7 @@ contracted-law {tb} {w} {limit = limit} {at} {f = f} {g} {result} q s z S = reco
       let n : at + (1 + (length (cells a) + (1 + (length (cells p) + length (cells t))))) ≤ unitAt limit scratchUnit =
       omega (arith, size-is-length a, size-is-length p, size-is-length t) in
       let k : f ≡ at + 1 + length (cells a) = omega (arith, s .ends (cons a nil) _ refl (wa, tt) (at-one a (C .argument)), ap length (cells-one a)) in
-      in-result q (omega arith) (S .made t a _ _ (omega arith) wt wa (at-before {n = result} (omega arith) (T .1)) (at-before {n = result} (omega arith) (C .argument)) o);
+      in-result limit q (omega arith) (S .made t a _ _ (omega arith) wt wa (at-before {n = result} (omega arith) (T .1)) (at-before {n = result} (omega arith) (C .argument)) o);
 }
 
 -- ---- an unfolding
@@ -156,28 +132,75 @@ unfolded-none {v = v} h = record {
   made = λ l m B k xs i g W z a b s. absurd (omega (arith, at-inside (const v xs) a, cells-long (const v xs)));
 }
 
-pub unfolded-law : {tb ts w w′ : List ℕ} {limit at v room r from end count : ℕ} → limit ≤ 4096 → from ≡ rowCell tb v 5 → end ≡ rowCell tb v 6 → count ≡ rowCell tb v 3
-    → PutPost tb ts w w′ limit from end (at + 1) count room r → UnfoldedPost tb ts w w′ limit at v room r
+pub unfolded-law : {tb ts w w′ : List ℕ} {limit at v room r from count result : ℕ} (args : Arguments) → limit ≤ 4096 → from ≡ rowCell tb v 5 → count ≡ rowCell tb v 3
+    → ArgumentsAtPost tb w (at + 1) count args → result ≡ unitAt limit resultUnit
+    → InstantiatePost tb ts w w′ from (args .base) (args .count) (args .starts) result room r → UnfoldedPost tb ts w w′ limit at v room r
 unfolding cells size Scoped kindCells left
-unfolded-law {tb} {ts} {w} {limit = limit} {at} {v} small ef ee ec P = record {
-  prepared = P .prepared;
+unfolded-law {tb} {ts} {w} {limit = limit} {at} {v} {count = count} {result} args small ef ec A t I = record {
+  prepared = prepared-by framed-same t (I .confined);
   made = λ h d {ls} B k xs {l} {m} {rest} j g W z a b s.
       let S = B .stored .cellsOf j in
       let e : kindCells (l .kind) ≡ cells m = ap kindCells g in
       let long : length (cells m) ≤ limit = omega (arith, B .middleSize j, ap length e) in
       let known : Known ls k (instantiate (l .context) xs 0 m) = known-head ls (B .resolved) k (const v xs) _ (ap left (const-unfolds ls v xs j g)) W in
-      P .made small h d (l .context) xs m (middle-numbered B j xs m g) (all-known-wf (B .rows) k xs (W .1)) (right-count (B .rows) v (countExprs xs) (W .0) ∙ sym ec)
+      let E = result-inside limit in
+      let U = scratch-below-result limit in
+      let n : countExprs xs ≡ count = right-count (B .rows) v (countExprs xs) (W .0) ∙ sym ec in
+      let f = all-known-wf (B .rows) k xs (W .1) in
+      let p : At w (at + 1) (cellss xs) rest = record { is = at-tail w at (8 * v + 3) (cellss xs ++ rest) (a .is) } in
+      in-result limit t (omega arith)
+      (I .made (l .context) xs m _ (omega arith) (middle-numbered B j xs m g)
+      (record {
+        formed = f;
+        counted = n ∙ sym (A .counted);
+        started = A .started xs n f p (omega (arith, sizes-is-length xs));
+        rest = _;
+        lies = subst (λ (i : ℕ). At (take result w) i (cellss xs) (drop (at + 1 + length (cellss xs)) (take result w))) (sym (A .based)) (at-before {n = result} (omega (arith, sizes-is-length xs)) p);
+      })
       (subst (λ (i : ℕ). At ts i (cells m) (S .afterMiddle)) (sym ef) (subst (λ (c : List ℕ). At ts (rowCell tb v 5) c (S .afterMiddle)) e (S .middleAt)))
-      (omega (arith, S .middleEnds, ap length e))
-      long
-      (record { is = at-tail w at (8 * v + 3) (cellss xs ++ rest) (a .is) })
-      (omega (arith, sizes-is-length xs))
-      (instantiated-below ls (B .few) k (l .context) xs m known z (omega arith) (omega (arith, size-is-length m)));
+      (instantiated-below ls (B .few) k (l .context) xs m known z (omega arith) (omega (arith, size-is-length m))));
 }
 
--- no store has such units, or no expression ends before it starts
-pub put-no-limit : {tb ts w : List ℕ} {limit from end args count room : ℕ} → 4096 < limit → PutPost tb ts w w limit from end args count room 65536
-put-no-limit h = record { prepared = prepared-none; made = λ q l d vs xs x f g c a b m p o z. absurd (omega arith) }
+-- ---- an abbreviation without arguments
 
-pub put-no-part : {tb ts w : List ℕ} {limit from end args count room : ℕ} → end < from → PutPost tb ts w w limit from end args count room 65536
-put-no-part h = record { prepared = prepared-none; made = λ q l d vs xs x f g c a b m p o z. absurd (omega arith) }
+-- the middle's size is told by where the category starts
+middle-size : {tb ts : List ℕ} {v from end : ℕ} → from ≡ rowCell tb v 5 → end ≡ rowCell tb v 6 → {ls : Lines} {limit : ℕ} → Book ls limit tb ts → {l : Line} {m : Expr} → IsLine ls v l → l .kind ≡ abbreviation m
+    → (end ≡ from + size m) × Lies ts from m
+unfolding kindCells
+middle-size ef ee B {l} {m} j g =
+    let S = B .stored .cellsOf j in
+    let e : kindCells (l .kind) ≡ cells m = ap kindCells g in (
+      omega (arith, S .middleEnds, ap length e, size-is-length m),
+      record { rest = S .afterMiddle; at = rw (ef, sym e) (S .middleAt) },
+    )
+
+module _ {tb ts w : List ℕ} {at v room from end : ℕ} (ef : from ≡ rowCell tb v 5) (ee : end ≡ rowCell tb v 6) where
+  pub in-place-none : (from ≤ end → room < end - from) → InPlacePost tb ts w w at v room 65536
+  unfolding noRoom
+  in-place-none h = record {
+    outside = outside-same;
+    refused = λ l. refl;
+    answers = inr refl;
+    made = λ B j g q. let M = middle-size ef ee B j g in
+        record { fits = λ s. absurd (omega (arith, M .0, h (omega (arith, M .0)))); large = λ s. refl };
+  }
+
+  pub in-place-law : {w′ : List ℕ} → from ≤ end → end - from ≤ room → w′ ≡ copyCells ts from (end - from) w at → InPlacePost tb ts w w′ at v room (end - from)
+  in-place-law {w′} l h e = record {
+    outside = rw e (outside-more (omega arith) (omega arith) (copy-outside ts from (end - from) w at));
+    refused = λ k. absurd (omega arith);
+    answers = inl h;
+    made = λ {ls} {limit} B {l} {m} j g q. let M = middle-size ef ee B j g in
+        record {
+          fits = λ s. (omega (arith, M .0), stands m (M .0) (M .1) q);
+          large = λ s. absurd (omega (arith, M .0));
+        };
+  }
+    where
+      stands : (m : Expr) → end ≡ from + size m → Lies ts from m → at + room ≤ length w → Lies w′ at m
+      stands m n L q =
+          let k : end - from ≡ length (cells m) = omega (arith, size-is-length m) in
+          record {
+            rest = drop (at + length (cells m)) w;
+            at = rw (e ∙ ap (λ (i : ℕ). copyCells ts from i w at) k) (copy-at ts from w at (L .at) (omega (arith, at-inside m (L .at))) (omega arith));
+          }

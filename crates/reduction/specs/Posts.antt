@@ -14,11 +14,12 @@ use Rattle.aut68.specs.Procedure.HeadStep.{noStep, headStep, left}
 use Rattle.aut68.specs.Procedure.Category.{toFunction}
 use Rattle.aut68.specs.Procedure.Category
 use Rattle.calculus.specs.Resolved.{Known, KnownCategory}
-use Rattle.cells.specs.Cells.{rowCell, Formed, RightCount, Wf, Wfs, At, Below}
+use Rattle.cells.specs.Cells.{rowCell, Wf, Wfs, At, Below, Outside}
 use Rattle.cells.specs.Layout.{unitAt, scratchUnit, resultUnit}
 use Rattle.cells.specs.Posts.{Skipped}
 use Rattle.cells.specs.Results.{Result}
-use Rattle.terms.specs.Made.{noRoom, Numbered}
+use Rattle.terms.specs.Made.{noRoom, Started}
+use Rattle.terms.specs.declared.instances.Arguments.{Arguments}
 use Rattle.reduction.specs.Book.{Book}
 use Rattle.reduction.specs.Frames.{Framed, Quiet, Lies}
 use Rattle.reduction.specs.Heads.{HeadIs, applied, front}
@@ -42,11 +43,11 @@ pub record HeadPost (tb w : List ℕ) (at n : ℕ) (r : Head) : Type 0 where
   pub is : {ls : Lines} {L : ℕ} {ts : List ℕ} → Book ls L tb ts → (k : ℕ) (e : Expr) {rest : List ℕ} → KnownCategory ls k e → At w at (cells e) rest
       → n ≡ size e → HeadIs ls at (r .kind) (r .at) (r .kept) (r .line) e
 
--- ---- what is made in the result unit
+-- ---- what is made, in the result unit or in place
 
--- e stands at the start of the result unit, and r is its size; or it has more cells than the room
-pub record InResult (limit room : ℕ) (e : Expr) (r : ℕ) (w′ : List ℕ) : Type 0 where
-  pub fits : size e ≤ room → (r ≡ size e) × Lies w′ (unitAt limit resultUnit) e
+-- e stands at index `place`, and r is its size; or it has more cells than the room
+pub record MadeAt (place room : ℕ) (e : Expr) (r : ℕ) (w′ : List ℕ) : Type 0 where
+  pub fits : size e ≤ room → (r ≡ size e) × Lies w′ place e
   pub large : room < size e → r ≡ noRoom
 
 -- whatever lies there: nothing below the scratch unit is changed
@@ -54,43 +55,49 @@ pub record Prepared (limit room r : ℕ) (w w′ : List ℕ) : Type 0 where
   pub quiet : Quiet (unitAt limit scratchUnit) w w′
   pub answers : (r ≤ room) ⊎ (r ≡ noRoom)
 
--- the expression in the term cells from..end, with the arguments at `args` put in
-pub record PutPost (tb ts w w′ : List ℕ) (limit from end args count room r : ℕ) : Type 0 where
-  pub prepared : Prepared limit room r w w′
-  pub made : limit ≤ 4096 → 128 * limit ≤ length w → room ≤ limit → (vs : List ℕ) (xs : Exprs) (x : Expr) {rx ra : List ℕ}
-      → Formed (Numbered tb vs xs) (RightCount tb) x → Wfs tb xs → countExprs xs ≡ count → At ts from (cells x) rx → end ≡ from + length (cells x)
-      → length (cells x) ≤ limit → At w args (cellss xs) ra → args + length (cellss xs) ≤ unitAt limit scratchUnit
-      → Below 65536 (cells (instantiate vs xs 0 x)) → InResult limit room (instantiate vs xs 0 x) r w′
+-- the `count` arguments that lie from index `at` of w on
+pub record ArgumentsAtPost (tb w : List ℕ) (at count : ℕ) (r : Arguments) : Type 0 where
+  pub based : r .base ≡ at
+  pub counted : r .count ≡ count
+  pub started : (xs : Exprs) {rest : List ℕ} → countExprs xs ≡ count → Wfs tb xs → At w at (cellss xs) rest → length (cellss xs) < 65536 → Started xs (r .starts)
 
 -- <A>[x,P]T at index `at`
 pub record ContractedPost (tb w w′ : List ℕ) (limit at room r : ℕ) : Type 0 where
   pub prepared : Prepared limit room r w w′
   pub made : 128 * limit ≤ length w → room ≤ limit → (a p t : Expr) {rest : List ℕ} → Wf tb a → Wf tb p → Wf tb t
       → At w at (cells (app a (abs p t))) rest → at + size (app a (abs p t)) ≤ unitAt limit scratchUnit → Below 65536 (cells (substitute a 0 t))
-      → InResult limit room (substitute a 0 t) r w′
+      → MadeAt (unitAt limit resultUnit) room (substitute a 0 t) r w′
 
 -- the constant of line v at index `at`
 pub record UnfoldedPost (tb ts w w′ : List ℕ) (limit at v room r : ℕ) : Type 0 where
   pub prepared : Prepared limit room r w w′
   pub made : 128 * limit ≤ length w → room ≤ limit → {ls : Lines} → Book ls limit tb ts → (k : ℕ) (xs : Exprs) {l : Line} {m : Expr} {rest : List ℕ}
       → IsLine ls v l → l .kind ≡ abbreviation m → Known ls k (const v xs) → k ≤ 4096 → At w at (cells (const v xs)) rest
-      → at + size (const v xs) ≤ unitAt limit scratchUnit → size (const v xs) ≤ limit → InResult limit room (instantiate (l .context) xs 0 m) r w′
+      → at + size (const v xs) ≤ unitAt limit scratchUnit → size (const v xs) ≤ limit → MadeAt (unitAt limit resultUnit) room (instantiate (l .context) xs 0 m) r w′
 
--- the redex of e, behind the A's fs, has become `made`
-pub record Redex (ls : Lines) (limit room : ℕ) (e : Expr) (kept r : ℕ) (w′ : List ℕ) : Type 0 where
+-- the abbreviation of line v, which takes no arguments, at index `at` becomes its middle there, if that has at most `room` cells
+pub record InPlacePost (tb ts w w′ : List ℕ) (at v room r : ℕ) : Type 0 where
+  pub outside : Outside at (at + room) w w′
+  pub refused : room < r → w′ ≡ w
+  pub answers : (r ≤ room) ⊎ (r ≡ noRoom)
+  pub made : {ls : Lines} {limit : ℕ} → Book ls limit tb ts → {l : Line} {m : Expr} → IsLine ls v l → l .kind ≡ abbreviation m → at + room ≤ length w
+      → MadeAt at room m r w′
+
+-- the redex of e, behind the A's fs, has become `made` at index `place`
+pub record Redex (ls : Lines) (place room : ℕ) (e : Expr) (kept r : ℕ) (w′ : List ℕ) : Type 0 where
   pub fs : Exprs
   pub old : Expr
   pub made : Expr
   pub was : e ≡ applied fs old
   pub becomes : left (headStep ls e) ≡ some (applied fs made)
   pub keeps : kept ≡ length (front fs)
-  pub inResult : InResult limit room made r w′
+  pub stands : MadeAt place room made r w′
 
 pub record RedexPost (tb ts w w′ : List ℕ) (limit : ℕ) (h : Head) (room r : ℕ) : Type 0 where
   pub prepared : Prepared limit room r w w′
   pub made : 128 * limit ≤ length w → room ≤ limit → {ls : Lines} → Book ls limit tb ts → (k : ℕ) (e : Expr) {start : ℕ} {rest : List ℕ}
       → KnownCategory ls k e → k ≤ 4096 → size e ≤ limit → At w start (cells e) rest → start + limit ≤ unitAt limit scratchUnit
-      → HeadIs ls start (h .kind) (h .at) (h .kept) (h .line) e → (h .kind ≡ 0 → ⊥) → Redex ls limit room e (h .kept) r w′
+      → HeadIs ls start (h .kind) (h .at) (h .kept) (h .line) e → (h .kind ≡ 0 → ⊥) → Redex ls (unitAt limit resultUnit) room e (h .kept) r w′
 
 -- ---- the step
 

@@ -1,7 +1,7 @@
 // The head step of an expression that lies in a unit of the working store.
 //
 // In prefix order the head redex of <A1>..<An>H is the last thing in the cells: what is before it stays, and only the tail
-// is made anew, in the result unit, and moved back.
+// is made anew, in the result unit, and moved back. An abbreviation that takes no arguments becomes its middle where it stands.
 mod functions;
 mod heads;
 mod steps;
@@ -12,5 +12,4 @@ pub use functions::shape_of;
 pub use functions::to_function;
 pub use heads::Head;
 pub use heads::head_of;
-pub use steps::put_in;
 pub use steps::step;

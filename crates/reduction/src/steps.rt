@@ -1,43 +1,44 @@
 // The head step itself.
 ghost use mathlib.Core.Path.{_≡_};
 ghost use Prim.Native.Nat.{ℕ, _≤_};
-ghost use Rattle.reduction.specs.Posts.{PutPost, ContractedPost, UnfoldedPost, RedexPost, StepPost};
+ghost use Rattle.reduction.specs.Posts.{ArgumentsAtPost, ContractedPost, UnfoldedPost, InPlacePost, RedexPost, StepPost};
 use crate::heads::Head;
 use cells::field;
 use cells::load;
 use cells::move_cells;
 use cells::result_at;
-use cells::scratch_at;
 use cells::skip;
+use terms::Arguments;
 use terms::NO_ROOM;
 use terms::instantiate;
 use terms::substitute;
 
-// The expression in the term cells from..end with `count` arguments, which lie from `args` on in w, put in: in the result
-// unit, in at most `room` cells. Returns its size; NO_ROOM where it has more cells.
-pub fn put_in(
-    table: &[u32],
-    store: &[u16],
-    w: &mut [u16],
-    limit: usize,
-    from: usize,
-    end: usize,
-    args: usize,
-    count: usize,
-    room: usize,
-) -> usize
-    ensures { λ r. ⌜ PutPost (now (table .entry)) (now (store .entry)) (now (w .entry)) (now (w .exit)) limit from end args count room r ⌝ }
+// The `count` arguments that lie from `at` on in w, and where each starts.
+fn arguments_at(table: &[u32], w: &[u16], at: usize, count: usize) -> Arguments
+    ensures { λ r. ⌜ ArgumentsAtPost (now (table .entry)) (now (w .entry)) at count r ⌝ }
 {
-    if limit > 4096 {
-        return NO_ROOM;
+    let mut args = Arguments {
+        base: at,
+        count: count,
+        starts: [0; 64],
+    };
+    let mut i = 0;
+    let mut next = at;
+    while i < 63 {
+        if i >= count {
+            return args;
+        }
+        next = skip(table, w, next, 1);
+        if next < at {
+            return args;
+        }
+        if next - at > 65535 {
+            return args;
+        }
+        i = i + 1;
+        args.starts[i] = (next - at) as u16;
     }
-    if end < from {
-        return NO_ROOM;
-    }
-    let scratch = scratch_at(limit);
-    let result = result_at(limit);
-    load(store, from, end - from, w, scratch);
-    instantiate(table, w, scratch, args, count, result, room)
+    args
 }
 
 // <A>[x,P]T at index `at` of w becomes T with A for x, in the result unit, in at most `room` cells. Returns its size.
@@ -76,9 +77,10 @@ fn unfolded(
         return NO_ROOM;
     }
     let from = field(table, v, 5);
-    let end = field(table, v, 6);
     let count = field(table, v, 3);
-    put_in(table, store, w, limit, from, end, at + 1, count, room)
+    let args = arguments_at(table, w, at + 1, count);
+    let result = result_at(limit);
+    instantiate(table, store, from, w, args, result, room)
 }
 
 // The redex of h, contracted or unfolded, in the result unit.
@@ -91,6 +93,31 @@ fn redex(table: &[u32], store: &[u16], w: &mut [u16], limit: usize, h: Head, roo
         return contracted(table, w, limit, h.at, room);
     }
     unfolded(table, store, w, limit, h.at, h.line, room)
+}
+
+// The abbreviation of line v, which takes no arguments, with its cell at `at`, becomes its middle, in place, if that has at most
+// `room` cells. Returns its size.
+fn unfolded_in_place(
+    table: &[u32],
+    store: &[u16],
+    w: &mut [u16],
+    at: usize,
+    v: usize,
+    room: usize,
+) -> usize
+    ensures { λ r. ⌜ InPlacePost (now (table .entry)) (now (store .entry)) (now (w .entry)) (now (w .exit)) at v room r ⌝ }
+{
+    let from = field(table, v, 5);
+    let end = field(table, v, 6);
+    if end < from {
+        return NO_ROOM;
+    }
+    let n = end - from;
+    if n > room {
+        return NO_ROOM;
+    }
+    load(store, from, n, w, at);
+    n
 }
 
 // The head step h of an expression of at most `limit` cells, in place. Returns the new size; NO_ROOM where it would have more
@@ -107,6 +134,15 @@ pub fn step(table: &[u32], store: &[u16], w: &mut [u16], limit: usize, h: Head) 
     }
     let room = limit - kept;
     let at = h.at;
+    if h.kind == 2 {
+        if field(table, h.line, 3) == 0 {
+            let m = unfolded_in_place(table, store, w, at, h.line, room);
+            if m > room {
+                return NO_ROOM;
+            }
+            return kept + m;
+        }
+    }
     let n = redex(table, store, w, limit, h, room);
     if n > room {
         return NO_ROOM;

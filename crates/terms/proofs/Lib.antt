@@ -3,3 +3,5 @@ pub mod Walk
 pub mod Turns
 pub mod Leaves
 pub mod Whole
+pub mod Arguments
+pub mod Matches

@@ -1,10 +1,10 @@
--- The turns of a walk whose sources lie below `end` in the store that it writes to, and its refusals.
+-- The turns of a walk, and its refusals. What it puts in lies below `end` in the store that it writes to; S says where it reads:
+-- there too, or in another store.
 use Prim.Native.Nat.{ℕ, suc, _+_, _-_, _≤_, _<_, _%_}
 use mathlib.Core.Path.{_≡_, refl, sym, ap, _∙_}
 use mathlib.Core.List.{List, [], _∷_, _++_, append-nil, append-assoc}
 use native.Mathlib.Omega.{arith}
 use lib.ListN.{length, getD, set, take, drop, length-append, length-take}
-use lib.Seq.{getD-take}
 use Rattle.aut68.specs.Expr.{Expr, Exprs, abs, nil, cons, firstCell, parts, cells, cellss, countExprs}
 use Rattle.cells.specs.Cells.{partsAfter, Formed, AllFormed, RightCount, At, Below}
 use Rattle.cells.specs.Forests.{cells-split, cells-long, count-long, join, cells-join, count-join, formed-join, formed-parts, parts-count, at-head, at-tail, at-length}
@@ -19,11 +19,14 @@ regroup-parts p t es rest = simp (append-assoc, append-nil)
 regroup-one : (t rest : List ℕ) → t ++ rest ≡ t ++ [] ++ rest
 regroup-one t rest = simp append-nil
 
+pub take-short : (end : ℕ) (w : List ℕ) → length (take end w) ≤ end
+take-short end w = omega (arith, length-take end w)
+
 -- ---- the two parts of an abstraction at i
 
-module _ {top : ℕ} {P : List ℕ → Choice → Type 0} {tb s : List ℕ} {i : ℕ} (cut : ℕ) (k : Choice) (pk : P s k) (p t : Expr) (es : Exprs) (rest : List ℕ)
+module _ {top : ℕ} {P : List ℕ → Choice → Type 0} {tb low s : List ℕ} {i : ℕ} (cut : ℕ) (k : Choice) (pk : P low k) (p t : Expr) (es : Exprs) (rest : List ℕ)
     (f : Fit tb k (abs p t)) (a : At s i (cells (abs p t) ++ cellss es) rest) (b : Below top (cells (graft k cut (abs p t)))) where
-  domain-grafted : {w w′ : List ℕ} {to j at : ℕ} → GraftPost top P tb s w w′ (i + 1) 1 to cut j at
+  domain-grafted : {w w′ : List ℕ} {to j at : ℕ} → GraftPost top P tb low s w w′ (i + 1) 1 to cut j at
       → Grafted s w w′ (cells t ++ (cellss es ++ rest)) (cells (graft k cut p)) to j at
   unfolding Formed AllFormed countExprs cells cellss Below
   domain-grafted A =
@@ -33,7 +36,7 @@ module _ {top : ℕ} {P : List ℕ → Choice → Type 0} {tb s : List ℕ} {i :
       (record { is = at-tail s i _ _ (a .is) ∙ regroup-parts (cells p) (cells t) (cellss es) rest })
       (rw (one-cells k cut p) (below-front top (cells (graft k cut p)) _ (b′ .1))))
 
-  body-grafted : {w w′ : List ℕ} {from to j at : ℕ} → At s from [] (cells t ++ (cellss es ++ rest)) → GraftPost top P tb s w w′ from 1 to (cut + 1) j at
+  body-grafted : {w w′ : List ℕ} {from to j at : ℕ} → At s from [] (cells t ++ (cellss es ++ rest)) → GraftPost top P tb low s w w′ from 1 to (cut + 1) j at
       → Grafted s w w′ (cellss es ++ rest) (cells (graft k (cut + 1) t)) to j at
   unfolding Formed AllFormed countExprs cellss Below
   body-grafted q B =
@@ -43,132 +46,135 @@ module _ {top : ℕ} {P : List ℕ → Choice → Type 0} {tb s : List ℕ} {i :
       (record { is = q .is ∙ regroup-one (cells t) (cellss es ++ rest) })
       (rw (one-cells k (cut + 1) t) (below-back top (cells (graft k cut p)) _ (b′ .1))))
 
-module _ {top : ℕ} {P : List ℕ → Choice → Type 0} {tb : List ℕ} {end from n : ℕ} {w₀ : List ℕ} {to cut : ℕ} (fz : end ≤ to) where
-  -- a cell below `end` is the source's
-  reads : {w : List ℕ} {i at left : ℕ} → Inv top P tb (take end w₀) from n w₀ to cut w i at left → i < end → getD w i 0 ≡ getD (take end w₀) i 0
-  reads {w} {i} I h = sym (getD-take end w i 0 h) ∙ ap (λ (l : List ℕ). getD l i 0) (kept-below end fz (I .kept))
+module _ {top : ℕ} {P : List ℕ → Choice → Type 0} {tb : List ℕ} {end from n : ℕ} {w₀ : List ℕ} {to cut : ℕ} (S : List ℕ → List ℕ) (fz : end ≤ to) where
+  -- the source is as it was
+  reads : {w : List ℕ} {x i at left : ℕ} → Inv top P tb (take end w₀) (S (take end w₀)) from n w₀ to cut w i at left → x ≡ getD (S (take end w)) i 0
+      → x ≡ getD (S (take end w₀)) i 0
+  reads {i = i} I h = h ∙ ap (λ (l : List ℕ). getD (S l) i 0) (kept-below end fz (I .kept))
 
   -- the source ends before the pending expressions do: that is not met
-  pub stop-source : {w : List ℕ} {i at left : ℕ} → Inv top P tb (take end w₀) from n w₀ to cut w i at left → end - i < left
-      → GraftPost top P tb (take end w₀) w₀ w from n to cut i (length w + 1)
-  stop-source {w} {i} {at} {left} I l =
+  pub stop-source : {w : List ℕ} {i at left : ℕ} → Inv top P tb (take end w₀) (S (take end w₀)) from n w₀ to cut w i at left
+      → (m : ℕ) → length (S (take end w₀)) ≤ m → m - i < left
+      → GraftPost top P tb (take end w₀) (S (take end w₀)) w₀ w from n to cut i (length w + 1)
+  stop-source {w} {i} {at} {left} I m h l =
       stopped I (omega arith) kept-none λ k pk e es rest c f fs a b.
-      absurd (omega (arith, at-length a, length-append (cells e) (cellss es), cells-long e, count-long es, length-take end w₀))
+      absurd (omega (arith, at-length a, length-append (cells e) (cellss es), cells-long e, count-long es))
 
   -- the store is full
-  pub stop-full : {w : List ℕ} {i at left : ℕ} → Inv top P tb (take end w₀) from n w₀ to cut w i at left → 0 < left → length w ≤ at
-      → GraftPost top P tb (take end w₀) w₀ w from n to cut i (length w + 1)
+  pub stop-full : {w : List ℕ} {i at left : ℕ} → Inv top P tb (take end w₀) (S (take end w₀)) from n w₀ to cut w i at left → 0 < left → length w ≤ at
+      → GraftPost top P tb (take end w₀) (S (take end w₀)) w₀ w from n to cut i (length w + 1)
   stop-full {w} {i} {at} {left} I pos l =
       stopped I pos kept-none λ k pk e es rest c f fs a b.
       record { us = cells (graft k cut e); full = full-here l (cells-long (graft k cut e)); tail = []; same = sym (append-nil _) }
 
   -- a constant or an application: its cell
-  pub turn-branch : {w : List ℕ} {i at left : ℕ} → Inv top P tb (take end w₀) from n w₀ to cut w i at left → 0 < left → at < length w → i < end → 3 ≤ getD w i 0 % 8
-      → (getD w i 0 % 8 ≡ 5 → ⊥) → Inv top P tb (take end w₀) from n w₀ to cut (set w at (getD w i 0)) (i + 1) (at + 1) (left - 1 + partsAfter tb (getD w i 0))
-  turn-branch {w} {i} {at} {left} I pos inw h ge ne =
-      stepped I pos (omega arith) (omega arith) (omega arith) (kept-one (getD w i 0)) λ k pk e es rest c f fs a b.
-      let s = take end w₀ in
+  pub turn-branch : {w : List ℕ} {x i at left : ℕ} → Inv top P tb (take end w₀) (S (take end w₀)) from n w₀ to cut w i at left → 0 < left → at < length w → x ≡ getD (S (take end w)) i 0
+      → 3 ≤ x % 8 → (x % 8 ≡ 5 → ⊥)
+      → Inv top P tb (take end w₀) (S (take end w₀)) from n w₀ to cut (set w at x) (i + 1) (at + 1) (left - 1 + partsAfter tb x)
+  turn-branch {w} {x} {i} {at} {left} I pos inw h ge ne =
+      stepped I pos (omega arith) (omega arith) (omega arith) (kept-one x) λ k pk e es rest c f fs a b.
+      let s = S (take end w₀) in
       let a′ : drop i s ≡ firstCell e ∷ (cellss (parts e) ++ cellss es ++ rest) = a .is ∙ rw (cells-split e) in
-      let x : getD w i 0 ≡ firstCell e = reads I h ∙ at-head s i _ _ a′ in
+      let q : x ≡ firstCell e = reads I h ∙ at-head s i _ _ a′ in
       record {
         todo = join (parts e) es;
-        counted = rw (x, parts-count (Allowed tb k) tb e f, count-join) (omega arith);
+        counted = rw (q, parts-count (Allowed tb k) tb e f, count-join) (omega arith);
         fit = formed-join (Allowed tb k) (RightCount tb) (parts e) es (formed-parts (Allowed tb k) (RightCount tb) e f) fs;
         lies = record { is = rw cells-join (at-tail s i _ _ a′) };
-        us = getD w i 0 ∷ [];
+        us = x ∷ [];
         wrote = wrote-one inw;
-        same = rw (branch-cells k cut e (rw x at ge) (rw x at ne), grafts-join, cells-join, x);
+        same = rw (branch-cells k cut e (rw q at ge) (rw q at ne), grafts-join, cells-join, q);
       }
 
-  module _ {w w′ : List ℕ} {i at at′ left : ℕ} (I : Inv top P tb (take end w₀) from n w₀ to cut w i at left) (pos : 0 < left) (h : i < end) (lf : getD w i 0 % 8 < 3)
-      (R : LeafPost top (P (take end w)) tb w w′ (getD w i 0) at cut at′) where
-    leaf-written : Each top P tb (take end w₀) cut i left (λ k e es rest. (firstCell e ≡ getD w i 0) × Written w w′ at at′ (cells (graft k cut e)))
+  module _ {w w′ : List ℕ} {x i at at′ left : ℕ} (I : Inv top P tb (take end w₀) (S (take end w₀)) from n w₀ to cut w i at left) (pos : 0 < left)
+      (h : x ≡ getD (S (take end w)) i 0) (lf : x % 8 < 3) (R : LeafPost top (P (take end w)) tb w w′ x at cut at′) where
+    leaf-written : Each top P tb (take end w₀) (S (take end w₀)) cut i left (λ k e es rest. (firstCell e ≡ x) × Written w w′ at at′ (cells (graft k cut e)))
     leaf-written k pk e es rest c f fs a b =
-        let x : firstCell e ≡ getD w i 0 = sym (reads I h ∙ first-at (take end w₀) i e (cellss es) rest a) in
+        let q : firstCell e ≡ x = sym (reads I h ∙ first-at (S (take end w₀)) i e (cellss es) rest a) in
         let pk′ : P (take end w) k = rw (kept-below end fz (I .kept)) pk in
-        (x, R .means k pk′ e x f b)
+        (q, R .means k pk′ e q f b)
 
     -- a leaf: what stands for it
-    pub turn-leaf : at′ ≤ length w′ → Inv top P tb (take end w₀) from n w₀ to cut w′ (i + 1) at′ (left - 1)
+    pub turn-leaf : at′ ≤ length w′ → Inv top P tb (take end w₀) (S (take end w₀)) from n w₀ to cut w′ (i + 1) at′ (left - 1)
     turn-leaf l =
         stepped I pos (omega arith) (R .ahead) (omega (arith, R .kept .long)) (R .kept) λ k pk e es rest c f fs a b.
-        let (x, W) = leaf-written k pk e es rest c f fs a b in
+        let (q, W) = leaf-written k pk e es rest c f fs a b in
         record {
           todo = es;
           counted = omega arith;
           fit = fs;
-          lies = record { is = leaf-at (take end w₀) i e (cellss es ++ rest) (rw x lf) (a .is ∙ append-assoc (cells e) (cellss es) rest) };
+          lies = record { is = leaf-at (S (take end w₀)) i e (cellss es ++ rest) (rw q lf) (a .is ∙ append-assoc (cells e) (cellss es) rest) };
           us = cells (graft k cut e);
           wrote = W .whole (omega (arith, R .kept .long));
           same = refl;
         }
 
-    pub stop-leaf : length w′ < at′ → GraftPost top P tb (take end w₀) w₀ w′ from n to cut i (length w′ + 1)
+    pub stop-leaf : length w′ < at′ → GraftPost top P tb (take end w₀) (S (take end w₀)) w₀ w′ from n to cut i (length w′ + 1)
     stop-leaf l =
         stopped I pos (R .kept) λ k pk e es rest c f fs a b.
-        let (x, W) = leaf-written k pk e es rest c f fs a b in
+        let (q, W) = leaf-written k pk e es rest c f fs a b in
         record { us = cells (graft k cut e); full = W .full (omega (arith, R .kept .long)); tail = []; same = sym (append-nil _) }
 
   -- an abstraction: its cell, its domain, its body one binding deeper
-  module _ {w w₁ : List ℕ} {i at left i₁ at₁ : ℕ} (I : Inv top P tb (take end w₀) from n w₀ to cut w i at left) (pos : 0 < left) (inw : at < length w) (h : i < end)
-      (is5 : getD w i 0 % 8 ≡ 5)
-      (A : GraftPost top P tb (take end (set w at (getD w i 0))) (set w at (getD w i 0)) w₁ (i + 1) 1 (at + 1) cut i₁ at₁) where
+  module _ {w w₁ : List ℕ} {x i at left i₁ at₁ : ℕ} (I : Inv top P tb (take end w₀) (S (take end w₀)) from n w₀ to cut w i at left) (pos : 0 < left)
+      (inw : at < length w) (h : x ≡ getD (S (take end w)) i 0) (is5 : x % 8 ≡ 5)
+      (A : GraftPost top P tb (take end (set w at x)) (S (take end (set w at x))) (set w at x) w₁ (i + 1) 1 (at + 1) cut i₁ at₁) where
     pub kept-domain : Kept w w₁ at
-    kept-domain = kept-more (omega arith) (kept-one (getD w i 0)) (A .kept)
+    kept-domain = kept-more (omega arith) (kept-one x) (A .kept)
 
-    domain-post : GraftPost top P tb (take end w₀) (set w at (getD w i 0)) w₁ (i + 1) 1 (at + 1) cut i₁ at₁
-    domain-post = rw (kept-below end fz (kept-more (I .ahead) (I .kept) (kept-one (getD w i 0)))) at A
+    domain-post : GraftPost top P tb (take end w₀) (S (take end w₀)) (set w at x) w₁ (i + 1) 1 (at + 1) cut i₁ at₁
+    domain-post = rw (kept-below end fz (kept-more (I .ahead) (I .kept) (kept-one x))) at A
 
     -- what is so of every abstraction is so of the first pending expression
     of-first : (G : Choice → Expr → Exprs → List ℕ → Type 0)
-        → ((k : Choice) → P (take end w₀) k → (p t : Expr) (es : Exprs) (rest : List ℕ) → suc (countExprs es) ≡ left → getD w i 0 ≡ 5 → Fit tb k (abs p t) → Fits tb k es
-        → At (take end w₀) i (cells (abs p t) ++ cellss es) rest → Below top (cells (graft k cut (abs p t))) → G k (abs p t) es rest)
-        → Each top P tb (take end w₀) cut i left G
+        → ((k : Choice) → P (take end w₀) k → (p t : Expr) (es : Exprs) (rest : List ℕ) → suc (countExprs es) ≡ left → x ≡ 5 → Fit tb k (abs p t) → Fits tb k es
+        → At (S (take end w₀)) i (cells (abs p t) ++ cellss es) rest → Below top (cells (graft k cut (abs p t))) → G k (abs p t) es rest)
+        → Each top P tb (take end w₀) (S (take end w₀)) cut i left G
     unfolding firstCell
     of-first G g k pk e es rest c f fs a b =
-        let x : getD w i 0 ≡ firstCell e = reads I h ∙ first-at (take end w₀) i e (cellss es) rest a in
-        of-abstraction (λ e. getD w i 0 ≡ firstCell e → Fit tb k e → At (take end w₀) i (cells e ++ cellss es) rest → Below top (cells (graft k cut e)) → G k e es rest)
-        (λ p t x₁ f₁ a₁ b₁. g k pk p t es rest c x₁ f₁ fs a₁ b₁) e (rw x at is5) x f a b
+        let q : x ≡ firstCell e = reads I h ∙ first-at (S (take end w₀)) i e (cellss es) rest a in
+        of-abstraction (λ e. x ≡ firstCell e → Fit tb k e → At (S (take end w₀)) i (cells e ++ cellss es) rest → Below top (cells (graft k cut e)) → G k e es rest)
+        (λ p t x₁ f₁ a₁ b₁. g k pk p t es rest c x₁ f₁ fs a₁ b₁) e (rw q at is5) q f a b
 
     -- no room for the domain
-    pub stop-domain : length w₁ < at₁ → GraftPost top P tb (take end w₀) w₀ w₁ from n to cut i (length w₁ + 1)
+    pub stop-domain : length w₁ < at₁ → GraftPost top P tb (take end w₀) (S (take end w₀)) w₀ w₁ from n to cut i (length w₁ + 1)
     stop-domain l =
-        stopped I pos kept-domain (of-first (λ k e es rest. Last cut k e w w₁ at) λ k pk p t es rest c x f fs a b.
+        stopped I pos kept-domain (of-first (λ k e es rest. Last cut k e w w₁ at) λ k pk p t es rest c q f fs a b.
         let D = domain-grafted cut k pk p t es rest f a b domain-post in
         record {
-          us = (getD w i 0 ∷ []) ++ cells (graft k cut p);
+          us = (x ∷ []) ++ cells (graft k cut p);
           full = full-more (wrote-one inw) (D .written .full (omega (arith, A .kept .long)));
           tail = cells (graft k (cut + 1) t);
-          same = rw (abs-cells k cut p t, x);
+          same = rw (abs-cells k cut p t, q);
         })
 
-    module _ {w₂ : List ℕ} {i₂ at₂ : ℕ} (l : at₁ ≤ length w₁) (B : GraftPost top P tb (take end w₁) w₁ w₂ i₁ 1 at₁ (cut + 1) i₂ at₂) where
+    module _ {w₂ : List ℕ} {i₂ at₂ : ℕ} (l : at₁ ≤ length w₁) (B : GraftPost top P tb (take end w₁) (S (take end w₁)) w₁ w₂ i₁ 1 at₁ (cut + 1) i₂ at₂) where
       pub kept-body : Kept w w₂ at
       kept-body = kept-more (omega (arith, A .ahead)) kept-domain (B .kept)
 
-      body-post : GraftPost top P tb (take end w₀) w₁ w₂ i₁ 1 at₁ (cut + 1) i₂ at₂
+      body-post : GraftPost top P tb (take end w₀) (S (take end w₀)) w₁ w₂ i₁ 1 at₁ (cut + 1) i₂ at₂
       body-post = rw (kept-below end fz (kept-more (I .ahead) (I .kept) kept-domain)) at B
 
       -- no room for the body
-      pub stop-body : length w₂ < at₂ → GraftPost top P tb (take end w₀) w₀ w₂ from n to cut i (length w₂ + 1)
+      pub stop-body : length w₂ < at₂ → GraftPost top P tb (take end w₀) (S (take end w₀)) w₀ w₂ from n to cut i (length w₂ + 1)
       stop-body m =
-          stopped I pos kept-body (of-first (λ k e es rest. Last cut k e w w₂ at) λ k pk p t es rest c x f fs a b.
+          stopped I pos kept-body (of-first (λ k e es rest. Last cut k e w w₂ at) λ k pk p t es rest c q f fs a b.
           let D = domain-grafted cut k pk p t es rest f a b domain-post in
-          let l′ : at₁ ≤ length (set w at (getD w i 0)) = omega (arith, A .kept .long) in
+          let l′ : at₁ ≤ length (set w at x) = omega (arith, A .kept .long) in
           let E = body-grafted cut k pk p t es rest f a b (D .read l′) body-post in
           record {
-            us = (getD w i 0 ∷ []) ++ cells (graft k cut p) ++ cells (graft k (cut + 1) t);
+            us = (x ∷ []) ++ cells (graft k cut p) ++ cells (graft k (cut + 1) t);
             full = full-more (wrote-more (wrote-one inw) (D .written .whole l′)) (E .written .full (omega (arith, B .kept .long)));
             tail = [];
-            same = rw (abs-cells k cut p t, x) (sym (append-nil _));
+            same = rw (abs-cells k cut p t, q) (sym (append-nil _));
           })
 
-      pub turn-abstraction : at₂ ≤ length w₂ → Inv top P tb (take end w₀) from n w₀ to cut w₂ i₂ at₂ (left - 1)
+      pub turn-abstraction : at₂ ≤ length w₂ → Inv top P tb (take end w₀) (S (take end w₀)) from n w₀ to cut w₂ i₂ at₂ (left - 1)
       turn-abstraction m =
           stepped I pos (omega (arith, A .past, B .past)) (omega (arith, A .ahead, B .ahead)) (omega (arith, kept-body .long)) kept-body
-          (of-first (λ k e es rest. Turn tb (take end w₀) cut k e es rest w w₂ i₂ at at₂ (left - 1)) λ k pk p t es rest c x f fs a b.
+          (of-first (λ k e es rest. Turn tb (S (take end w₀)) cut k e es rest w w₂ i₂ at at₂ (left - 1)) λ k pk p t es rest c q f fs a b.
           let D = domain-grafted cut k pk p t es rest f a b domain-post in
-          let l′ : at₁ ≤ length (set w at (getD w i 0)) = omega (arith, A .kept .long) in
+          let l′ : at₁ ≤ length (set w at x) = omega (arith, A .kept .long) in
           let E = body-grafted cut k pk p t es rest f a b (D .read l′) body-post in
           let m′ : at₂ ≤ length w₁ = omega (arith, B .kept .long) in
           record {
@@ -176,7 +182,7 @@ module _ {top : ℕ} {P : List ℕ → Choice → Type 0} {tb : List ℕ} {end f
             counted = omega arith;
             fit = fs;
             lies = record { is = E .read m′ .is };
-            us = (getD w i 0 ∷ []) ++ cells (graft k cut p) ++ cells (graft k (cut + 1) t);
+            us = (x ∷ []) ++ cells (graft k cut p) ++ cells (graft k (cut + 1) t);
             wrote = wrote-more (wrote-more (wrote-one inw) (D .written .whole l′)) (E .written .whole m′);
-            same = rw (abs-cells k cut p t, x);
+            same = rw (abs-cells k cut p t, q);
           })

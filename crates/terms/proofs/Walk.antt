@@ -50,7 +50,7 @@ first-at s i e l rest a = at-head s i (firstCell e) (cellss (parts e) ++ l ++ re
 
 -- ---- the invariant
 
-module _ (top : ℕ) (P : List ℕ → Choice → Type 0) (tb s : List ℕ) (from n : ℕ) (w₀ : List ℕ) (to cut : ℕ) where
+module _ (top : ℕ) (P : List ℕ → Choice → Type 0) (tb low s : List ℕ) (from n : ℕ) (w₀ : List ℕ) (to cut : ℕ) where
   -- what is left to do of the forest es, and what is written of its result
   pub record Left (k : Choice) (es : Exprs) (rest w : List ℕ) (i at left : ℕ) : Type 0 where
     pub todo : Exprs
@@ -66,7 +66,7 @@ module _ (top : ℕ) (P : List ℕ → Choice → Type 0) (tb s : List ℕ) (fro
     pub ahead : to ≤ at
     pub room : at ≤ length w₀
     pub kept : Kept w₀ w to
-    pub means : (k : Choice) → P s k → (es : Exprs) (rest : List ℕ) → countExprs es ≡ n → Fits tb k es → At s from (cellss es) rest
+    pub means : (k : Choice) → P low k → (es : Exprs) (rest : List ℕ) → countExprs es ≡ n → Fits tb k es → At s from (cellss es) rest
         → Below top (cellss (grafts k cut es)) → Left k es rest w i at left
 
 -- the first pending expression is e, the others are es: us is written, for e or for its cell
@@ -87,13 +87,13 @@ pub record Last (cut : ℕ) (k : Choice) (e : Expr) (w w′ : List ℕ) (at : �
   pub same : cells (graft k cut e) ≡ us ++ tail
 
 -- whatever the choice and the pending expressions are
-abbrev pub Each : (top : ℕ) (P : List ℕ → Choice → Type 0) (tb s : List ℕ) (cut i left : ℕ) → (Choice → Expr → Exprs → List ℕ → Type 0) → Type 0
-Each top P tb s cut i left R =
-    (k : Choice) → P s k → (e : Expr) (es : Exprs) (rest : List ℕ) → suc (countExprs es) ≡ left → Fit tb k e → Fits tb k es → At s i (cells e ++ cellss es) rest
+abbrev pub Each : (top : ℕ) (P : List ℕ → Choice → Type 0) (tb low s : List ℕ) (cut i left : ℕ) → (Choice → Expr → Exprs → List ℕ → Type 0) → Type 0
+Each top P tb low s cut i left R =
+    (k : Choice) → P low k → (e : Expr) (es : Exprs) (rest : List ℕ) → suc (countExprs es) ≡ left → Fit tb k e → Fits tb k es → At s i (cells e ++ cellss es) rest
     → Below top (cells (graft k cut e)) → R k e es rest
 
-module _ {top : ℕ} {P : List ℕ → Choice → Type 0} {tb s : List ℕ} {from n : ℕ} {w₀ : List ℕ} {to cut : ℕ} where
-  pub start : to ≤ length w₀ → Inv top P tb s from n w₀ to cut w₀ from to n
+module _ {top : ℕ} {P : List ℕ → Choice → Type 0} {tb low s : List ℕ} {from n : ℕ} {w₀ : List ℕ} {to cut : ℕ} where
+  pub start : to ≤ length w₀ → Inv top P tb low s from n w₀ to cut w₀ from to n
   start h = record {
     past = omega arith;
     ahead = omega arith;
@@ -103,8 +103,8 @@ module _ {top : ℕ} {P : List ℕ → Choice → Type 0} {tb s : List ℕ} {fro
   }
 
   -- what the invariant says of the first pending expression
-  first-pending : {w : List ℕ} {i at left : ℕ} (R : Choice → Expr → Exprs → List ℕ → Type 0) (G : Type 0) → Inv top P tb s from n w₀ to cut w i at left → 0 < left
-      → Each top P tb s cut i left R → (k : Choice) → P s k → (es : Exprs) (rest : List ℕ) → countExprs es ≡ n → Fits tb k es → At s from (cellss es) rest
+  first-pending : {w : List ℕ} {i at left : ℕ} (R : Choice → Expr → Exprs → List ℕ → Type 0) (G : Type 0) → Inv top P tb low s from n w₀ to cut w i at left → 0 < left
+      → Each top P tb low s cut i left R → (k : Choice) → P low k → (es : Exprs) (rest : List ℕ) → countExprs es ≡ n → Fits tb k es → At s from (cellss es) rest
       → Below top (cellss (grafts k cut es))
       → ((e : Expr) (td : Exprs) (vs : List ℕ) → Wrote w₀ w to at vs → cellss (grafts k cut es) ≡ vs ++ (cells (graft k cut e) ++ cellss (grafts k cut td)) → R k e td rest → G)
       → G
@@ -121,15 +121,15 @@ module _ {top : ℕ} {P : List ℕ → Choice → Type 0} {tb s : List ℕ} {fro
           g e td vs W sm′ (st k pk e td rest c′ (f′ .0) (f′ .1) a′ (below-front top (cells (graft k cut e)) _ b′))
 
   -- a turn
-  pub stepped : {w w′ : List ℕ} {i i′ at at′ left left′ : ℕ} → Inv top P tb s from n w₀ to cut w i at left → 0 < left → i ≤ i′ → at ≤ at′ → at′ ≤ length w → Kept w w′ at
-      → Each top P tb s cut i left (λ k e es rest. Turn tb s cut k e es rest w w′ i′ at at′ left′) → Inv top P tb s from n w₀ to cut w′ i′ at′ left′
+  pub stepped : {w w′ : List ℕ} {i i′ at at′ left left′ : ℕ} → Inv top P tb low s from n w₀ to cut w i at left → 0 < left → i ≤ i′ → at ≤ at′ → at′ ≤ length w → Kept w w′ at
+      → Each top P tb low s cut i left (λ k e es rest. Turn tb s cut k e es rest w w′ i′ at at′ left′) → Inv top P tb low s from n w₀ to cut w′ i′ at′ left′
   stepped {w} {w′} {i} {i′} {at} {at′} {left} {left′} I pos le le′ rm K st = record {
     past = omega (arith, I .past);
     ahead = omega (arith, I .ahead);
     room = omega (arith, I .kept .long);
     kept = kept-more (I .ahead) (I .kept) K;
     means = λ k pk es rest c f a b.
-        first-pending (λ k e es rest. Turn tb s cut k e es rest w w′ i′ at at′ left′) (Left top P tb s from n w₀ to cut k es rest w′ i′ at′ left′) I pos st k pk es rest c f a b
+        first-pending (λ k e es rest. Turn tb s cut k e es rest w w′ i′ at at′ left′) (Left top P tb low s from n w₀ to cut k es rest w′ i′ at′ left′) I pos st k pk es rest c f a b
         λ e td vs W sm T. record {
           todo = T .todo;
           counted = T .counted;
@@ -142,8 +142,8 @@ module _ {top : ℕ} {P : List ℕ → Choice → Type 0} {tb s : List ℕ} {fro
   }
 
   -- the walk ends for want of room
-  pub stopped : {w w′ : List ℕ} {i at left : ℕ} → Inv top P tb s from n w₀ to cut w i at left → 0 < left → Kept w w′ at
-      → Each top P tb s cut i left (λ k e es rest. Last cut k e w w′ at) → GraftPost top P tb s w₀ w′ from n to cut i (length w′ + 1)
+  pub stopped : {w w′ : List ℕ} {i at left : ℕ} → Inv top P tb low s from n w₀ to cut w i at left → 0 < left → Kept w w′ at
+      → Each top P tb low s cut i left (λ k e es rest. Last cut k e w w′ at) → GraftPost top P tb low s w₀ w′ from n to cut i (length w′ + 1)
   stopped {w} {w′} {i} {at} {left} I pos K st = record {
     past = I .past;
     ahead = omega (arith, I .ahead, I .room, I .kept .long, K .long);
@@ -164,7 +164,7 @@ module _ {top : ℕ} {P : List ℕ → Choice → Type 0} {tb s : List ℕ} {fro
   }
 
   -- all is written
-  pub finish : {w : List ℕ} {i at left : ℕ} → Inv top P tb s from n w₀ to cut w i at left → left ≡ 0 → GraftPost top P tb s w₀ w from n to cut i at
+  pub finish : {w : List ℕ} {i at left : ℕ} → Inv top P tb low s from n w₀ to cut w i at left → left ≡ 0 → GraftPost top P tb low s w₀ w from n to cut i at
   unfolding countExprs cellss
   finish {w} {i} {at} {left} I z = record {
     past = I .past;

@@ -11,7 +11,7 @@ use Rattle.cells.specs.Cells.{AllFormed, At, Below, Outside}
 use Rattle.cells.specs.Forests.{size-is-length, at-one}
 use Rattle.cells.specs.Stores.{outside-same}
 use Rattle.terms.specs.Made.{noRoom, RaisePost, SubstitutePost, InstantiatePost}
-use Rattle.terms.specs.Grafts.{Choice, lifting, substituting, instantiating, graft, Fit, Raises, raises, Puts, puts-bound, puts-variables, Kept, Written, GraftPost, WholePost}
+use Rattle.terms.specs.Grafts.{Choice, lifting, substituting, instantiating, graft, Fit, Raises, raises, Substitutes, substitutes-one, Instantiates, instantiates-all, Kept, Written, GraftPost, WholePost}
 use Rattle.terms.proofs.Walk.{one-cells}
 
 -- writes within the front of a list
@@ -73,18 +73,18 @@ module _ (w : List ℕ) (to room : ℕ) {p : List ℕ} (h : to + room ≤ length
         part-sets (take room vs) (omega (arith, length-take-le room vs m)) (F .is ∙ ap (λ (k : ℕ). sets (take (to + room) w) to (take k vs)) e),
       )
 
--- the part of the store that the walk is lent has its sources where the whole has them
-module _ (w : List ℕ) (to room : ℕ) {top : ℕ} {P : List ℕ → Choice → Type 0} {tb p : List ℕ} {e i at : ℕ} (h : to + room ≤ length w)
-    (G : GraftPost top P tb (take to (take (to + room) w)) (take (to + room) w) p e 1 to 0 i at) where
-  walked : (k : Choice) → P (take to w) k → (x : Expr) (rest : List ℕ) → Fit tb k x → At (take to w) e (cells x) rest → Below top (cells (graft k 0 x))
+-- the part of the store that the walk is lent has its sources where the whole has them; S says where it reads
+module _ (S : List ℕ → List ℕ) (w : List ℕ) (to room : ℕ) {top : ℕ} {P : List ℕ → Choice → Type 0} {tb p : List ℕ} {e i at : ℕ} (h : to + room ≤ length w)
+    (G : GraftPost top P tb (take to (take (to + room) w)) (S (take to (take (to + room) w))) (take (to + room) w) p e 1 to 0 i at) where
+  walked : (k : Choice) → P (take to w) k → (x : Expr) (rest : List ℕ) → Fit tb k x → At (S (take to w)) e (cells x) rest → Below top (cells (graft k 0 x))
       → Written (take (to + room) w) p to at (cells (graft k 0 x))
   unfolding countExprs AllFormed
   walked k pk x rest f a b =
       let q : take to (take (to + room) w) ≡ take to w = take-take to (to + room) w (omega arith) in
-      let G′ : GraftPost top P tb (take to w) (take (to + room) w) p e 1 to 0 i at = rw q at G in
+      let G′ : GraftPost top P tb (take to w) (S (take to w)) (take (to + room) w) p e 1 to 0 i at = rw q at G in
       rw (one-cells k 0 x) at (G′ .means k pk (cons x nil) rest refl (f, tt) (at-one x a) (rw (one-cells k 0 x) b) .written)
 
-  pub whole-made : at ≤ to + room → WholePost top P tb w (p ++ drop (to + room) w) e to room (at - to)
+  pub whole-made : at ≤ to + room → WholePost top P tb (S (take to w)) w (p ++ drop (to + room) w) e to room (at - to)
   whole-made l = record {
     confined = record { outside = part-outside w to room h (G .kept); answers = inl (omega arith) };
     made = λ k pk x rest h′ f a b.
@@ -96,7 +96,7 @@ module _ (w : List ℕ) (to room : ℕ) {top : ℕ} {P : List ℕ → Choice →
         };
   }
 
-  pub whole-full : to + room < at → WholePost top P tb w (p ++ drop (to + room) w) e to room 65536
+  pub whole-full : to + room < at → WholePost top P tb (S (take to w)) w (p ++ drop (to + room) w) e to room 65536
   unfolding noRoom
   whole-full l = record {
     confined = record { outside = part-outside w to room h (G .kept); answers = inr refl };
@@ -106,7 +106,7 @@ module _ (w : List ℕ) (to room : ℕ) {top : ℕ} {P : List ℕ → Choice →
   }
 
 -- the room is not within the store
-pub whole-none : {top : ℕ} {P : List ℕ → Choice → Type 0} {tb w : List ℕ} {e to room : ℕ} → length w < to + room → WholePost top P tb w w e to room 65536
+pub whole-none : {top : ℕ} {P : List ℕ → Choice → Type 0} {tb s w : List ℕ} {e to room : ℕ} → length w < to + room → WholePost top P tb s w w e to room 65536
 unfolding noRoom
 whole-none h = record {
   confined = record { outside = outside-same; answers = inr refl };
@@ -115,21 +115,21 @@ whole-none h = record {
 
 -- ---- what the three choices make
 
-pub raise-post : {tb w w′ : List ℕ} {e d to room r : ℕ} → WholePost 65536 (Raises d) tb w w′ e to room r → RaisePost tb w w′ e d to room r
+pub raise-post : {tb w w′ : List ℕ} {e d to room r : ℕ} → WholePost 65536 (Raises d) tb (take to w) w w′ e to room r → RaisePost tb w w′ e d to room r
 unfolding graft
 raise-post {d = d} W = record { confined = W .confined; made = λ x rest h f a b. W .made (lifting d) raises x rest h f a b }
 
-pub substitute-post : {tb w w′ : List ℕ} {t a count to room r : ℕ} → WholePost 65536 (Puts tb 1 a count) tb w w′ t to room r → SubstitutePost tb w w′ t a to room r
+pub substitute-post : {tb w w′ : List ℕ} {t a to room r : ℕ} → WholePost 65536 (Substitutes tb a) tb (take to w) w w′ t to room r → SubstitutePost tb w w′ t a to room r
 unfolding graft
 substitute-post W = record {
   confined = W .confined;
-  made = λ x y rx ry h wx wy ax ay b. W .made (substituting y) (puts-bound refl wy ay) x rx h wx ax b;
+  made = λ x y rx ry h wx wy ax ay b. W .made (substituting y) (substitutes-one wy ay) x rx h wx ax b;
 }
 
-pub instantiate-post : {tb w w′ : List ℕ} {e args count to room r : ℕ} → WholePost 65536 (Puts tb 2 args count) tb w w′ e to room r
-    → InstantiatePost tb w w′ e args count to room r
+pub instantiate-post : {tb s w w′ : List ℕ} {e base count : ℕ} {starts : List ℕ} {to room r : ℕ}
+    → WholePost 65536 (Instantiates tb base count starts) tb s w w′ e to room r → InstantiatePost tb s w w′ e base count starts to room r
 unfolding graft
 instantiate-post W = record {
   confined = W .confined;
-  made = λ vs xs x rx ra h fx wxs c ax axs b. W .made (instantiating vs xs) (puts-variables refl wxs c axs) x rx h fx ax b;
+  made = λ vs xs x rx h fx A ax b. W .made (instantiating vs xs) (instantiates-all A) x rx h fx ax b;
 }

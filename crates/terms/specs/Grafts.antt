@@ -1,15 +1,15 @@
 -- Lifting, substitution and instantiation as one walk over an expression: they differ at its leaves alone (`type`, a variable,
 -- a bound variable). What the walk says of a forest of expressions and of a leaf.
 use mathlib.Core.Path.{_≡_, refl}
-use mathlib.Core.List.{List, []}
-use Prim.Native.Nat.{ℕ, _+_, _-_, _≤_, _<_}
-use lib.ListN.{length, take}
+use mathlib.Core.List.{List, [], _∷_}
+use Prim.Native.Nat.{ℕ, _+_, _-_, _%_, _≤_, _<_}
+use lib.ListN.{length, take, drop}
 use lib.Seq.{sets}
 use native.Mathlib.Numerals.{add-one}
-use Rattle.aut68.specs.Expr.{Expr, Exprs, const, app, abs, nil, cons, firstCell, cells, cellss, countExprs}
+use Rattle.aut68.specs.Expr.{Expr, Exprs, const, app, abs, nil, cons, firstCell, parts, cells, cellss, countExprs}
 use Rattle.aut68.specs.Substitution.{lift, lifts, substitute, substitutes, instantiate, instantiates}
-use Rattle.cells.specs.Cells.{Formed, AllFormed, AnyVariable, RightCount, Wf, Wfs, At, Below, Wrote}
-use Rattle.terms.specs.Made.{Numbered, Confined, Made}
+use Rattle.cells.specs.Cells.{Formed, AllFormed, AnyVariable, RightCount, Wf, At, Below, Wrote}
+use Rattle.terms.specs.Made.{Numbered, Confined, Made, startOf, Started, ArgumentsLie}
 
 -- by how many bindings; what for the bound variable; the context's variables and their arguments
 pub data Choice : Type 0 where
@@ -42,13 +42,15 @@ Fits tb k = AllFormed (Allowed tb k) (RightCount tb)
 
 -- ---- which choice the code's arguments stand for
 
-pub data Raises (d : ℕ) (s : List ℕ) : Choice → Type 0 where
-  raises : Raises d s (lifting d)
+-- low is the part of the working store below the result, where what is put in lies
+pub data Raises (d : ℕ) (low : List ℕ) : Choice → Type 0 where
+  raises : Raises d low (lifting d)
 
-pub data Puts (tb : List ℕ) (way args count : ℕ) (s : List ℕ) : Choice → Type 0 where
-  puts-bound : {y : Expr} {ry : List ℕ} → way ≡ 1 → Wf tb y → At s args (cells y) ry → Puts tb way args count s (substituting y)
-  puts-variables : {vs : List ℕ} {xs : Exprs} {ra : List ℕ} → way ≡ 2 → Wfs tb xs → countExprs xs ≡ count → At s args (cellss xs) ra
-      → Puts tb way args count s (instantiating vs xs)
+pub data Substitutes (tb : List ℕ) (a : ℕ) (low : List ℕ) : Choice → Type 0 where
+  substitutes-one : {y : Expr} {ry : List ℕ} → Wf tb y → At low a (cells y) ry → Substitutes tb a low (substituting y)
+
+pub data Instantiates (tb : List ℕ) (base count : ℕ) (starts low : List ℕ) : Choice → Type 0 where
+  instantiates-all : {vs : List ℕ} {xs : Exprs} → ArgumentsLie tb low base count starts xs → Instantiates tb base count starts low (instantiating vs xs)
 
 -- ---- what a walk writes
 
@@ -82,18 +84,34 @@ pub record Grafted (s w w′ rest vs : List ℕ) (to i at : ℕ) : Type 0 where
   pub read : at ≤ length w → At s i [] rest
 
 -- n expressions of s from index `from` on
-pub record GraftPost (top : ℕ) (P : List ℕ → Choice → Type 0) (tb s w w′ : List ℕ) (from n to cut i at : ℕ) : Type 0 where
+pub record GraftPost (top : ℕ) (P : List ℕ → Choice → Type 0) (tb low s w w′ : List ℕ) (from n to cut i at : ℕ) : Type 0 where
   pub past : from ≤ i
   pub ahead : to ≤ at
   pub kept : Kept w w′ to
-  pub means : (k : Choice) → P s k → (es : Exprs) (rest : List ℕ) → countExprs es ≡ n → Fits tb k es → At s from (cellss es) rest
+  pub means : (k : Choice) → P low k → (es : Exprs) (rest : List ℕ) → countExprs es ≡ n → Fits tb k es → At s from (cellss es) rest
       → Below top (cellss (grafts k cut es)) → Grafted s w w′ rest (cellss (grafts k cut es)) to i at
 
--- the one expression at e, made in at most `room` cells
-pub record WholePost (top : ℕ) (P : List ℕ → Choice → Type 0) (tb w w′ : List ℕ) (e to room r : ℕ) : Type 0 where
+-- the one expression at index e of s, made in at most `room` cells
+pub record WholePost (top : ℕ) (P : List ℕ → Choice → Type 0) (tb s w w′ : List ℕ) (e to room r : ℕ) : Type 0 where
   pub confined : Confined w w′ to room r
-  pub made : (k : Choice) → P (take to w) k → (x : Expr) (rest : List ℕ) → to + room ≤ length w → Fit tb k x → At (take to w) e (cells x) rest
+  pub made : (k : Choice) → P (take to w) k → (x : Expr) (rest : List ℕ) → to + room ≤ length w → Fit tb k x → At s e (cells x) rest
       → Below top (cells (graft k 0 x)) → Made room (graft k 0 x) r to w w′
+
+-- ---- where an argument lies
+
+-- r is where argument i starts
+pub record StartPost (tb w : List ℕ) (base count : ℕ) (starts : List ℕ) (i r : ℕ) : Type 0 where
+  pub is : (xs : Exprs) → ArgumentsLie tb w base count starts xs → i < count → r ≡ base + startOf xs i
+
+-- what stands for the cell x, which is no abstraction's, outside every binding: itself where len is 0, else len cells of the
+-- arguments from index `start` on; more than there are where that is not known
+pub record RunPost (tb : List ℕ) (x count : ℕ) (starts : List ℕ) (start len : ℕ) : Type 0 where
+  pub short : start < 65536
+  pub itself : len ≡ 0 → (x % 8 ≡ 5 → ⊥) → (vs : List ℕ) (xs : Exprs) → countExprs xs ≡ count → (e : Expr) → firstCell e ≡ x
+      → Fit tb (instantiating vs xs) e → cells (instantiate vs xs 0 e) ≡ x ∷ cellss (instantiates vs xs 0 (parts e))
+  pub argument : 0 < len → len < 18446744073709551615 → (vs : List ℕ) (xs : Exprs) → countExprs xs ≡ count → Started xs starts → (e : Expr) → firstCell e ≡ x
+      → Fit tb (instantiating vs xs) e
+      → (parts e ≡ nil) × (start + len ≤ length (cellss xs)) × (cells (instantiate vs xs 0 e) ≡ take len (drop start (cellss xs)))
 
 -- ---- laws: the walk goes through constants, applications and abstractions
 

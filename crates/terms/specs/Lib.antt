@@ -1,6 +1,8 @@
 -- What the contracts of lifting, substitution and instantiation say.
 pub mod Made
 pub mod MadeLaws
+pub mod Starts
 pub mod Grafts
 pub mod Formation
 pub mod Kinds
+pub mod Unchanged

@@ -1,11 +1,12 @@
 -- What lifting, substitution and instantiation answer and write.
 use mathlib.Core.Path.{_≡_}
 use mathlib.Core.Logic.{_⊎_}
+use mathlib.Core.Bool.{Bool, true}
 use mathlib.Core.Option.{Option, none, some}
 use mathlib.Core.List.{List}
 use Prim.Native.Nat.{ℕ, zero, suc, _+_, _≤_, _<_}
-use lib.ListN.{length, take}
-use lib.Seq.{sets}
+use lib.ListN.{length, getD, take}
+use lib.Seq.{sets, slice}
 use Rattle.aut68.specs.Expr.{Expr, Exprs, nil, cons, size, cells, cellss, countExprs}
 use Rattle.aut68.specs.Substitution.{lift, substitute, argumentFor, instantiate}
 use Rattle.cells.specs.Cells.{rowCell, Formed, RightCount, Wf, Wfs, At, Below, Outside}
@@ -48,9 +49,39 @@ pub record SubstitutePost (tb w w′ : List ℕ) (t a to room r : ℕ) : Type 0 
   pub made : (x y : Expr) (rx ry : List ℕ) → to + room ≤ length w → Wf tb x → Wf tb y → At (take to w) t (cells x) rx → At (take to w) a (cells y) ry
       → Below 65536 (cells (substitute y 0 x)) → Made room (substitute y 0 x) r to w w′
 
--- the expression at e, with the `count` arguments at `args` put in for the context variables, all at once
-pub record InstantiatePost (tb w w′ : List ℕ) (e args count to room r : ℕ) : Type 0 where
+-- ---- arguments put in for context variables
+
+-- where argument i starts in the cells of a string; for i past the last one, where the string ends
+unfoldable pub startOf : Exprs → ℕ → ℕ
+startOf nil i = 0
+startOf (cons a xs) zero = 0
+startOf (cons a xs) (suc i) = size a + startOf xs i
+
+-- starts has where the first n arguments start, and where the last of them ends: for the first 64 of these places
+pub record StartedTo (n : ℕ) (xs : Exprs) (starts : List ℕ) : Type 0 where
+  pub place : (i : ℕ) → i ≤ n → i < 64 → getD starts i 0 ≡ startOf xs i
+
+abbrev pub Started : Exprs → List ℕ → Type 0
+Started xs starts = StartedTo (countExprs xs) xs starts
+
+-- the `count` arguments xs lie from index `base` of s on, and starts has where
+pub record ArgumentsLie (tb s : List ℕ) (base count : ℕ) (starts : List ℕ) (xs : Exprs) : Type 0 where
+  pub formed : Wfs tb xs
+  pub counted : countExprs xs ≡ count
+  pub started : Started xs starts
+  pub rest : List ℕ
+  pub lies : At s base (cellss xs) rest
+
+-- the expression at index e of s, with the arguments in w put in for the context variables, all at once
+pub record InstantiatePost (tb s w w′ : List ℕ) (e base count : ℕ) (starts : List ℕ) (to room r : ℕ) : Type 0 where
   pub confined : Confined w w′ to room r
-  pub made : (vs : List ℕ) (xs : Exprs) (x : Expr) (rx ra : List ℕ) → to + room ≤ length w → Formed (Numbered tb vs xs) (RightCount tb) x
-      → Wfs tb xs → countExprs xs ≡ count → At (take to w) e (cells x) rx → At (take to w) args (cellss xs) ra
-      → Below 65536 (cells (instantiate vs xs 0 x)) → Made room (instantiate vs xs 0 x) r to w w′
+  pub made : (vs : List ℕ) (xs : Exprs) (x : Expr) (rx : List ℕ) → to + room ≤ length w → Formed (Numbered tb vs xs) (RightCount tb) x
+      → ArgumentsLie tb (take to w) base count starts xs → At s e (cells x) rx → Below 65536 (cells (instantiate vs xs 0 x))
+      → Made room (instantiate vs xs 0 x) r to w w′
+
+-- `true` only if the n cells of f from index `at` on are those of the expression in the cells from..stop of s, with the
+-- arguments in w put in
+pub record InstancePost (tb s : List ℕ) (from stop : ℕ) (w : List ℕ) (base count : ℕ) (starts f : List ℕ) (at n : ℕ) (r : Bool) : Type 0 where
+  pub is : r ≡ true → (vs : List ℕ) (xs : Exprs) (x : Expr) (rx : List ℕ) → Formed (Numbered tb vs xs) (RightCount tb) x
+      → ArgumentsLie tb w base count starts xs → At s from (cells x) rx → stop ≡ from + size x
+      → (at + n ≤ length f) × (slice at (at + n) f ≡ cells (instantiate vs xs 0 x))

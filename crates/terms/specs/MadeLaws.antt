@@ -12,7 +12,7 @@ use Rattle.cells.specs.Forests.{size-is-length}
 use Rattle.cells.specs.Stores.{at-sets}
 use Rattle.terms.specs.Made.{noRoom, Made}
 
-fits-or-not : (a b : ℕ) → (a ≤ b) ⊎ (b < a)
+pub fits-or-not : (a b : ℕ) → (a ≤ b) ⊎ (b < a)
 fits-or-not zero b = inl (omega arith)
 fits-or-not (suc a) zero = inr (omega arith)
 fits-or-not (suc a) (suc b) = ⊎-elim (λ p. inl (omega arith)) (λ q. inr (omega arith)) (fits-or-not a b)

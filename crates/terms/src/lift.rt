@@ -49,7 +49,7 @@ pub fn lift_in(
     cut: usize,
 ) -> Ends
     requires { ⌜ (end ≤ to) × (to ≤ length (now w)) × (cut ≤ from) ⌝ }
-    ensures { λ r. ⌜ GraftPost 65536 (Raises d) (now (table .entry)) (take end (now (w .entry))) (now (w .entry)) (now (w .exit)) from n to cut (r .from) (r .to) ⌝ }
+    ensures { λ r. ⌜ GraftPost 65536 (Raises d) (now (table .entry)) (take end (now (w .entry))) (take end (now (w .entry))) (now (w .entry)) (now (w .exit)) from n to cut (r .from) (r .to) ⌝ }
 {
     let mut i = from;
     let mut at = to;

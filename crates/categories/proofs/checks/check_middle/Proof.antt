@@ -34,7 +34,7 @@ same-length : tie.Need-same-length
 same-length c = search needs
 
 returns-3 : tie.Need-returns-3
-returns-3 c = middle-refused (c .before .before .before .before .before .before .before .before .if1 .left) (record { none = c .before .before .before .before .before .before .no-bindings .ensures .0; startsAre = c .before .before .before .before .before .before .no-bindings .ensures .1; lensAre = c .before .before .before .before .before .before .no-bindings .ensures .2 }) (c .before .before .before .category .ensures) (c .if3 .taken)
+returns-3 c = middle-refused (c .before .before .before .before .before .before .before .before .if1 .left) (record { none = c .before .before .before .before .before .before .no-bindings .ensures .0; flat = c .before .before .before .before .before .before .no-bindings .ensures .1; startsAre = c .before .before .before .before .before .before .no-bindings .ensures .2; lensAre = c .before .before .before .before .before .before .no-bindings .ensures .3 }) (c .before .before .before .category .ensures) (c .if3 .taken)
 
 sub-n : tie.Need-sub-n
 sub-n c = search needs
@@ -52,7 +52,7 @@ same-length-2 : tie.Need-same-length-2
 same-length-2 c = search needs
 
 returns-4 : tie.Need-returns-4
-returns-4 c = middle-compared (c .before .before .before .before .before .before .before .before .before .before .before .before .before .before .before .before .before .if1 .left) (record { none = c .before .before .before .before .before .before .before .before .before .before .before .before .before .before .before .no-bindings .ensures .0; startsAre = c .before .before .before .before .before .before .before .before .before .before .before .before .before .before .before .no-bindings .ensures .1; lensAre = c .before .before .before .before .before .before .before .before .before .before .before .before .before .before .before .no-bindings .ensures .2 }) (c .before .before .before .before .before .before .before .before .before .before .before .before .category .ensures) (c .before .before .before .before .before .before .before .before .before .if3 .left) refl (λ h. c .before .before .before .before .before .before .before .before .level-at .ensures h (omega arith)) (c .before .before .before .before .before .before .load .ensures) (c .before .before .compare-units .ensures)
+returns-4 c = middle-compared (c .before .before .before .before .before .before .before .before .before .before .before .before .before .before .before .before .before .if1 .left) (record { none = c .before .before .before .before .before .before .before .before .before .before .before .before .before .before .before .no-bindings .ensures .0; flat = c .before .before .before .before .before .before .before .before .before .before .before .before .before .before .before .no-bindings .ensures .1; startsAre = c .before .before .before .before .before .before .before .before .before .before .before .before .before .before .before .no-bindings .ensures .2; lensAre = c .before .before .before .before .before .before .before .before .before .before .before .before .before .before .before .no-bindings .ensures .3 }) (c .before .before .before .before .before .before .before .before .before .before .before .before .category .ensures) (c .before .before .before .before .before .before .before .before .before .if3 .left) refl (λ h. c .before .before .before .before .before .before .before .before .level-at .ensures h (omega arith)) (c .before .before .before .before .before .before .load .ensures) (c .before .before .compare-units .ensures)
 
 pub check-middle-spec : {M : Type 1} → statement M
 check-middle-spec =

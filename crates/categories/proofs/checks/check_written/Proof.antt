@@ -41,7 +41,7 @@ same-length : tie.Need-same-length
 same-length c = search needs
 
 returns-3 : tie.Need-returns-3
-returns-3 c = written-found (c .before .before .before .before .before .before .before .before .if2 .left) (record { none = c .before .before .before .before .before .before .before .no-bindings .ensures .0; startsAre = c .before .before .before .before .before .before .before .no-bindings .ensures .1; lensAre = c .before .before .before .before .before .before .before .no-bindings .ensures .2 }) (c .before .before .before .before .category .ensures) (c .found-type .ensures)
+returns-3 c = written-found (c .before .before .before .before .before .before .before .before .if2 .left) (record { none = c .before .before .before .before .before .before .before .no-bindings .ensures .0; flat = c .before .before .before .before .before .before .before .no-bindings .ensures .1; startsAre = c .before .before .before .before .before .before .before .no-bindings .ensures .2; lensAre = c .before .before .before .before .before .before .before .no-bindings .ensures .3 }) (c .before .before .before .before .category .ensures) (c .found-type .ensures)
 
 pub check-written-spec : {M : Type 1} → statement M
 check-written-spec =

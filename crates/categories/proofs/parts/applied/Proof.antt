@@ -9,7 +9,7 @@ refused-requires : tie.Need-refused-requires
 refused-requires c κs = search needs
 
 returns : tie.Need-returns
-returns c = applied-refused (c .before .if1 .taken) (c .refused .ensures .0) (c .refused .ensures .1)
+returns c = applied-refused (c .before .if1 .taken) (c .refused .ensures .0) (c .refused .ensures .1) (c .refused .ensures .2)
 
 add-level-at : tie.Need-add-level-at
 add-level-at c = search needs
@@ -27,7 +27,7 @@ same-length : tie.Need-same-length
 same-length c = search needs
 
 returns-2 : tie.Need-returns-2
-returns-2 c = applied-differs (c .before .before .before .before .before .before .before .before .before .before .before .before .before .before .pre .0) (c .before .before .before .before .before .before .before .before .if1 .left) (λ h. c .before .before .before .before .before .before .before .level-at .ensures h (omega (arith, c .before .before .before .before .before .before .before .before .before .before .before .before .before .before .pre))) (c .before .before .before .before .before .compare .ensures) (c .before .if2 .taken) (c .refused2 .ensures .0) (c .refused2 .ensures .1)
+returns-2 c = applied-differs (c .before .before .before .before .before .before .before .before .before .before .before .before .before .before .pre .0) (c .before .before .before .before .before .before .before .before .if1 .left) (λ h. c .before .before .before .before .before .before .before .level-at .ensures h (omega (arith, c .before .before .before .before .before .before .before .before .before .before .before .before .before .before .pre))) (c .before .before .before .before .before .compare .ensures) (c .before .if2 .taken) (c .refused2 .ensures .0) (c .refused2 .ensures .1) (c .refused2 .ensures .2)
 
 scratch-at-requires : tie.Need-scratch-at-requires
 scratch-at-requires c κs = search needs
@@ -43,6 +43,9 @@ load-requires c κs = search needs
 
 substitute-requires : tie.Need-substitute-requires
 substitute-requires c κs = search needs
+
+add-made : tie.Need-add-made
+add-made c = omega (arith, c .before .before .before .before .before .before .before .before .before .before .before .before .before .before .before .before .before .before .before .before .before .before .before .before .pre, c .before .before .before .before .before .before .before .before .before .before .before .before .before .before .before .before .before .before .before .before .before .before .before .before .good)
 
 made-requires : tie.Need-made-requires
 made-requires c κs = omega (arith, c .before .before .before .before .before .before .before .before .before .before .before .before .before .before .before .before .before .before .before .before .before .before .before .before .pre)
@@ -70,6 +73,7 @@ applied-spec =
     sub-load
     load-requires
     substitute-requires
+    add-made
     made-requires
     same-length-2
     returns-3)

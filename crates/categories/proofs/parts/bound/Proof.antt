@@ -10,13 +10,13 @@ refused-requires : tie.Need-refused-requires
 refused-requires c κs = search needs
 
 returns : tie.Need-returns
-returns c = bound-none (λ h k. omega arith)
+returns c = bound-none (λ h k. omega arith) (λ z. omega (arith, c .refused .ensures .0)) (c .refused .ensures .1)
 
 refused-requires-2 : tie.Need-refused-requires-2
 refused-requires-2 c κs = search needs
 
 returns-2 : tie.Need-returns-2
-returns-2 c = bound-none (λ h k. omega arith)
+returns-2 c = bound-none (λ h k. omega arith) (λ z. omega (arith, c .refused2 .ensures .0)) (c .refused2 .ensures .1)
 
 sub-i : tie.Need-sub-i
 sub-i c = search needs
@@ -30,11 +30,17 @@ mul-from c = search needs
 element-copy-out-from : tie.Need-element-copy-out-from
 element-copy-out-from c = search needs
 
+cast-from : tie.Need-cast-from
+cast-from c = search needs
+
 mul-len : tie.Need-mul-len
 mul-len c = search needs
 
 element-copy-out-len : tie.Need-element-copy-out-len
 element-copy-out-len c = search needs
+
+cast-len : tie.Need-cast-len
+cast-len c = search needs
 
 scratch-at-requires : tie.Need-scratch-at-requires
 scratch-at-requires c κs = search needs
@@ -72,8 +78,10 @@ bound-spec =
     sub-i-2
     mul-from
     element-copy-out-from
+    cast-from
     mul-len
     element-copy-out-len
+    cast-len
     scratch-at-requires
     result-at-requires
     load-requires

@@ -10,7 +10,7 @@ refused-requires : tie.Need-refused-requires
 refused-requires c κs = search needs
 
 returns : tie.Need-returns
-returns c = made-too-large (c .before .if1 .taken) (c .refused .ensures .0) (c .refused .ensures .1)
+returns c = made-too-large (c .before .if1 .taken) (c .refused .ensures .0) (c .refused .ensures .1) (c .refused .ensures .2)
 
 result-at-requires : tie.Need-result-at-requires
 result-at-requires c κs = search needs

@@ -1,11 +1,34 @@
-use mathlib.Core.Path.{refl}
+use mathlib.Core.Path.{_≡_, refl}
+use Prim.Native.Nat.{ℕ, _+_, _≤_, _<_}
 use native.Mathlib.Omega.{arith}
 use borrow.Author.Needs.{needs}
+use Rattle.cells.specs.declared.scope.Scope.{Scope}
+use Rattle.cells.specs.Posts.{Bindable, Bound}
 use Rattle.cells.proofs.scope.bind.Statement.{statement}
 use Rattle.cells.proofs.scope.bind.Tie as tie
 
+-- where there is no room there is no binding more
+no-room : {scope r : Scope} {start len : ℕ} → (scope .depth < 32 → r .depth ≡ scope .depth + 1) → (scope .depth ≤ 32 → r .depth ≤ 32)
+    → (Bindable scope start len → ⊥) → Bound scope start len r
+no-room d s n = record { deeper = d; more = λ b. absurd (n b); startsAre = λ b. absurd (n b); lensAre = λ b. absurd (n b); shallow = s }
+
 returns : tie.Need-returns
-returns c = record { deeper = λ h. absurd (omega arith); startsAre = λ h. absurd (omega arith); lensAre = λ h. absurd (omega arith); full = λ h. refl }
+returns c = no-room (λ h. absurd (omega arith)) (λ h. h) λ b. omega (arith, b .shallow)
+
+add-inner : tie.Need-add-inner
+add-inner c = search needs
+
+returns-2 : tie.Need-returns-2
+returns-2 c = no-room (λ h. refl) (λ h. omega arith) λ b. omega (arith, b .few)
+
+returns-3 : tie.Need-returns-3
+returns-3 c = no-room (λ h. refl) (λ h. omega arith) λ b. omega (arith, b .startFits)
+
+returns-4 : tie.Need-returns-4
+returns-4 c = no-room (λ h. refl) (λ h. omega arith) λ b. omega (arith, b .lenFits)
+
+cast-inner : tie.Need-cast-inner
+cast-inner c = search needs
 
 mul-inner : tie.Need-mul-inner
 mul-inner c = search needs
@@ -13,26 +36,35 @@ mul-inner c = search needs
 element-write-inner : tie.Need-element-write-inner
 element-write-inner c = search needs
 
+cast-inner-2 : tie.Need-cast-inner-2
+cast-inner-2 c = search needs
+
 mul-inner-2 : tie.Need-mul-inner-2
 mul-inner-2 c = search needs
 
 element-write-inner-2 : tie.Need-element-write-inner-2
 element-write-inner-2 c = search needs
 
-add-inner : tie.Need-add-inner
-add-inner c = search needs
+add-inner-2 : tie.Need-add-inner-2
+add-inner-2 c = search needs
 
-returns-2 : tie.Need-returns-2
-returns-2 c = record { deeper = λ h. refl; startsAre = λ h. refl; lensAre = λ h. refl; full = λ h. absurd (omega arith) }
+returns-5 : tie.Need-returns-5
+returns-5 c = search needs
 
 pub bind-spec : {M : Type 1} → statement M
 bind-spec =
     tie.close
     (tie.spec
     returns
+    add-inner
+    returns-2
+    returns-3
+    returns-4
+    cast-inner
     mul-inner
     element-write-inner
+    cast-inner-2
     mul-inner-2
     element-write-inner-2
-    add-inner
-    returns-2)
+    add-inner-2
+    returns-5)

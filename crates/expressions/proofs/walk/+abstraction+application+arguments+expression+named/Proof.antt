@@ -27,6 +27,7 @@ use Rattle.expressions.proofs.walk.named.Reads as named
 use Rattle.expressions.proofs.walk.named.Kinds as named-kinds
 use Rattle.expressions.proofs.walk.+abstraction+application+arguments+expression+named.Lts-named as named-lts
 use Rattle.cells.proofs.bind.Reads as bind-reads
+use Rattle.cells.proofs.nest.Reads as nest-reads
 use Rattle.expressions.proofs.parts.counted.Reads as counted-reads
 use Rattle.expressions.proofs.parts.opens.Reads as opens-reads
 use Rattle.expressions.proofs.parts.put.Reads as put-reads
@@ -92,10 +93,10 @@ abbrev named-below : ℕ → In 5 named-kinds.ps
 named-below t = and 5 named-kinds.ps (falls 5 named-kinds.ps _<_ μ-named t) named.Pre
 
 abbrev claims-abstraction : ℕ → abstraction-lts.Claims
-claims-abstraction t = (symbol-reads.Asked, symbol-reads.Learnt, refused-reads.Asked, refused-reads.Learnt, name-at-reads.Asked, name-at-reads.Learnt, put-reads.Asked, put-reads.Learnt, bind-reads.Asked, bind-reads.Learnt, expression-below t, expression.Post)
+claims-abstraction t = (symbol-reads.Asked, symbol-reads.Learnt, refused-reads.Asked, refused-reads.Learnt, name-at-reads.Asked, name-at-reads.Learnt, put-reads.Asked, put-reads.Learnt, nest-reads.Asked, nest-reads.Learnt, expression-below t, expression.Post, bind-reads.Asked, bind-reads.Learnt)
 
 abbrev claims-application : ℕ → application-lts.Claims
-claims-application t = (symbol-reads.Asked, symbol-reads.Learnt, refused-reads.Asked, refused-reads.Learnt, put-reads.Asked, put-reads.Learnt, bind-reads.Asked, bind-reads.Learnt, expression-below t, expression.Post)
+claims-application t = (symbol-reads.Asked, symbol-reads.Learnt, refused-reads.Asked, refused-reads.Learnt, put-reads.Asked, put-reads.Learnt, nest-reads.Asked, nest-reads.Learnt, expression-below t, expression.Post)
 
 abbrev claims-arguments : ℕ → arguments-lts.Claims
 claims-arguments t = (expression-below t, expression.Post, symbol-reads.Asked, symbol-reads.Learnt, refused-reads.Asked, refused-reads.Learnt)
@@ -104,7 +105,7 @@ abbrev claims-expression : ℕ → expression-lts.Claims
 claims-expression t = (spaces-reads.Asked, spaces-reads.Learnt, kind-at-reads.Asked, kind-at-reads.Learnt, opens-reads.Asked, opens-reads.Learnt, refused-reads.Asked, refused-reads.Learnt, application-below t, application.Post, abstraction-below t, abstraction.Post, named-below t, named.Post)
 
 abbrev claims-named : ℕ → named-lts.Claims
-claims-named t = (name-at-reads.Asked, name-at-reads.Learnt, refused-reads.Asked, refused-reads.Learnt, put-name-reads.Asked, put-name-reads.Learnt, symbol-reads.Asked, symbol-reads.Learnt, counted-reads.Asked, counted-reads.Learnt, bind-reads.Asked, bind-reads.Learnt, arguments-below t, arguments.Post)
+claims-named t = (name-at-reads.Asked, name-at-reads.Learnt, refused-reads.Asked, refused-reads.Learnt, put-name-reads.Asked, put-name-reads.Learnt, symbol-reads.Asked, symbol-reads.Learnt, counted-reads.Asked, counted-reads.Learnt, nest-reads.Asked, nest-reads.Learnt, arguments-below t, arguments.Post)
 
 abstraction-symbol-requires : (t : ℕ) → abstraction-lts.Need-symbol-requires (claims-abstraction t) (abstraction-at t) abstraction.Post
 abstraction-symbol-requires t c κs = tt
@@ -142,17 +143,17 @@ abstraction-put-requires t c κs = tt
 abstraction-add-if5 : (t : ℕ) → abstraction-lts.Need-add-if5 (claims-abstraction t) (abstraction-at t) abstraction.Post
 abstraction-add-if5 t c = omega (arith, c .before .before .before .before .before .before .before .before .before .before .before .before .before .before .before .pre, c .before .before .before .before .before .before .before .before .before .before .before .before .before .before .before)
 
-abstraction-bind-requires : (t : ℕ) → abstraction-lts.Need-bind-requires (claims-abstraction t) (abstraction-at t) abstraction.Post
-abstraction-bind-requires t c κs = tt
+abstraction-nest-requires : (t : ℕ) → abstraction-lts.Need-nest-requires (claims-abstraction t) (abstraction-at t) abstraction.Post
+abstraction-nest-requires t c κs = tt
 
 abstraction-expression-requires : (t : ℕ) → abstraction-lts.Need-expression-requires (claims-abstraction t) (abstraction-at t) abstraction.Post
-abstraction-expression-requires t c κs = omega (arith, c .before .before .before .before .before .before .before .before .before .before .before .before .before .before .before .before .before .pre, c .before .before .before .before .before .before .before .if3, c .before .bind .ensures .deeper (c .before .before .before .before .before .before .before .before .before .before .before .before .before .before .before .before .before .pre .1 .2), c .before .before .before .before .before .before .before .before .symbol2 .ensures .from (c .before .before .before .before .before .before .before .before .before .before .name-at .ensures .within (c .before .before .before .before .before .before .before .before .before .before .before .if1 .left)), c .before .before .before .before .before .before .before .before .before .before .name-at .ensures .from, c .before .before .before .before .before .before .before .before .before .before .before .before .symbol .ensures .from (c .before .before .before .before .before .before .before .before .before .before .before .before .before .before .before .before .before .pre .1 .1))
+abstraction-expression-requires t c κs = omega (arith, c .before .before .before .before .before .before .before .before .before .before .before .before .before .before .before .before .before .pre, c .before .before .before .before .before .before .before .if3, c .before .nest .ensures .deeper (c .before .before .before .before .before .before .before .before .before .before .before .before .before .before .before .before .before .pre .1 .2), c .before .before .before .before .before .before .before .before .symbol2 .ensures .from (c .before .before .before .before .before .before .before .before .before .before .name-at .ensures .within (c .before .before .before .before .before .before .before .before .before .before .before .if1 .left)), c .before .before .before .before .before .before .before .before .before .before .name-at .ensures .from, c .before .before .before .before .before .before .before .before .before .before .before .before .symbol .ensures .from (c .before .before .before .before .before .before .before .before .before .before .before .before .before .before .before .before .before .pre .1 .1))
 
 abstraction-same-length : (t : ℕ) → abstraction-lts.Need-same-length (claims-abstraction t) (abstraction-at t) abstraction.Post
 abstraction-same-length t c = search needs
 
 abstraction-returns-4 : (t : ℕ) → abstraction-lts.Need-returns-4 (claims-abstraction t) (abstraction-at t) abstraction.Post
-abstraction-returns-4 t c = abstraction-first-refused (c .before .before .before .before .before .before .before .before .before .before .before .before .before .before .before .before .before .before .before .before .before .before .pre .1 .0) (c .before .before .before .before .before .before .before .before .before .before .before .before .before .before .before .before .before .before .before .before .before .before .pre .1 .1) (c .before .before .before .before .before .before .before .before .before .before .before .before .before .before .before .before .before .before .before .before .before .before .pre .1 .2) (c .before .before .before .before .before .before .before .before .before .before .before .before .before .before .before .before .before .symbol .ensures) (c .before .before .before .before .before .before .before .before .before .before .before .before .before .before .before .before .if1 .left) (c .before .before .before .before .before .before .before .before .before .before .before .before .before .before .before .name-at .ensures) (c .before .before .before .before .before .before .before .before .before .before .before .before .before .before .if2 .left) (c .before .before .before .before .before .before .before .before .before .before .before .before .before .symbol2 .ensures) (c .before .before .before .before .before .before .before .before .before .before .before .before .if3 .left) (c .before .before .before .before .before .before .before .before .before .before .put .ensures) (c .before .before .before .before .before .before .bind .ensures) (c .before .before .before .before .expression .ensures) (c .if4 .taken)
+abstraction-returns-4 t c = abstraction-first-refused (c .before .before .before .before .before .before .before .before .before .before .before .before .before .before .before .before .before .before .before .before .before .before .pre .1 .0) (c .before .before .before .before .before .before .before .before .before .before .before .before .before .before .before .before .before .before .before .before .before .before .pre .1 .1) (c .before .before .before .before .before .before .before .before .before .before .before .before .before .before .before .before .before .before .before .before .before .before .pre .1 .2) (c .before .before .before .before .before .before .before .before .before .before .before .before .before .before .before .before .before .symbol .ensures) (c .before .before .before .before .before .before .before .before .before .before .before .before .before .before .before .before .if1 .left) (c .before .before .before .before .before .before .before .before .before .before .before .before .before .before .before .name-at .ensures) (c .before .before .before .before .before .before .before .before .before .before .before .before .before .before .if2 .left) (c .before .before .before .before .before .before .before .before .before .before .before .before .before .symbol2 .ensures) (c .before .before .before .before .before .before .before .before .before .before .before .before .if3 .left) (c .before .before .before .before .before .before .before .before .before .before .put .ensures) (c .before .before .before .before .before .before .nest .ensures) (c .before .before .before .before .expression .ensures) (c .if4 .taken)
 
 abstraction-symbol-requires-3 : (t : ℕ) → abstraction-lts.Need-symbol-requires-3 (claims-abstraction t) (abstraction-at t) abstraction.Post
 abstraction-symbol-requires-3 t c κs = tt
@@ -164,20 +165,20 @@ abstraction-same-length-2 : (t : ℕ) → abstraction-lts.Need-same-length-2 (cl
 abstraction-same-length-2 t c = search needs
 
 abstraction-returns-5 : (t : ℕ) → abstraction-lts.Need-returns-5 (claims-abstraction t) (abstraction-at t) abstraction.Post
-abstraction-returns-5 t c = abstraction-unclosed (c .before .before .before .before .before .before .before .before .before .before .before .before .before .before .before .before .before .before .before .before .before .before .before .before .before .pre .1 .0) (c .before .before .before .before .before .before .before .before .before .before .before .before .before .before .before .before .before .before .before .before .before .before .before .before .before .pre .1 .1) (c .before .before .before .before .before .before .before .before .before .before .before .before .before .before .before .before .before .before .before .before .before .before .before .before .before .pre .1 .2) (c .before .before .before .before .before .before .before .before .before .before .before .before .before .before .before .before .before .before .before .before .symbol .ensures) (c .before .before .before .before .before .before .before .before .before .before .before .before .before .before .before .before .before .before .before .if1 .left) (c .before .before .before .before .before .before .before .before .before .before .before .before .before .before .before .before .before .before .name-at .ensures) (c .before .before .before .before .before .before .before .before .before .before .before .before .before .before .before .before .before .if2 .left) (c .before .before .before .before .before .before .before .before .before .before .before .before .before .before .before .before .symbol2 .ensures) (c .before .before .before .before .before .before .before .before .before .before .before .before .before .before .before .if3 .left) (c .before .before .before .before .before .before .before .before .before .before .before .before .before .put .ensures) (c .before .before .before .before .before .before .before .before .before .bind .ensures) (c .before .before .before .before .before .before .before .expression .ensures) (c .before .before .before .if4 .left) (c .before .before .symbol3 .ensures) (c .before .if5 .taken) (c .refused4 .ensures)
+abstraction-returns-5 t c = abstraction-unclosed (c .before .before .before .before .before .before .before .before .before .before .before .before .before .before .before .before .before .before .before .before .before .before .before .before .before .pre .1 .0) (c .before .before .before .before .before .before .before .before .before .before .before .before .before .before .before .before .before .before .before .before .before .before .before .before .before .pre .1 .1) (c .before .before .before .before .before .before .before .before .before .before .before .before .before .before .before .before .before .before .before .before .before .before .before .before .before .pre .1 .2) (c .before .before .before .before .before .before .before .before .before .before .before .before .before .before .before .before .before .before .before .before .symbol .ensures) (c .before .before .before .before .before .before .before .before .before .before .before .before .before .before .before .before .before .before .before .if1 .left) (c .before .before .before .before .before .before .before .before .before .before .before .before .before .before .before .before .before .before .name-at .ensures) (c .before .before .before .before .before .before .before .before .before .before .before .before .before .before .before .before .before .if2 .left) (c .before .before .before .before .before .before .before .before .before .before .before .before .before .before .before .before .symbol2 .ensures) (c .before .before .before .before .before .before .before .before .before .before .before .before .before .before .before .if3 .left) (c .before .before .before .before .before .before .before .before .before .before .before .before .before .put .ensures) (c .before .before .before .before .before .before .before .before .before .nest .ensures) (c .before .before .before .before .before .before .before .expression .ensures) (c .before .before .before .if4 .left) (c .before .before .symbol3 .ensures) (c .before .if5 .taken) (c .refused4 .ensures)
 
-abstraction-bind-requires-2 : (t : ℕ) → abstraction-lts.Need-bind-requires-2 (claims-abstraction t) (abstraction-at t) abstraction.Post
-abstraction-bind-requires-2 t c κs = tt
+abstraction-bind-requires : (t : ℕ) → abstraction-lts.Need-bind-requires (claims-abstraction t) (abstraction-at t) abstraction.Post
+abstraction-bind-requires t c κs = tt
 
 abstraction-expression-requires-2 : (t : ℕ) → abstraction-lts.Need-expression-requires-2 (claims-abstraction t) (abstraction-at t) abstraction.Post
-abstraction-expression-requires-2 t c κs = omega (arith, c .before .before .before .before .before .before .before .before .before .before .before .before .before .before .before .before .before .before .before .before .before .before .before .before .before .before .pre, c .before .before .if5, c .before .bind2 .ensures .deeper (c .before .before .before .before .before .before .before .before .before .before .before .before .before .before .before .before .before .before .before .before .before .before .before .before .before .before .pre .1 .2), c .before .before .before .symbol3 .ensures .from (c .before .before .before .before .before .before .before .before .expression .ensures .onward .inside), c .before .before .before .before .before .before .before .before .expression .ensures .onward)
+abstraction-expression-requires-2 t c κs = omega (arith, c .before .before .before .before .before .before .before .before .before .before .before .before .before .before .before .before .before .before .before .before .before .before .before .before .before .before .pre, c .before .before .if5, c .before .bind .ensures .deeper (c .before .before .before .before .before .before .before .before .before .before .before .before .before .before .before .before .before .before .before .before .before .before .before .before .before .before .pre .1 .2), c .before .before .before .symbol3 .ensures .from (c .before .before .before .before .before .before .before .before .expression .ensures .onward .inside), c .before .before .before .before .before .before .before .before .expression .ensures .onward)
 
 abstraction-same-length-3 : (t : ℕ) → abstraction-lts.Need-same-length-3 (claims-abstraction t) (abstraction-at t) abstraction.Post
 abstraction-same-length-3 t c =
     c .before .before .expression2 .ensures .onward .below .long ∙ c .before .before .before .before .before .before .before .before .before .before .before .expression .ensures .onward .below .long ∙ below-put (c .before .before .before .before .before .before .before .before .before .before .before .before .before .before .before .before .before .put .ensures) .long
 
 abstraction-returns-6 : (t : ℕ) → abstraction-lts.Need-returns-6 (claims-abstraction t) (abstraction-at t) abstraction.Post
-abstraction-returns-6 t c = abstraction-read (c .before .before .before .before .before .before .before .before .before .before .before .before .before .before .before .before .before .before .before .before .before .before .before .before .before .before .before .before .before .pre .1 .0) (c .before .before .before .before .before .before .before .before .before .before .before .before .before .before .before .before .before .before .before .before .before .before .before .before .before .before .before .before .before .pre .1 .1) (c .before .before .before .before .before .before .before .before .before .before .before .before .before .before .before .before .before .before .before .before .before .before .before .before .before .before .before .before .before .pre .1 .2) (c .before .before .before .before .before .before .before .before .before .before .before .before .before .before .before .before .before .before .before .before .before .before .before .before .symbol .ensures) (c .before .before .before .before .before .before .before .before .before .before .before .before .before .before .before .before .before .before .before .before .before .before .before .if1 .left) (c .before .before .before .before .before .before .before .before .before .before .before .before .before .before .before .before .before .before .before .before .before .before .name-at .ensures) (c .before .before .before .before .before .before .before .before .before .before .before .before .before .before .before .before .before .before .before .before .before .if2 .left) (c .before .before .before .before .before .before .before .before .before .before .before .before .before .before .before .before .before .before .before .before .symbol2 .ensures) (c .before .before .before .before .before .before .before .before .before .before .before .before .before .before .before .before .before .before .before .if3 .left) (c .before .before .before .before .before .before .before .before .before .before .before .before .before .before .before .before .before .put .ensures) (c .before .before .before .before .before .before .before .before .before .before .before .before .before .bind .ensures) (c .before .before .before .before .before .before .before .before .before .before .before .expression .ensures) (c .before .before .before .before .before .before .before .if4 .left) (c .before .before .before .before .before .before .symbol3 .ensures) (c .before .before .before .before .before .if5 .left) (c .before .before .before .before .bind2 .ensures) (c .before .before .expression2 .ensures)
+abstraction-returns-6 t c = abstraction-read (c .before .before .before .before .before .before .before .before .before .before .before .before .before .before .before .before .before .before .before .before .before .before .before .before .before .before .before .before .before .pre .1 .0) (c .before .before .before .before .before .before .before .before .before .before .before .before .before .before .before .before .before .before .before .before .before .before .before .before .before .before .before .before .before .pre .1 .1) (c .before .before .before .before .before .before .before .before .before .before .before .before .before .before .before .before .before .before .before .before .before .before .before .before .before .before .before .before .before .pre .1 .2) (c .before .before .before .before .before .before .before .before .before .before .before .before .before .before .before .before .before .before .before .before .before .before .before .before .symbol .ensures) (c .before .before .before .before .before .before .before .before .before .before .before .before .before .before .before .before .before .before .before .before .before .before .before .if1 .left) (c .before .before .before .before .before .before .before .before .before .before .before .before .before .before .before .before .before .before .before .before .before .before .name-at .ensures) (c .before .before .before .before .before .before .before .before .before .before .before .before .before .before .before .before .before .before .before .before .before .if2 .left) (c .before .before .before .before .before .before .before .before .before .before .before .before .before .before .before .before .before .before .before .before .symbol2 .ensures) (c .before .before .before .before .before .before .before .before .before .before .before .before .before .before .before .before .before .before .before .if3 .left) (c .before .before .before .before .before .before .before .before .before .before .before .before .before .before .before .before .before .put .ensures) (c .before .before .before .before .before .before .before .before .before .before .before .before .before .nest .ensures) (c .before .before .before .before .before .before .before .before .before .before .before .expression .ensures) (c .before .before .before .before .before .before .before .if4 .left) (c .before .before .before .before .before .before .symbol3 .ensures) (c .before .before .before .before .before .if5 .left) (c .before .before .before .before .bind .ensures) (c .before .before .expression2 .ensures)
 
 application-symbol-requires : (t : ℕ) → application-lts.Need-symbol-requires (claims-application t) (application-at t) application.Post
 application-symbol-requires t c κs = tt
@@ -194,17 +195,17 @@ application-put-requires t c κs = tt
 application-add-if3 : (t : ℕ) → application-lts.Need-add-if3 (claims-application t) (application-at t) application.Post
 application-add-if3 t c = omega (arith, c .before .before .before .before .before .before .before .before .before .before .before .pre, c .before .before .before .before .before .before .before .before .before .before .before)
 
-application-bind-requires : (t : ℕ) → application-lts.Need-bind-requires (claims-application t) (application-at t) application.Post
-application-bind-requires t c κs = tt
+application-nest-requires : (t : ℕ) → application-lts.Need-nest-requires (claims-application t) (application-at t) application.Post
+application-nest-requires t c κs = tt
 
 application-expression-requires : (t : ℕ) → application-lts.Need-expression-requires (claims-application t) (application-at t) application.Post
-application-expression-requires t c κs = omega (arith, c .before .before .before .before .before .before .before .before .before .before .before .before .before .pre, c .before .before .before .before .before .before .before .if1, c .before .bind .ensures .deeper (c .before .before .before .before .before .before .before .before .before .before .before .before .before .pre .1 .2), c .before .before .before .before .before .before .before .before .symbol .ensures .from (c .before .before .before .before .before .before .before .before .before .before .before .before .before .pre .1 .1))
+application-expression-requires t c κs = omega (arith, c .before .before .before .before .before .before .before .before .before .before .before .before .before .pre, c .before .before .before .before .before .before .before .if1, c .before .nest .ensures .deeper (c .before .before .before .before .before .before .before .before .before .before .before .before .before .pre .1 .2), c .before .before .before .before .before .before .before .before .symbol .ensures .from (c .before .before .before .before .before .before .before .before .before .before .before .before .before .pre .1 .1))
 
 application-same-length : (t : ℕ) → application-lts.Need-same-length (claims-application t) (application-at t) application.Post
 application-same-length t c = search needs
 
 application-returns-2 : (t : ℕ) → application-lts.Need-returns-2 (claims-application t) (application-at t) application.Post
-application-returns-2 t c = application-first-refused (c .before .before .before .before .before .before .before .before .before .before .before .before .before .before .before .before .before .before .pre .1 .0) (c .before .before .before .before .before .before .before .before .before .before .before .before .before .before .before .before .before .before .pre .1 .1) (c .before .before .before .before .before .before .before .before .before .before .before .before .before .before .before .before .before .before .pre .1 .2) (c .before .before .before .before .before .before .before .before .before .before .before .before .before .symbol .ensures) (c .before .before .before .before .before .before .before .before .before .before .before .before .if1 .left) (c .before .before .before .before .before .before .before .before .before .before .put .ensures) (c .before .before .before .before .before .before .bind .ensures) (c .before .before .before .before .expression .ensures) (c .if2 .taken)
+application-returns-2 t c = application-first-refused (c .before .before .before .before .before .before .before .before .before .before .before .before .before .before .before .before .before .before .pre .1 .0) (c .before .before .before .before .before .before .before .before .before .before .before .before .before .before .before .before .before .before .pre .1 .1) (c .before .before .before .before .before .before .before .before .before .before .before .before .before .before .before .before .before .before .pre .1 .2) (c .before .before .before .before .before .before .before .before .before .before .before .before .before .symbol .ensures) (c .before .before .before .before .before .before .before .before .before .before .before .before .if1 .left) (c .before .before .before .before .before .before .before .before .before .before .put .ensures) (c .before .before .before .before .before .before .nest .ensures) (c .before .before .before .before .expression .ensures) (c .if2 .taken)
 
 application-symbol-requires-2 : (t : ℕ) → application-lts.Need-symbol-requires-2 (claims-application t) (application-at t) application.Post
 application-symbol-requires-2 t c κs = tt
@@ -216,17 +217,17 @@ application-same-length-2 : (t : ℕ) → application-lts.Need-same-length-2 (cl
 application-same-length-2 t c = search needs
 
 application-returns-3 : (t : ℕ) → application-lts.Need-returns-3 (claims-application t) (application-at t) application.Post
-application-returns-3 t c = application-unclosed (c .before .before .before .before .before .before .before .before .before .before .before .before .before .before .before .before .before .before .before .before .before .pre .1 .0) (c .before .before .before .before .before .before .before .before .before .before .before .before .before .before .before .before .before .before .before .before .before .pre .1 .1) (c .before .before .before .before .before .before .before .before .before .before .before .before .before .before .before .before .before .before .before .before .before .pre .1 .2) (c .before .before .before .before .before .before .before .before .before .before .before .before .before .before .before .before .symbol .ensures) (c .before .before .before .before .before .before .before .before .before .before .before .before .before .before .before .if1 .left) (c .before .before .before .before .before .before .before .before .before .before .before .before .before .put .ensures) (c .before .before .before .before .before .before .before .before .before .bind .ensures) (c .before .before .before .before .before .before .before .expression .ensures) (c .before .before .before .if2 .left) (c .before .before .symbol2 .ensures) (c .before .if3 .taken) (c .refused2 .ensures)
+application-returns-3 t c = application-unclosed (c .before .before .before .before .before .before .before .before .before .before .before .before .before .before .before .before .before .before .before .before .before .pre .1 .0) (c .before .before .before .before .before .before .before .before .before .before .before .before .before .before .before .before .before .before .before .before .before .pre .1 .1) (c .before .before .before .before .before .before .before .before .before .before .before .before .before .before .before .before .before .before .before .before .before .pre .1 .2) (c .before .before .before .before .before .before .before .before .before .before .before .before .before .before .before .before .symbol .ensures) (c .before .before .before .before .before .before .before .before .before .before .before .before .before .before .before .if1 .left) (c .before .before .before .before .before .before .before .before .before .before .before .before .before .put .ensures) (c .before .before .before .before .before .before .before .before .before .nest .ensures) (c .before .before .before .before .before .before .before .expression .ensures) (c .before .before .before .if2 .left) (c .before .before .symbol2 .ensures) (c .before .if3 .taken) (c .refused2 .ensures)
 
 application-expression-requires-2 : (t : ℕ) → application-lts.Need-expression-requires-2 (claims-application t) (application-at t) application.Post
-application-expression-requires-2 t c κs = omega (arith, c .before .before .before .before .before .before .before .before .before .before .before .before .before .before .before .before .before .before .before .before .before .pre, c .before .if3, c .before .before .before .before .before .before .before .before .before .bind .ensures .deeper (c .before .before .before .before .before .before .before .before .before .before .before .before .before .before .before .before .before .before .before .before .before .pre .1 .2), c .before .before .symbol2 .ensures .from (c .before .before .before .before .before .before .before .expression .ensures .onward .inside), c .before .before .before .before .before .before .before .expression .ensures .onward)
+application-expression-requires-2 t c κs = omega (arith, c .before .before .before .before .before .before .before .before .before .before .before .before .before .before .before .before .before .before .before .before .before .pre, c .before .if3, c .before .before .before .before .before .before .before .before .before .nest .ensures .deeper (c .before .before .before .before .before .before .before .before .before .before .before .before .before .before .before .before .before .before .before .before .before .pre .1 .2), c .before .before .symbol2 .ensures .from (c .before .before .before .before .before .before .before .expression .ensures .onward .inside), c .before .before .before .before .before .before .before .expression .ensures .onward)
 
 application-same-length-3 : (t : ℕ) → application-lts.Need-same-length-3 (claims-application t) (application-at t) application.Post
 application-same-length-3 t c =
     c .before .before .expression2 .ensures .onward .below .long ∙ c .before .before .before .before .before .before .before .before .before .before .expression .ensures .onward .below .long ∙ below-put (c .before .before .before .before .before .before .before .before .before .before .before .before .before .before .before .before .put .ensures) .long
 
 application-returns-4 : (t : ℕ) → application-lts.Need-returns-4 (claims-application t) (application-at t) application.Post
-application-returns-4 t c = application-read (c .before .before .before .before .before .before .before .before .before .before .before .before .before .before .before .before .before .before .before .before .before .before .before .before .pre .1 .0) (c .before .before .before .before .before .before .before .before .before .before .before .before .before .before .before .before .before .before .before .before .before .before .before .before .pre .1 .1) (c .before .before .before .before .before .before .before .before .before .before .before .before .before .before .before .before .before .before .before .before .before .before .before .before .pre .1 .2) (c .before .before .before .before .before .before .before .before .before .before .before .before .before .before .before .before .before .before .before .symbol .ensures) (c .before .before .before .before .before .before .before .before .before .before .before .before .before .before .before .before .before .before .if1 .left) (c .before .before .before .before .before .before .before .before .before .before .before .before .before .before .before .before .put .ensures) (c .before .before .before .before .before .before .before .before .before .before .before .before .bind .ensures) (c .before .before .before .before .before .before .before .before .before .before .expression .ensures) (c .before .before .before .before .before .before .if2 .left) (c .before .before .before .before .before .symbol2 .ensures) (c .before .before .before .before .if3 .left) (c .before .before .expression2 .ensures)
+application-returns-4 t c = application-read (c .before .before .before .before .before .before .before .before .before .before .before .before .before .before .before .before .before .before .before .before .before .before .before .before .pre .1 .0) (c .before .before .before .before .before .before .before .before .before .before .before .before .before .before .before .before .before .before .before .before .before .before .before .before .pre .1 .1) (c .before .before .before .before .before .before .before .before .before .before .before .before .before .before .before .before .before .before .before .before .before .before .before .before .pre .1 .2) (c .before .before .before .before .before .before .before .before .before .before .before .before .before .before .before .before .before .before .before .symbol .ensures) (c .before .before .before .before .before .before .before .before .before .before .before .before .before .before .before .before .before .before .if1 .left) (c .before .before .before .before .before .before .before .before .before .before .before .before .before .before .before .before .put .ensures) (c .before .before .before .before .before .before .before .before .before .before .before .before .nest .ensures) (c .before .before .before .before .before .before .before .before .before .before .expression .ensures) (c .before .before .before .before .before .before .if2 .left) (c .before .before .before .before .before .symbol2 .ensures) (c .before .before .before .before .if3 .left) (c .before .before .expression2 .ensures)
 
 abbrev arguments-Inv-loop : arguments-lts.InvT-loop
 arguments-Inv-loop line kinds book table lines indicator w₀ inner at₀ to₀ fault₀ count₀ w at to fault count =
@@ -356,11 +357,11 @@ named-same-length t c = search needs
 named-returns-2 : (t : ℕ) → named-lts.Need-returns-2 (claims-named t) (named-at t) named.Post
 named-returns-2 t c = named-alone (c .before .before .before .before .before .before .before .before .before .before .before .before .before .before .pre .1 .0) (c .before .before .before .before .before .before .before .before .before .before .before .before .before .before .pre .1 .1) (c .before .before .before .before .before .before .before .before .before .before .before .before .before .before .pre .1 .2) (c .before .before .before .before .before .before .before .before .before .name-at .ensures) (c .before .before .before .before .before .before .before .before .if1 .left) (c .before .before .before .before .before .before .put-name .ensures) (c .before .before .symbol .ensures) (c .before .if2 .taken) (c .counted .ensures)
 
-named-bind-requires : (t : ℕ) → named-lts.Need-bind-requires (claims-named t) (named-at t) named.Post
-named-bind-requires t c κs = tt
+named-nest-requires : (t : ℕ) → named-lts.Need-nest-requires (claims-named t) (named-at t) named.Post
+named-nest-requires t c κs = tt
 
 named-arguments-requires : (t : ℕ) → named-lts.Need-arguments-requires (claims-named t) (named-at t) named.Post
-named-arguments-requires t c κs = omega (arith, c .before .before .before .before .before .before .before .before .before .before .before .before .before .before .before .pre, c .before .before .if2, c .before .bind .ensures .deeper (c .before .before .before .before .before .before .before .before .before .before .before .before .before .before .before .pre .1 .2), c .before .before .before .symbol .ensures .from (c .before .before .before .before .before .before .before .before .before .before .name-at .ensures .within (c .before .before .before .before .before .before .before .before .before .before .before .before .before .before .before .pre .1 .1)), c .before .before .before .before .before .before .before .before .before .before .name-at .ensures .from)
+named-arguments-requires t c κs = omega (arith, c .before .before .before .before .before .before .before .before .before .before .before .before .before .before .before .pre, c .before .before .if2, c .before .nest .ensures .deeper (c .before .before .before .before .before .before .before .before .before .before .before .before .before .before .before .pre .1 .2), c .before .before .before .symbol .ensures .from (c .before .before .before .before .before .before .before .before .before .before .name-at .ensures .within (c .before .before .before .before .before .before .before .before .before .before .before .before .before .before .before .pre .1 .1)), c .before .before .before .before .before .before .before .before .before .before .name-at .ensures .from)
 
 named-counted-requires-2 : (t : ℕ) → named-lts.Need-counted-requires-2 (claims-named t) (named-at t) named.Post
 named-counted-requires-2 t c κs = tt
@@ -369,7 +370,7 @@ named-same-length-2 : (t : ℕ) → named-lts.Need-same-length-2 (claims-named t
 named-same-length-2 t c = search needs
 
 named-returns-3 : (t : ℕ) → named-lts.Need-returns-3 (claims-named t) (named-at t) named.Post
-named-returns-3 t c = named-read (c .before .before .before .before .before .before .before .before .before .before .before .before .before .before .before .before .before .before .before .pre .1 .0) (c .before .before .before .before .before .before .before .before .before .before .before .before .before .before .before .before .before .before .before .pre .1 .1) (c .before .before .before .before .before .before .before .before .before .before .before .before .before .before .before .before .before .before .before .pre .1 .2) (c .before .before .before .before .before .before .before .before .before .before .before .before .before .before .name-at .ensures) (c .before .before .before .before .before .before .before .before .before .before .before .before .before .if1 .left) (c .before .before .before .before .before .before .before .before .before .before .before .put-name .ensures) (c .before .before .before .before .before .before .before .symbol .ensures) (c .before .before .before .before .before .before .if2 .left) (c .before .before .before .before .before .bind .ensures) (c .before .before .before .arguments .ensures) (c .counted2 .ensures)
+named-returns-3 t c = named-read (c .before .before .before .before .before .before .before .before .before .before .before .before .before .before .before .before .before .before .before .pre .1 .0) (c .before .before .before .before .before .before .before .before .before .before .before .before .before .before .before .before .before .before .before .pre .1 .1) (c .before .before .before .before .before .before .before .before .before .before .before .before .before .before .before .before .before .before .before .pre .1 .2) (c .before .before .before .before .before .before .before .before .before .before .before .before .before .before .name-at .ensures) (c .before .before .before .before .before .before .before .before .before .before .before .before .before .if1 .left) (c .before .before .before .before .before .before .before .before .before .before .before .put-name .ensures) (c .before .before .before .before .before .before .before .symbol .ensures) (c .before .before .before .before .before .before .if2 .left) (c .before .before .before .before .before .nest .ensures) (c .before .before .before .arguments .ensures) (c .counted2 .ensures)
 
 pub +abstraction+application+arguments+expression+named-spec : {M : Type 1} → statement M
 +abstraction+application+arguments+expression+named-spec =
@@ -382,10 +383,12 @@ pub +abstraction+application+arguments+expression+named-spec : {M : Type 1} → 
       name-at-reads.Learnt,
       put-reads.Asked,
       put-reads.Learnt,
-      bind-reads.Asked,
-      bind-reads.Learnt,
+      nest-reads.Asked,
+      nest-reads.Learnt,
       expression-below t,
       expression.Post,
+      bind-reads.Asked,
+      bind-reads.Learnt,
     )
     (abstraction-at t)
     abstraction.Post
@@ -401,7 +404,7 @@ pub +abstraction+application+arguments+expression+named-spec : {M : Type 1} → 
     (abstraction-returns-3 t)
     (abstraction-put-requires t)
     (abstraction-add-if5 t)
-    (abstraction-bind-requires t)
+    (abstraction-nest-requires t)
     (abstraction-expression-requires t)
     (abstraction-same-length t)
     (abstraction-returns-4 t)
@@ -409,7 +412,7 @@ pub +abstraction+application+arguments+expression+named-spec : {M : Type 1} → 
     (abstraction-refused-requires-4 t)
     (abstraction-same-length-2 t)
     (abstraction-returns-5 t)
-    (abstraction-bind-requires-2 t)
+    (abstraction-bind-requires t)
     (abstraction-expression-requires-2 t)
     (abstraction-same-length-3 t)
     (abstraction-returns-6 t))
@@ -420,8 +423,8 @@ pub +abstraction+application+arguments+expression+named-spec : {M : Type 1} → 
       refused-reads.Learnt,
       put-reads.Asked,
       put-reads.Learnt,
-      bind-reads.Asked,
-      bind-reads.Learnt,
+      nest-reads.Asked,
+      nest-reads.Learnt,
       expression-below t,
       expression.Post,
     )
@@ -432,7 +435,7 @@ pub +abstraction+application+arguments+expression+named-spec : {M : Type 1} → 
     (application-returns t)
     (application-put-requires t)
     (application-add-if3 t)
-    (application-bind-requires t)
+    (application-nest-requires t)
     (application-expression-requires t)
     (application-same-length t)
     (application-returns-2 t)
@@ -514,8 +517,8 @@ pub +abstraction+application+arguments+expression+named-spec : {M : Type 1} → 
       symbol-reads.Learnt,
       counted-reads.Asked,
       counted-reads.Learnt,
-      bind-reads.Asked,
-      bind-reads.Learnt,
+      nest-reads.Asked,
+      nest-reads.Learnt,
       arguments-below t,
       arguments.Post,
     )
@@ -531,7 +534,7 @@ pub +abstraction+application+arguments+expression+named-spec : {M : Type 1} → 
     (named-counted-requires t)
     (named-same-length t)
     (named-returns-2 t)
-    (named-bind-requires t)
+    (named-nest-requires t)
     (named-arguments-requires t)
     (named-counted-requires-2 t)
     (named-same-length-2 t)

@@ -1,17 +1,17 @@
 use native.Mathlib.Omega.{arith}
-use mathlib.Core.Path.{refl, sym, _∙_}
-use Rattle.names.proofs.PartLaws.{BoundSoFar, bound-start, bound-skip, bound-more, bound-found, bound-nowhere, bound-too-deep}
+use mathlib.Core.Path.{sym, _∙_}
+use Rattle.names.proofs.PartLaws.{BoundSoFar, bound-start, bound-more, bound-found, bound-nowhere, bound-too-many}
 use Rattle.names.proofs.names.binding.Statement.{statement}
 use Rattle.names.proofs.names.binding.Tie as tie
 
 abbrev Inv-loop : tie.InvT-loop
-Inv-loop line word scope i₀ between₀ i between = BoundSoFar line scope word i between
+Inv-loop line word scope bindings i₀ i = BoundSoFar line scope word i
 
 abbrev μ-loop : tie.MeasureT-loop
-μ-loop line word scope i₀ between₀ i between = i
+μ-loop line word scope bindings i₀ i = i
 
 returns : tie.Need-returns Inv-loop μ-loop
-returns c = bound-too-deep (c .if1 .taken)
+returns c = bound-too-many (c .if1 .taken)
 
 loop-holds : tie.Need-loop-holds Inv-loop μ-loop
 loop-holds c = bound-start (c .if1 .left)
@@ -19,38 +19,41 @@ loop-holds c = bound-start (c .if1 .left)
 sub-i : tie.Need-sub-i Inv-loop μ-loop
 sub-i c = omega arith
 
-mul-n : tie.Need-mul-n Inv-loop μ-loop
-mul-n c = omega arith
+mul-wide : tie.Need-mul-wide Inv-loop μ-loop
+mul-wide c = omega arith
 
-element-copy-out-n : tie.Need-element-copy-out-n Inv-loop μ-loop
-element-copy-out-n c = omega arith
+element-copy-out-wide : tie.Need-element-copy-out-wide Inv-loop μ-loop
+element-copy-out-wide c = omega arith
 
-mul-first : tie.Need-mul-first Inv-loop μ-loop
-mul-first c = omega arith
+wide-requires : tie.Need-wide-requires Inv-loop μ-loop
+wide-requires c κs = tt
 
-element-copy-out-first : tie.Need-element-copy-out-first Inv-loop μ-loop
-element-copy-out-first c = omega arith
+mul-wide-2 : tie.Need-mul-wide-2 Inv-loop μ-loop
+mul-wide-2 c = omega arith
+
+element-copy-out-wide-2 : tie.Need-element-copy-out-wide-2 Inv-loop μ-loop
+element-copy-out-wide-2 c = omega arith
+
+wide-requires-2 : tie.Need-wide-requires-2 Inv-loop μ-loop
+wide-requires-2 c κs = tt
 
 part-is-requires : tie.Need-part-is-requires Inv-loop μ-loop
 part-is-requires c κs = tt
 
-returns-2 : tie.Need-returns-2 Inv-loop μ-loop
-returns-2 c = bound-found (c .before .before .before .before .before .before .loop .inv) (omega arith) refl refl (omega arith) (λ p. sym (c .before .part-is .ensures p) ∙ c .if3 .taken)
+sub-result : tie.Need-sub-result Inv-loop μ-loop
+sub-result c = omega arith
 
-add-between : tie.Need-add-between Inv-loop μ-loop
-add-between c = omega arith
+sub-result-2 : tie.Need-sub-result-2 Inv-loop μ-loop
+sub-result-2 c = omega arith
+
+returns-2 : tie.Need-returns-2 Inv-loop μ-loop
+returns-2 c = bound-found (c .before .before .before .before .before .before .before .loop .inv) (omega arith) (c .before .before .before .before .wide .ensures) (c .before .before .wide2 .ensures) (omega arith) (λ p. sym (c .before .part-is .ensures p) ∙ c .if2 .taken)
 
 loop-less : tie.Need-loop-less Inv-loop μ-loop
 loop-less c = omega arith
 
 loop-again : tie.Need-loop-again Inv-loop μ-loop
-loop-again c = bound-more (c .before .before .before .before .before .before .loop .inv) (omega arith) refl refl (omega arith) (λ p. sym (c .before .part-is .ensures p) ∙ c .if3 .left)
-
-loop-less-2 : tie.Need-loop-less-2 Inv-loop μ-loop
-loop-less-2 c = omega arith
-
-loop-again-2 : tie.Need-loop-again-2 Inv-loop μ-loop
-loop-again-2 c = bound-skip (c .before .before .before .before .loop .inv) (omega arith) refl refl (omega arith)
+loop-again c = bound-more (c .before .before .before .before .before .before .before .loop .inv) (omega arith) (c .before .before .before .before .wide .ensures) (c .before .before .wide2 .ensures) (λ p. sym (c .before .part-is .ensures p) ∙ c .if2 .left)
 
 returns-3 : tie.Need-returns-3 Inv-loop μ-loop
 returns-3 c = bound-nowhere (c .before .loop .inv) (omega arith)
@@ -64,15 +67,16 @@ binding-spec =
     returns
     loop-holds
     sub-i
-    mul-n
-    element-copy-out-n
-    mul-first
-    element-copy-out-first
+    mul-wide
+    element-copy-out-wide
+    wide-requires
+    mul-wide-2
+    element-copy-out-wide-2
+    wide-requires-2
     part-is-requires
+    sub-result
+    sub-result-2
     returns-2
-    add-between
     loop-less
     loop-again
-    loop-less-2
-    loop-again-2
     returns-3)

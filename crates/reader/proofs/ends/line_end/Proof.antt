@@ -1,7 +1,8 @@
+use borrow.Author.Needs.{needs}
 use native.Mathlib.Omega.{arith}
 use Prim.Native.Nat.{_-_}
-use lib.ListN.{length}
-use Rattle.reader.proofs.LineEndLaws.{NoEndSoFar, no-end-start, no-end-more, line-ends-here, book-ends-here}
+use lib.ListN.{length, length-take, length-drop}
+use Rattle.reader.proofs.LineEndLaws.{NoEndSoFar, no-end-start, no-end-part, line-ends-later, book-ends-here}
 use Rattle.reader.proofs.ends.line_end.Statement.{statement}
 use Rattle.reader.proofs.ends.line_end.Tie as tie
 
@@ -14,26 +15,44 @@ abbrev μ-loop : tie.MeasureT-loop
 loop-holds : tie.Need-loop-holds Inv-loop μ-loop
 loop-holds c = no-end-start _ _
 
-shared-slice-read-if1 : tie.Need-shared-slice-read-if1 Inv-loop μ-loop
-shared-slice-read-if1 c = omega arith
+sub-if1 : tie.Need-sub-if1 Inv-loop μ-loop
+sub-if1 c = omega arith
 
-add-result : tie.Need-add-result Inv-loop μ-loop
-add-result c = omega arith
+byte-end-requires : tie.Need-byte-end-requires Inv-loop μ-loop
+byte-end-requires c κs = search needs
 
 returns : tie.Need-returns Inv-loop μ-loop
-returns c = line-ends-here (c .before .before .before .loop .inv) (omega arith) (c .if1 .taken)
+returns c = line-ends-later (c .before .before .before .loop .inv) (omega arith) (c .byte-end .ensures)
 
-add-i : tie.Need-add-i Inv-loop μ-loop
-add-i c = omega arith
+add-next : tie.Need-add-next Inv-loop μ-loop
+add-next c = omega arith
+
+sub-has-end : tie.Need-sub-has-end Inv-loop μ-loop
+sub-has-end c = omega arith
+
+part-has-end-start : tie.Need-part-has-end-start Inv-loop μ-loop
+part-has-end-start c = omega arith
+
+part-has-end-end : tie.Need-part-has-end-end Inv-loop μ-loop
+part-has-end-end c = omega arith
+
+has-end-requires : tie.Need-has-end-requires Inv-loop μ-loop
+has-end-requires c κs = simp (length-take, length-drop) (omega arith)
+
+byte-end-requires-2 : tie.Need-byte-end-requires-2 Inv-loop μ-loop
+byte-end-requires-2 c κs = search needs
+
+returns-2 : tie.Need-returns-2 Inv-loop μ-loop
+returns-2 c = line-ends-later (c .before .before .before .before .before .before .loop .inv) (omega arith) (c .byte-end2 .ensures)
 
 loop-less : tie.Need-loop-less Inv-loop μ-loop
 loop-less c = omega arith
 
 loop-again : tie.Need-loop-again Inv-loop μ-loop
-loop-again c = no-end-more (c .before .before .before .loop .inv) (omega arith) (c .if1 .left)
+loop-again c = no-end-part (c .before .before .before .before .before .loop .inv) (omega arith) (c .before .has-end .ensures (c .if2 .left))
 
-returns-2 : tie.Need-returns-2 Inv-loop μ-loop
-returns-2 c = book-ends-here (c .before .loop .inv) (omega arith)
+returns-3 : tie.Need-returns-3 Inv-loop μ-loop
+returns-3 c = book-ends-here (c .before .loop .inv) (omega arith)
 
 pub line-end-spec : {M : Type 1} → statement M
 line-end-spec =
@@ -42,10 +61,16 @@ line-end-spec =
     Inv-loop
     μ-loop
     loop-holds
-    shared-slice-read-if1
-    add-result
+    sub-if1
+    byte-end-requires
     returns
-    add-i
+    add-next
+    sub-has-end
+    part-has-end-start
+    part-has-end-end
+    has-end-requires
+    byte-end-requires-2
+    returns-2
     loop-less
     loop-again
-    returns-2)
+    returns-3)

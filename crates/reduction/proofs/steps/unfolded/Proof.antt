@@ -3,6 +3,8 @@ use Rattle.reduction.proofs.PutLaws.{unfolded-none, unfolded-law}
 use borrow.Author.Needs.{needs}
 use Rattle.reduction.proofs.steps.unfolded.Statement.{statement}
 use Rattle.reduction.proofs.steps.unfolded.Tie as tie
+use Rattle.cells.proofs.result_at.Reads as result-at-reads
+use Rattle.reduction.proofs.steps.arguments_at.Reads as arguments-at-reads
 
 returns : tie.Need-returns
 returns c = unfolded-none (omega arith)
@@ -13,20 +15,23 @@ field-requires c κs = search needs
 field-requires-2 : tie.Need-field-requires-2
 field-requires-2 c κs = search needs
 
-field-requires-3 : tie.Need-field-requires-3
-field-requires-3 c κs = search needs
+add-arguments-at : tie.Need-add-arguments-at
+add-arguments-at c = search needs
 
-add-put-in : tie.Need-add-put-in
-add-put-in c = search needs
+arguments-at-requires : tie.Need-arguments-at-requires
+arguments-at-requires c κs = search needs
 
-put-in-requires : tie.Need-put-in-requires
-put-in-requires c κs = search needs
+result-at-requires : tie.Need-result-at-requires
+result-at-requires c κs = search needs
+
+instantiate-requires : tie.Need-instantiate-requires
+instantiate-requires c κs = search needs
 
 same-length : tie.Need-same-length
 same-length c = search needs
 
 returns-2 : tie.Need-returns-2
-returns-2 c = unfolded-law (omega arith) (c .before .before .before .before .before .before .field .ensures .0) (c .before .before .before .before .before .field2 .ensures .0) (c .before .before .before .before .field3 .ensures .0) (c .before .before .put-in .ensures)
+returns-2 c = unfolded-law (c .before .before .before .before .before .arguments-at .result) (omega arith) (c .before .before .before .before .before .before .before .before .field .ensures .0) (c .before .before .before .before .before .before .before .field2 .ensures .0) (c .before .before .before .before .before .arguments-at .ensures) (c .before .before .before .before .result-at .ensures (omega arith)) (c .before .before .instantiate .ensures)
 
 pub unfolded-spec : {M : Type 1} → statement M
 unfolded-spec =
@@ -35,8 +40,9 @@ unfolded-spec =
     returns
     field-requires
     field-requires-2
-    field-requires-3
-    add-put-in
-    put-in-requires
+    add-arguments-at
+    arguments-at-requires
+    result-at-requires
+    instantiate-requires
     same-length
     returns-2)

@@ -1,11 +1,12 @@
-use mathlib.Core.Path.{_∙_}
+use mathlib.Core.Path.{sym, _∙_}
 use Prim.Native.Nat.{_-_}
 use native.Mathlib.Omega.{arith}
 use mathlib.Core.List.{[]}
 use lib.ListN.{take, length-set}
+use lib.Seq.{getD-take}
 use Rattle.terms.specs.Grafts.{Raises}
 use Rattle.terms.proofs.Walk.{Inv, start, finish}
-use Rattle.terms.proofs.Turns.{stop-source, stop-full, turn-branch, turn-leaf, stop-leaf, kept-domain, stop-domain, stop-body, turn-abstraction}
+use Rattle.terms.proofs.Turns.{take-short, stop-source, stop-full, turn-branch, turn-leaf, stop-leaf, kept-domain, stop-domain, stop-body, turn-abstraction}
 use Prim.Native.Nat.{ℕ, _<_}
 use borrow.Fn.Kinds.{In}
 use borrow.Fn.PlainCycle.{Measures, is, falls, and}
@@ -27,7 +28,7 @@ abbrev lift-in-below : ℕ → In 2 lift-in-kinds.ps
 lift-in-below t = and 2 lift-in-kinds.ps (falls 2 lift-in-kinds.ps _<_ μ-lift-in t) lift-in.Pre
 
 abbrev lift-in-Inv-loop : lift-in-lts.InvT-loop
-lift-in-Inv-loop table w₀ end from n to d cut i₀ at₀ left₀ w i at left = Inv 65536 (Raises d) table (take end w₀) from n w₀ to cut w i at left
+lift-in-Inv-loop table w₀ end from n to d cut i₀ at₀ left₀ w i at left = Inv 65536 (Raises d) table (take end w₀) (take end w₀) from n w₀ to cut w i at left
 
 abbrev lift-in-μ-loop : lift-in-lts.MeasureT-loop
 lift-in-μ-loop table w₀ end from n to d cut i₀ at₀ left₀ w i at left = end - i
@@ -45,7 +46,7 @@ lift-in-same-length : (t : ℕ) → lift-in-lts.Need-same-length (claims-lift-in
 lift-in-same-length t c = c .before .before .loop .inv .kept .long
 
 lift-in-returns : (t : ℕ) → lift-in-lts.Need-returns (claims-lift-in t) (lift-in-at t) lift-in.Post lift-in-Inv-loop lift-in-μ-loop
-lift-in-returns t c = stop-source (c .before .before .before .before .before .pre .1 .0) (c .before .before .loop .inv) (omega arith)
+lift-in-returns t c = stop-source (λ l. l) (c .before .before .before .before .before .pre .1 .0) (c .before .before .loop .inv) (c .before .before .before .before .before .args .end) (take-short _ _) (omega arith)
 
 lift-in-sub-if2 : (t : ℕ) → lift-in-lts.Need-sub-if2 (claims-lift-in t) (lift-in-at t) lift-in.Post lift-in-Inv-loop lift-in-μ-loop
 lift-in-sub-if2 t c = omega arith
@@ -57,7 +58,7 @@ lift-in-same-length-2 : (t : ℕ) → lift-in-lts.Need-same-length-2 (claims-lif
 lift-in-same-length-2 t c = c .before .before .before .loop .inv .kept .long
 
 lift-in-returns-2 : (t : ℕ) → lift-in-lts.Need-returns-2 (claims-lift-in t) (lift-in-at t) lift-in.Post lift-in-Inv-loop lift-in-μ-loop
-lift-in-returns-2 t c = stop-source (c .before .before .before .before .before .before .pre .1 .0) (c .before .before .before .loop .inv) (omega arith)
+lift-in-returns-2 t c = stop-source (λ l. l) (c .before .before .before .before .before .before .pre .1 .0) (c .before .before .before .loop .inv) (c .before .before .before .before .before .before .args .end) (take-short _ _) (omega arith)
 
 lift-in-add-t28 : (t : ℕ) → lift-in-lts.Need-add-t28 (claims-lift-in t) (lift-in-at t) lift-in.Post lift-in-Inv-loop lift-in-μ-loop
 lift-in-add-t28 t c = omega arith
@@ -66,7 +67,7 @@ lift-in-same-length-3 : (t : ℕ) → lift-in-lts.Need-same-length-3 (claims-lif
 lift-in-same-length-3 t c = c .before .before .before .before .loop .inv .kept .long
 
 lift-in-returns-3 : (t : ℕ) → lift-in-lts.Need-returns-3 (claims-lift-in t) (lift-in-at t) lift-in.Post lift-in-Inv-loop lift-in-μ-loop
-lift-in-returns-3 t c = stop-full (c .before .before .before .before .before .before .before .pre .1 .0) (c .before .before .before .before .loop .inv) (c .before .before .before .loop-test .taken) (c .if3 .taken)
+lift-in-returns-3 t c = stop-full (λ l. l) (c .before .before .before .before .before .before .before .pre .1 .0) (c .before .before .before .before .loop .inv) (c .before .before .before .loop-test .taken) (c .if3 .taken)
 
 lift-in-mul-x : (t : ℕ) → lift-in-lts.Need-mul-x (claims-lift-in t) (lift-in-at t) lift-in.Post lift-in-Inv-loop lift-in-μ-loop
 lift-in-mul-x t c = omega arith
@@ -93,10 +94,10 @@ lift-in-add-t38 : (t : ℕ) → lift-in-lts.Need-add-t38 (claims-lift-in t) (lif
 lift-in-add-t38 t c = omega arith
 
 lift-in-same-length-4 : (t : ℕ) → lift-in-lts.Need-same-length-4 (claims-lift-in t) (lift-in-at t) lift-in.Post lift-in-Inv-loop lift-in-μ-loop
-lift-in-same-length-4 t c = kept-domain (c .before .before .before .before .before .before .before .before .before .before .before .before .before .before .pre .1 .0) (c .before .before .before .before .before .before .before .before .before .before .before .loop .inv) (c .before .before .before .before .before .before .before .before .before .before .loop-test .taken) (c .before .before .before .before .before .before .before .if3 .left) (c .before .before .before .before .before .before .before .before .before .if1 .left) (c .before .before .before .before .before .if4 .taken) (c .before .before .before .lift-in .ensures) .long ∙ c .before .before .before .before .before .before .before .before .before .before .before .loop .inv .kept .long
+lift-in-same-length-4 t c = kept-domain (λ l. l) (c .before .before .before .before .before .before .before .before .before .before .before .before .before .before .pre .1 .0) (c .before .before .before .before .before .before .before .before .before .before .before .loop .inv) (c .before .before .before .before .before .before .before .before .before .before .loop-test .taken) (c .before .before .before .before .before .before .before .if3 .left) (sym (getD-take _ _ _ 0 (c .before .before .before .before .before .before .before .before .before .if1 .left))) (c .before .before .before .before .before .if4 .taken) (c .before .before .before .lift-in .ensures) .long ∙ c .before .before .before .before .before .before .before .before .before .before .before .loop .inv .kept .long
 
 lift-in-returns-4 : (t : ℕ) → lift-in-lts.Need-returns-4 (claims-lift-in t) (lift-in-at t) lift-in.Post lift-in-Inv-loop lift-in-μ-loop
-lift-in-returns-4 t c = stop-domain (c .before .before .before .before .before .before .before .before .before .before .before .before .before .before .pre .1 .0) (c .before .before .before .before .before .before .before .before .before .before .before .loop .inv) (c .before .before .before .before .before .before .before .before .before .before .loop-test .taken) (c .before .before .before .before .before .before .before .if3 .left) (c .before .before .before .before .before .before .before .before .before .if1 .left) (c .before .before .before .before .before .if4 .taken) (c .before .before .before .lift-in .ensures) (c .if5 .taken)
+lift-in-returns-4 t c = stop-domain (λ l. l) (c .before .before .before .before .before .before .before .before .before .before .before .before .before .before .pre .1 .0) (c .before .before .before .before .before .before .before .before .before .before .before .loop .inv) (c .before .before .before .before .before .before .before .before .before .before .loop-test .taken) (c .before .before .before .before .before .before .before .if3 .left) (sym (getD-take _ _ _ 0 (c .before .before .before .before .before .before .before .before .before .if1 .left))) (c .before .before .before .before .before .if4 .taken) (c .before .before .before .lift-in .ensures) (c .if5 .taken)
 
 lift-in-add-lift-in-3 : (t : ℕ) → lift-in-lts.Need-add-lift-in-3 (claims-lift-in t) (lift-in-at t) lift-in.Post lift-in-Inv-loop lift-in-μ-loop
 lift-in-add-lift-in-3 t c = omega arith
@@ -108,10 +109,10 @@ lift-in-add-t42 : (t : ℕ) → lift-in-lts.Need-add-t42 (claims-lift-in t) (lif
 lift-in-add-t42 t c = omega arith
 
 lift-in-same-length-5 : (t : ℕ) → lift-in-lts.Need-same-length-5 (claims-lift-in t) (lift-in-at t) lift-in.Post lift-in-Inv-loop lift-in-μ-loop
-lift-in-same-length-5 t c = c .before .before .before .lift-in2 .ensures .kept .long ∙ kept-domain (c .before .before .before .before .before .before .before .before .before .before .before .before .before .before .before .before .before .before .before .pre .1 .0) (c .before .before .before .before .before .before .before .before .before .before .before .before .before .before .before .before .loop .inv) (c .before .before .before .before .before .before .before .before .before .before .before .before .before .before .before .loop-test .taken) (c .before .before .before .before .before .before .before .before .before .before .before .before .if3 .left) (c .before .before .before .before .before .before .before .before .before .before .before .before .before .before .if1 .left) (c .before .before .before .before .before .before .before .before .before .before .if4 .taken) (c .before .before .before .before .before .before .before .before .lift-in .ensures) .long ∙ c .before .before .before .before .before .before .before .before .before .before .before .before .before .before .before .before .loop .inv .kept .long
+lift-in-same-length-5 t c = c .before .before .before .lift-in2 .ensures .kept .long ∙ kept-domain (λ l. l) (c .before .before .before .before .before .before .before .before .before .before .before .before .before .before .before .before .before .before .before .pre .1 .0) (c .before .before .before .before .before .before .before .before .before .before .before .before .before .before .before .before .loop .inv) (c .before .before .before .before .before .before .before .before .before .before .before .before .before .before .before .loop-test .taken) (c .before .before .before .before .before .before .before .before .before .before .before .before .if3 .left) (sym (getD-take _ _ _ 0 (c .before .before .before .before .before .before .before .before .before .before .before .before .before .before .if1 .left))) (c .before .before .before .before .before .before .before .before .before .before .if4 .taken) (c .before .before .before .before .before .before .before .before .lift-in .ensures) .long ∙ c .before .before .before .before .before .before .before .before .before .before .before .before .before .before .before .before .loop .inv .kept .long
 
 lift-in-returns-5 : (t : ℕ) → lift-in-lts.Need-returns-5 (claims-lift-in t) (lift-in-at t) lift-in.Post lift-in-Inv-loop lift-in-μ-loop
-lift-in-returns-5 t c = stop-body (c .before .before .before .before .before .before .before .before .before .before .before .before .before .before .before .before .before .before .before .pre .1 .0) (c .before .before .before .before .before .before .before .before .before .before .before .before .before .before .before .before .loop .inv) (c .before .before .before .before .before .before .before .before .before .before .before .before .before .before .before .loop-test .taken) (c .before .before .before .before .before .before .before .before .before .before .before .before .if3 .left) (c .before .before .before .before .before .before .before .before .before .before .before .before .before .before .if1 .left) (c .before .before .before .before .before .before .before .before .before .before .if4 .taken) (c .before .before .before .before .before .before .before .before .lift-in .ensures) (c .before .before .before .before .before .if5 .left) (c .before .before .before .lift-in2 .ensures) (c .if6 .taken)
+lift-in-returns-5 t c = stop-body (λ l. l) (c .before .before .before .before .before .before .before .before .before .before .before .before .before .before .before .before .before .before .before .pre .1 .0) (c .before .before .before .before .before .before .before .before .before .before .before .before .before .before .before .before .loop .inv) (c .before .before .before .before .before .before .before .before .before .before .before .before .before .before .before .loop-test .taken) (c .before .before .before .before .before .before .before .before .before .before .before .before .if3 .left) (sym (getD-take _ _ _ 0 (c .before .before .before .before .before .before .before .before .before .before .before .before .before .before .if1 .left))) (c .before .before .before .before .before .before .before .before .before .before .if4 .taken) (c .before .before .before .before .before .before .before .before .lift-in .ensures) (c .before .before .before .before .before .if5 .left) (c .before .before .before .lift-in2 .ensures) (c .if6 .taken)
 
 lift-in-sub-left : (t : ℕ) → lift-in-lts.Need-sub-left (claims-lift-in t) (lift-in-at t) lift-in.Post lift-in-Inv-loop lift-in-μ-loop
 lift-in-sub-left t c = omega arith
@@ -120,7 +121,7 @@ lift-in-loop-less : (t : ℕ) → lift-in-lts.Need-loop-less (claims-lift-in t) 
 lift-in-loop-less t c = omega arith
 
 lift-in-loop-again : (t : ℕ) → lift-in-lts.Need-loop-again (claims-lift-in t) (lift-in-at t) lift-in.Post lift-in-Inv-loop lift-in-μ-loop
-lift-in-loop-again t c = turn-abstraction (c .before .before .before .before .before .before .before .before .before .before .before .before .before .before .before .before .before .before .before .pre .1 .0) (c .before .before .before .before .before .before .before .before .before .before .before .before .before .before .before .before .loop .inv) (c .before .before .before .before .before .before .before .before .before .before .before .before .before .before .before .loop-test .taken) (c .before .before .before .before .before .before .before .before .before .before .before .before .if3 .left) (c .before .before .before .before .before .before .before .before .before .before .before .before .before .before .if1 .left) (c .before .before .before .before .before .before .before .before .before .before .if4 .taken) (c .before .before .before .before .before .before .before .before .lift-in .ensures) (c .before .before .before .before .before .if5 .left) (c .before .before .before .lift-in2 .ensures) (c .if6 .left)
+lift-in-loop-again t c = turn-abstraction (λ l. l) (c .before .before .before .before .before .before .before .before .before .before .before .before .before .before .before .before .before .before .before .pre .1 .0) (c .before .before .before .before .before .before .before .before .before .before .before .before .before .before .before .before .loop .inv) (c .before .before .before .before .before .before .before .before .before .before .before .before .before .before .before .loop-test .taken) (c .before .before .before .before .before .before .before .before .before .before .before .before .if3 .left) (sym (getD-take _ _ _ 0 (c .before .before .before .before .before .before .before .before .before .before .before .before .before .before .if1 .left))) (c .before .before .before .before .before .before .before .before .before .before .if4 .taken) (c .before .before .before .before .before .before .before .before .lift-in .ensures) (c .before .before .before .before .before .if5 .left) (c .before .before .before .lift-in2 .ensures) (c .if6 .left)
 
 lift-in-raise-leaf-requires : (t : ℕ) → lift-in-lts.Need-raise-leaf-requires (claims-lift-in t) (lift-in-at t) lift-in.Post lift-in-Inv-loop lift-in-μ-loop
 lift-in-raise-leaf-requires t c κs = (omega arith)
@@ -132,7 +133,7 @@ lift-in-same-length-6 : (t : ℕ) → lift-in-lts.Need-same-length-6 (claims-lif
 lift-in-same-length-6 t c = c .before .before .before .raise-leaf .ensures [] [] .kept .long ∙ c .before .before .before .before .before .before .before .before .before .before .before .before .loop .inv .kept .long
 
 lift-in-returns-6 : (t : ℕ) → lift-in-lts.Need-returns-6 (claims-lift-in t) (lift-in-at t) lift-in.Post lift-in-Inv-loop lift-in-μ-loop
-lift-in-returns-6 t c = stop-leaf (c .before .before .before .before .before .before .before .before .before .before .before .before .before .before .before .pre .1 .0) (c .before .before .before .before .before .before .before .before .before .before .before .before .loop .inv) (c .before .before .before .before .before .before .before .before .before .before .before .loop-test .taken) (c .before .before .before .before .before .before .before .before .before .before .if1 .left) (c .before .before .before .before .before .if7 .taken) (c .before .before .before .raise-leaf .ensures _ _) (c .if8 .taken)
+lift-in-returns-6 t c = stop-leaf (λ l. l) (c .before .before .before .before .before .before .before .before .before .before .before .before .before .before .before .pre .1 .0) (c .before .before .before .before .before .before .before .before .before .before .before .before .loop .inv) (c .before .before .before .before .before .before .before .before .before .before .before .loop-test .taken) (sym (getD-take _ _ _ 0 (c .before .before .before .before .before .before .before .before .before .before .if1 .left))) (c .before .before .before .before .before .if7 .taken) (c .before .before .before .raise-leaf .ensures _ _) (c .if8 .taken)
 
 lift-in-add-i : (t : ℕ) → lift-in-lts.Need-add-i (claims-lift-in t) (lift-in-at t) lift-in.Post lift-in-Inv-loop lift-in-μ-loop
 lift-in-add-i t c = omega arith
@@ -144,7 +145,7 @@ lift-in-loop-less-2 : (t : ℕ) → lift-in-lts.Need-loop-less-2 (claims-lift-in
 lift-in-loop-less-2 t c = omega arith
 
 lift-in-loop-again-2 : (t : ℕ) → lift-in-lts.Need-loop-again-2 (claims-lift-in t) (lift-in-at t) lift-in.Post lift-in-Inv-loop lift-in-μ-loop
-lift-in-loop-again-2 t c = turn-leaf (c .before .before .before .before .before .before .before .before .before .before .before .before .before .before .before .pre .1 .0) (c .before .before .before .before .before .before .before .before .before .before .before .before .loop .inv) (c .before .before .before .before .before .before .before .before .before .before .before .loop-test .taken) (c .before .before .before .before .before .before .before .before .before .before .if1 .left) (c .before .before .before .before .before .if7 .taken) (c .before .before .before .raise-leaf .ensures _ _) (c .if8 .left)
+lift-in-loop-again-2 t c = turn-leaf (λ l. l) (c .before .before .before .before .before .before .before .before .before .before .before .before .before .before .before .pre .1 .0) (c .before .before .before .before .before .before .before .before .before .before .before .before .loop .inv) (c .before .before .before .before .before .before .before .before .before .before .before .loop-test .taken) (sym (getD-take _ _ _ 0 (c .before .before .before .before .before .before .before .before .before .before .if1 .left))) (c .before .before .before .before .before .if7 .taken) (c .before .before .before .raise-leaf .ensures _ _) (c .if8 .left)
 
 lift-in-mul-w-2 : (t : ℕ) → lift-in-lts.Need-mul-w-2 (claims-lift-in t) (lift-in-at t) lift-in.Post lift-in-Inv-loop lift-in-μ-loop
 lift-in-mul-w-2 t c = omega arith
@@ -171,7 +172,7 @@ lift-in-loop-less-3 : (t : ℕ) → lift-in-lts.Need-loop-less-3 (claims-lift-in
 lift-in-loop-less-3 t c = omega arith
 
 lift-in-loop-again-3 : (t : ℕ) → lift-in-lts.Need-loop-again-3 (claims-lift-in t) (lift-in-at t) lift-in.Post lift-in-Inv-loop lift-in-μ-loop
-lift-in-loop-again-3 t c = rw (c .kids .ensures .0) (turn-branch (c .before .before .before .before .before .before .before .before .before .before .before .pre .1 .0) (c .before .before .before .before .before .before .before .before .loop .inv) (c .before .before .before .before .before .before .before .loop-test .taken) (c .before .before .before .before .if3 .left) (c .before .before .before .before .before .before .if1 .left) (c .before .if7 .left) (c .before .before .if4 .left))
+lift-in-loop-again-3 t c = rw (c .kids .ensures .0) (turn-branch (λ l. l) (c .before .before .before .before .before .before .before .before .before .before .before .pre .1 .0) (c .before .before .before .before .before .before .before .before .loop .inv) (c .before .before .before .before .before .before .before .loop-test .taken) (c .before .before .before .before .if3 .left) (sym (getD-take _ _ _ 0 (c .before .before .before .before .before .before .if1 .left))) (c .before .if7 .left) (c .before .before .if4 .left))
 
 lift-in-same-length-7 : (t : ℕ) → lift-in-lts.Need-same-length-7 (claims-lift-in t) (lift-in-at t) lift-in.Post lift-in-Inv-loop lift-in-μ-loop
 lift-in-same-length-7 t c = c .before .loop .inv .kept .long

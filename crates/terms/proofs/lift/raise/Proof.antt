@@ -32,7 +32,7 @@ same-length : tie.Need-same-length
 same-length c = search needs
 
 returns-3 : tie.Need-returns-3
-returns-3 c = raise-post (whole-full _ _ _ (omega arith) (c .before .before .before .lift-in .ensures) (c .if3 .taken))
+returns-3 c = raise-post (whole-full (λ l. l) _ _ _ (omega arith) (c .before .before .before .lift-in .ensures) (c .if3 .taken))
 
 sub-result : tie.Need-sub-result
 sub-result c = search needs
@@ -41,7 +41,7 @@ same-length-2 : tie.Need-same-length-2
 same-length-2 c = search needs
 
 returns-4 : tie.Need-returns-4
-returns-4 c = raise-post (whole-made _ _ _ (omega arith) (c .before .before .before .lift-in .ensures) (c .if3 .left))
+returns-4 c = raise-post (whole-made (λ l. l) _ _ _ (omega arith) (c .before .before .before .lift-in .ensures) (c .if3 .left))
 
 pub raise-spec : {M : Type 1} → statement M
 raise-spec =

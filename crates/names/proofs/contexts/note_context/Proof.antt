@@ -1,0 +1,57 @@
+use native.Mathlib.Omega.{arith}
+use Rattle.names.proofs.NotedLaws.{NotedSoFar, noted-start, noted-all, noted-broken, noted-more}
+use Rattle.names.proofs.contexts.note_context.Statement.{statement}
+use Rattle.names.proofs.contexts.note_context.Tie as tie
+
+abbrev Inv-loop : tie.InvT-loop
+Inv-loop table w₀ last c₀ w c = NotedSoFar table w₀ w last c
+
+abbrev μ-loop : tie.MeasureT-loop
+μ-loop table w₀ last c₀ w c = c
+
+loop-holds : tie.Need-loop-holds Inv-loop μ-loop
+loop-holds c = noted-start
+
+field-requires : tie.Need-field-requires Inv-loop μ-loop
+field-requires c κs = omega arith
+
+same-length : tie.Need-same-length Inv-loop μ-loop
+same-length c = c .before .before .before .loop .inv .kept .long
+
+returns : tie.Need-returns Inv-loop μ-loop
+returns c = noted-broken (c .before .before .before .loop .inv) (omega arith) (c .before .field .ensures .0) (omega arith)
+
+field-requires-2 : tie.Need-field-requires-2 Inv-loop μ-loop
+field-requires-2 c κs = omega arith
+
+put-variable-requires : tie.Need-put-variable-requires Inv-loop μ-loop
+put-variable-requires c κs = tt
+
+loop-less : tie.Need-loop-less Inv-loop μ-loop
+loop-less c = omega arith
+
+loop-again : tie.Need-loop-again Inv-loop μ-loop
+loop-again c = noted-more (c .before .before .before .before .before .before .before .before .loop .inv) (omega arith) (c .before .before .before .before .before .before .field .ensures .0) (omega arith) (c .before .before .before .before .field2 .ensures .0) (c .before .before .put-variable .ensures)
+
+same-length-2 : tie.Need-same-length-2 Inv-loop μ-loop
+same-length-2 c = c .before .loop .inv .kept .long
+
+returns-2 : tie.Need-returns-2 Inv-loop μ-loop
+returns-2 c = noted-all (c .before .loop .inv) (omega arith)
+
+pub note-context-spec : {M : Type 1} → statement M
+note-context-spec =
+    tie.close
+    (tie.spec
+    Inv-loop
+    μ-loop
+    loop-holds
+    field-requires
+    same-length
+    returns
+    field-requires-2
+    put-variable-requires
+    loop-less
+    loop-again
+    same-length-2
+    returns-2)
