@@ -123,10 +123,6 @@ nth-is (outside d) b = nth-is d b
 -- ---- the clauses of `category`
 
 module _ (ls : Lines) (L : ℕ) {R : Expr → Type 0} {code left : ℕ} (sc : List Expr) (n : ℕ) where
-  pub variable-clause : {v : ℕ} {l : Line} → IsLine ls v l → Result R code left (made L (l .category) n) → Result R code left (category ls L sc (var v) n)
-  unfolding category
-  variable-clause i h = at-line _ n i h
-
   pub bound-clause : {i : ℕ} {p : Expr} → DomainAt p sc i → Result R code left (made L (lift (suc i) 0 p) n) → Result R code left (category ls L sc (bound i) n)
   unfolding category andThen
   bound-clause {i} {p} d h = rw (nth-is d n) h
@@ -137,13 +133,16 @@ module _ (ls : Lines) (L : ℕ) {R : Expr → Type 0} {code left : ℕ} (sc : Li
   unfolding category
   constant-clause xs i h = at-line _ n i h
 
-  -- a constant without arguments
-  pub alone-clause : {v : ℕ} {l : Line} (xs : Exprs) → IsLine ls v l → length (l .context) ≡ 0 → countExprs xs ≡ 0
-      → Result R code left (made L (l .category) n) → Result R code left (category ls L sc (const v xs) n)
-  unfolding andThen
-  alone-clause {l = l} xs i h c r =
-      constant-clause xs i (rw (none-left ls L sc xs (l .context) (l .context) nil n c h)
-      (rw (instantiate-empty (l .context) xs 0 (l .category) h) r))
+-- a category that is stored: a variable's, and that of a constant without arguments
+module _ (ls : Lines) (L : ℕ) (sc : List Expr) (n : ℕ) where
+  pub variable-is : {v : ℕ} {l : Line} → IsLine ls v l → category ls L sc (var v) n ≡ made L (l .category) n
+  unfolding category andThen
+  variable-is i = rw (the-line i n) refl
+
+  pub alone-is : {v : ℕ} {l : Line} (xs : Exprs) → IsLine ls v l → length (l .context) ≡ 0 → countExprs xs ≡ 0 → category ls L sc (const v xs) n ≡ made L (l .category) n
+  unfolding category andThen
+  alone-is {l = l} xs i h c =
+      rw (the-line i n) (rw (none-left ls L sc xs (l .context) (l .context) nil n c h) (ap (λ (e : Expr). made L e n) (instantiate-empty (l .context) xs 0 (l .category) h)))
 
 module _ (ls : Lines) (L : ℕ) (sc : List Expr) (n : ℕ) where
   pub application-clause : (a b : Expr) → category ls L sc (app a b) n

@@ -1,6 +1,7 @@
 -- The category of an expression, by its first cell, from what the functions below it leave.
 use mathlib.Core.Path.{_≡_, refl, sym, ap, _∙_}
-use mathlib.Core.Logic.{_≢_}
+use mathlib.Core.Logic.{_≢_, _⊎_, inl, inr}
+use mathlib.Core.Bool.{Bool, true}
 use mathlib.Core.List.{List, _∷_}
 use Prim.Native.Nat.{ℕ, _+_, _*_, _-_, _/_, _%_, _≤_, _<_}
 use native.Mathlib.Omega.{arith}
@@ -9,6 +10,7 @@ use Rattle.aut68.specs.Procedure.Answer.{andThen, ensure, notType}
 use Rattle.aut68.specs.Expr.{Expr, Exprs, type, var, bound, const, app, abs, nil, cons, sizes, cells, firstCell, countExprs, isType}
 use Rattle.aut68.specs.Expr as Expr
 use Rattle.aut68.specs.Lines.{Line, Lines}
+use Rattle.aut68.specs.Rules.Names.{IsLine}
 use Rattle.aut68.specs.Procedure.Category.{made, toFunction, overBinding, category}
 use Rattle.calculus.specs.Scoped.{Scoped}
 use Rattle.calculus.specs.CategoryFound.{found-known}
@@ -21,10 +23,11 @@ use Rattle.cells.specs.Stores.{outside-same}
 use Rattle.cells.specs.declared.scope.Scope.{Scope}
 use Rattle.reduction.specs.Book.{Book, known-wf}
 use Rattle.categories.specs.Places.{Awaits, Expression}
-use Rattle.categories.specs.Posts.{Finds, FindsKnown, Passes, FunctionKnown, StoredPost, BoundPost, ConstantPost, FunctionOfPost, AppliedPost, FoundTypePost, OverBindingPost, VariableFitsPost, ArgumentFitsPost, wantedFits, Categorises, CategoryPost, ApplicationPost, AbstractionPost, ArgumentPost, ArgumentsPost}
-use Rattle.categories.proofs.Clauses.{result-and, came, passed-holds, passes-with, variable-clause, constant-clause, alone-clause, application-clause, abstraction-clause}
+use Rattle.categories.specs.Posts.{Finds, FindsKnown, Passes, FunctionKnown, StoredPost, BoundPost, ConstantPost, FunctionOfPost, AppliedPost, FoundTypePost, OverBindingPost, IsStoredPost, StoredFitsPost, ArgumentFitsPost, wantedFits, Categorises, CategoryPost, ApplicationPost, AbstractionPost, ArgumentsPost}
+use Rattle.categories.proofs.Clauses.{result-and, came, passed-holds, passes-with, constant-clause, variable-is, alone-is, application-clause, abstraction-clause}
 use Rattle.categories.proofs.Spots.{frames, function-kept}
 use Rattle.categories.proofs.Fitting.{next-unit, awaits-kept}
+use Rattle.categories.proofs.Strings.{ArgumentPost}
 use Rattle.categories.proofs.Within.{part, part-length, nesting-positive, skip-one, application-argument, abstraction-domain, abstraction-front, argument-of, function-in, domain-in, body-in, arguments-in}
 
 -- what is found is known
@@ -84,7 +87,7 @@ module _ {tb ts e : List ℕ} {scope : Scope} {w : List ℕ} {limit budget level
       finds = λ {ls} {sc} B room E.
           let k : v ≡ v′ = omega (arith, at-first (var v′) (E .at)) in
           let P₁ : StoredPost tb ts w limit budget level v′ w′ code n extent left = rw k at P in
-          variable-clause ls limit sc budget (E .known .isLine) (P₁ .means B room (E .known .isLine));
+          rw (variable-is ls limit sc budget (E .known .isLine)) (P₁ .means B room (E .known .isLine));
       spans = λ B room E. P .spans .is;
     }
 
@@ -173,7 +176,7 @@ module _ {tb ts e : List ℕ} {scope : Scope} {w : List ℕ} {limit budget level
           let z₁ : rowCell tb u 3 ≡ 0 = rw k at z in
           let i = E .known .0 .isLine in
           let r = B .rows .row i .contextIs in
-          alone-clause ls limit sc budget xs i (omega arith) (omega (arith, E .known .0 .asMany)) (P₁ .means B room i);
+          rw (alone-is ls limit sc budget xs i (omega arith) (omega (arith, E .known .0 .asMany))) (P₁ .means B room i);
       spans = λ {ls} {sc} B room E y.
           let k : v ≡ u = omega (arith, at-first (const u xs) (E .at)) in
           let z₁ : rowCell tb u 3 ≡ 0 = rw k at z in
@@ -244,24 +247,45 @@ module _ {tb ts e : List ℕ} {scope : Scope} {w : List ℕ} {limit budget level
     means = λ x B room A E. absurd (omega (arith, at-inside x (E .at), cells-long x));
   }
 
-  pub argument-variable : {u : ℕ} {w′ : List ℕ} {code left : ℕ} → 1 ≤ length e → getD e 0 0 % 8 ≡ 1 → u ≡ getD e 0 0 / 8
-      → VariableFitsPost tb ts w limit budget level u wanted base count starts w′ code left
-      → ArgumentPost tb ts e scope w limit budget level wanted base count starts w′ code 1 left
-  unfolding Scoped firstCell Expr.size
-  argument-variable {u} {w′} {code} {left} m h q F = record { frame = F .frame; within = m; means = go }
-    where
-      go : {ls : Lines} {sc : List Expr} {v : ℕ} {l : Line} {earlier : Exprs} (x : Expr) → Book ls limit tb ts → 128 * limit ≤ length w
-          → Awaits ls w limit level (length sc) base count starts wanted v l earlier → Expression ls ts e scope limit (level + 1) sc x
-          → Result (λ _. 1 ≡ Expr.size x) code left (andThen (wantedFits ls limit (l .context) earlier wanted) (category ls limit sc x budget))
-      go {sc = sc} (var v′) B room A E =
-          let k : u ≡ v′ = omega (arith, at-first (var v′) (E .at)) in
-          let F₁ : VariableFitsPost tb ts w limit budget level v′ wanted base count starts w′ code left = rw k at F in
-          result-map (λ _ _. refl) (F₁ .means B room A (E .known .isLine) sc)
-      go type B room A E = absurd (omega (arith, at-first type (E .at)))
-      go (bound i) B room A E = absurd (omega (arith, at-first (bound i) (E .at)))
-      go (const v xs) B room A E = absurd (omega (arith, at-first (const v xs) (E .at)))
-      go (app a b) B room A E = absurd (omega (arith, at-first (app a b) (E .at)))
-      go (abs p t) B room A E = absurd (omega (arith, at-first (abs p t) (E .at)))
+  module _ {u : ℕ} {w′ : List ℕ} {code left : ℕ} (F : StoredFitsPost tb ts w limit budget level u wanted base count starts w′ code left) where
+    fits-variable : {ls : Lines} {sc : List Expr} {v : ℕ} {l : Line} {earlier : Exprs} (v′ : ℕ) → v′ ≡ u → Book ls limit tb ts → 128 * limit ≤ length w
+        → Awaits ls w limit level (length sc) base count starts wanted v l earlier → Expression ls ts e scope limit (level + 1) sc (var v′)
+        → Result (λ _. 1 ≡ Expr.size (var v′)) code left (andThen (wantedFits ls limit (l .context) earlier wanted) (category ls limit sc (var v′) budget))
+    unfolding Scoped Expr.size
+    fits-variable {ls} {sc} v′ k B room A E =
+        let i = E .known .isLine in
+        rw (variable-is ls limit sc budget i) (result-map (λ _ _. refl) (F .means B room A (rw k at i)))
+
+    fits-alone : {ls : Lines} {sc : List Expr} {v : ℕ} {l : Line} {earlier : Exprs} (v′ : ℕ) (xs : Exprs) → v′ ≡ u → rowCell tb u 3 ≡ 0 → Book ls limit tb ts
+        → 128 * limit ≤ length w → Awaits ls w limit level (length sc) base count starts wanted v l earlier → Expression ls ts e scope limit (level + 1) sc (const v′ xs)
+        → Result (λ _. 1 ≡ Expr.size (const v′ xs)) code left (andThen (wantedFits ls limit (l .context) earlier wanted) (category ls limit sc (const v′ xs) budget))
+    unfolding Scoped Expr.size
+    fits-alone {ls} {sc} v′ xs k z B room A E =
+        let i = E .known .0 .isLine in
+        let z₁ : rowCell tb v′ 3 ≡ 0 = rw k z in
+        let r = B .rows .row i .contextIs in
+        let m : countExprs xs ≡ 0 = omega (arith, E .known .0 .asMany) in
+        rw (alone-is ls limit sc budget xs i (omega arith) m) (result-map (λ _ _. omega (arith, no-sizes xs m)) (F .means B room A (rw k at i)))
+
+    pub argument-stored : {x : ℕ} {r : Bool} → 1 ≤ length e → x ≡ getD e 0 0 → u ≡ x / 8 → IsStoredPost tb x r → r ≡ true
+        → ArgumentPost tb ts e scope w limit budget level wanted base count starts w′ code 1 left
+    unfolding firstCell
+    argument-stored {x} m p q I t = record { frame = F .frame; within = m; means = λ y B room A E. go y (I .is t) B room A E }
+      where
+        odd : (x % 8 ≡ 1) ⊎ ((x % 8 ≡ 3) × (rowCell tb (x / 8) 3 ≡ 0)) → (x % 8 ≤ 3) × (x % 2 ≡ 1)
+        odd (inl h) = (omega arith, omega arith)
+        odd (inr h) = (omega (arith, h .0), omega (arith, h .0))
+
+        go : {ls : Lines} {sc : List Expr} {v : ℕ} {l : Line} {earlier : Exprs} (y : Expr) → (x % 8 ≡ 1) ⊎ ((x % 8 ≡ 3) × (rowCell tb (x / 8) 3 ≡ 0)) → Book ls limit tb ts
+            → 128 * limit ≤ length w → Awaits ls w limit level (length sc) base count starts wanted v l earlier → Expression ls ts e scope limit (level + 1) sc y
+            → Result (λ _. 1 ≡ Expr.size y) code left (andThen (wantedFits ls limit (l .context) earlier wanted) (category ls limit sc y budget))
+        go (var v′) h B room A E = fits-variable v′ (omega (arith, at-first (var v′) (E .at))) B room A E
+        go (const v′ xs) (inl h) B room A E = absurd (omega (arith, at-first (const v′ xs) (E .at)))
+        go (const v′ xs) (inr h) B room A E = fits-alone v′ xs (omega (arith, at-first (const v′ xs) (E .at))) (rw q (h .1)) B room A E
+        go type h B room A E = absurd (omega (arith, at-first type (E .at), odd h))
+        go (bound i) h B room A E = absurd (omega (arith, at-first (bound i) (E .at), odd h))
+        go (app a b) h B room A E = absurd (omega (arith, at-first (app a b) (E .at), odd h))
+        go (abs a b) h B room A E = absurd (omega (arith, at-first (abs a b) (E .at), odd h))
 
   pub argument-other : {w₁ w₂ : List ℕ} {found size extent left₁ code left : ℕ} → CategoryPost tb ts e scope w limit budget (level + 1) w₁ found size extent left₁
       → ArgumentFitsPost tb ts w₁ limit found size left₁ level wanted base count starts w₂ code left

@@ -26,8 +26,8 @@ use Rattle.terms.specs.Unchanged.{instantiate-none}
 use Rattle.reduction.specs.Book.{Book, all-known-wf, category-wf}
 use Rattle.reduction.specs.Places.{wanted-numbered}
 use Rattle.categories.specs.Places.{FoundAt, Awaits}
-use Rattle.categories.specs.Posts.{Passes, ComparePost, StoredPost, WantedPost, VariableFitsPost, ArgumentFitsPost, wantedFits}
-use Rattle.categories.proofs.Clauses.{result-and, made-passed, made-refused, at-line, compare-self, variable-clause}
+use Rattle.categories.specs.Posts.{Passes, ComparePost, StoredPost, WantedPost, StoredFitsPost, ArgumentFitsPost, wantedFits}
+use Rattle.categories.proofs.Clauses.{result-and, made-passed, made-refused, at-line, compare-self}
 use Rattle.categories.proofs.Spots.{frame-of, frames, level-below, level-inside, lies-kept, all-kept, made-found}
 use Rattle.categories.proofs.Instances.{arguments-lie, made-is, instance-made}
 
@@ -129,7 +129,7 @@ fits-same {ls} {limit} context earlier {wanted} {budget} {y} c j e h =
     (made-passed {R = λ a. c ≡ a} (instantiate context earlier 0 (y .category)) (rw (sym e) h) refl refl e)
     (λ a q. subst (λ z. Passes 0 budget (compare ls limit c z budget)) q (rw (compare-self ls limit c budget) (passed refl tt))))
 
--- ---- a variable
+-- ---- the category is stored
 
 -- the category of a line, under any bindings
 line-known : {ls : Lines} {tb ts : List ℕ} {limit u : ℕ} {d : Line} (k : ℕ) → Book ls limit tb ts → IsLine ls u d → KnownCategory ls k (d .category)
@@ -137,37 +137,37 @@ unfolding Scoped
 line-known {ls} {d = d} k B j = rw (instantiate-none nil 0 (d .category)) at (known-wanted ls (B .resolved) k [] nil j tt)
 
 module _ {tb ts w : List ℕ} {limit budget level u wanted base count : ℕ} {starts : List ℕ} where
-  pub variable-same : {at end from stop n : ℕ} {r : Bool} → at ≡ rowCell tb u 6 → end ≡ rowCell tb u 7 → from ≡ rowCell tb wanted 6 → stop ≡ rowCell tb wanted 7
+  pub stored-fits-same : {at end from stop n : ℕ} {r : Bool} → at ≡ rowCell tb u 6 → end ≡ rowCell tb u 7 → from ≡ rowCell tb wanted 6 → stop ≡ rowCell tb wanted 7
       → n ≡ end - at → InstancePost tb ts from stop w base count starts ts at n r → r ≡ true
-      → VariableFitsPost tb ts w limit budget level u wanted base count starts w 0 budget
-  variable-same {at} {end} {n = n} pa pe pf ps pn I t = record {
+      → StoredFitsPost tb ts w limit budget level u wanted base count starts w 0 budget
+  stored-fits-same {at} {end} {n = n} pa pe pf ps pn I t = record {
     frame = λ small. outside-same;
-    means = λ {ls} {k} {v} {l} {d} {earlier} B room A j sc.
+    means = λ {ls} {k} {v} {l} {d} {earlier} B room A j.
         let X = wanted-line B A in
         let C = B .stored .cellsOf j in
         let c = d .category in
         let s : n ≡ size c = omega (arith, C .categoryEnds, size-is-length c) in
         let e = instance-same I t pf ps k c (C .afterCategory) B A (X .isLine) (line-known k B j) (rw pa (C .categoryAt)) s in
         then-passed _ refl
-        (variable-clause ls limit sc budget j (made-passed {R = λ a. c ≡ a} c (B .categorySize j) refl refl refl))
+        (made-passed {R = λ a. c ≡ a} c (B .categorySize j) refl refl refl)
         (λ a q. subst (λ z. Passes 0 budget (wantedFits ls limit (l .context) earlier wanted z budget)) q (fits-same (l .context) earlier c (X .isLine) e (B .categorySize j)));
   }
 
   module _ {w₁ : List ℕ} {found size extent left₁ : ℕ} (low : level < 34) (S : StoredPost tb ts w limit budget (level + 1) u w₁ found size extent left₁) where
-    pub variable-refused : found ≢ 0 → VariableFitsPost tb ts w limit budget level u wanted base count starts w₁ found left₁
-    variable-refused g = record {
+    pub stored-fits-refused : found ≢ 0 → StoredFitsPost tb ts w limit budget level u wanted base count starts w₁ found left₁
+    stored-fits-refused g = record {
       frame = S .frame;
-      means = λ {ls} B room A j sc. then-refused _ g (variable-clause ls limit sc budget j (S .means B room j));
+      means = λ {ls} B room A j. then-refused _ g (S .means B room j);
     }
 
-    pub variable-compared : {w₂ : List ℕ} {code left : ℕ} → found ≡ 0 → WantedPost tb ts w₁ limit left₁ level wanted base count starts w₂ code left
-        → VariableFitsPost tb ts w limit budget level u wanted base count starts w₂ code left
-    variable-compared {w₂} z W = record {
+    pub stored-fits-compared : {w₂ : List ℕ} {code left : ℕ} → found ≡ 0 → WantedPost tb ts w₁ limit left₁ level wanted base count starts w₂ code left
+        → StoredFitsPost tb ts w limit budget level u wanted base count starts w₂ code left
+    stored-fits-compared {w₂} z W = record {
       frame = λ small. frames (omega arith) (S .frame small) (frame-out limit level (W .frame small));
-      means = λ {ls} {k} {v} {l} {d} {earlier} B room A j sc.
+      means = λ {ls} {k} {v} {l} {d} {earlier} B room A j.
           let o = S .frame (B .limit) in
           then-passed _ z
-          (variable-clause ls limit sc budget j (result-and (S .means B room j) (λ a q. made-is limit (d .category) budget a left₁ q)))
+          (result-and (S .means B room j) (λ a q. made-is limit (d .category) budget a left₁ q))
           (λ a q. W .means B (omega (arith, o .long)) (awaits-kept o (next-unit limit level) A) (q .0 .lies)
           (subst (KnownCategory ls k) (sym (q .1)) (line-known k B j)));
     }

@@ -1,10 +1,13 @@
 -- The category on a line, and that of a bound variable.
 use mathlib.Core.Path.{_≡_, refl, sym, ap, _∙_}
-use mathlib.Core.Logic.{_≢_}
+use mathlib.Core.Logic.{_≢_, inl, inr}
+use mathlib.Core.Bool.{Bool, true, false, false≢true}
 use mathlib.Core.List.{List}
-use Prim.Native.Nat.{ℕ, suc, _+_, _*_, _-_, _≤_, _<_}
+use Prim.Native.Nat.{ℕ, suc, _+_, _*_, _-_, _/_, _%_, _≤_, _<_}
 use native.Mathlib.Omega.{arith}
 use native.Mathlib.Numerals.{add-one}
+use borrow.Author.Tests.{eqb-true}
+use lib.Dec.{eqb}
 use lib.ListN.{length, getD, take, drop}
 use Rattle.aut68.specs.Expr.{Expr, bound, size, cells}
 use Rattle.aut68.specs.Substitution.{lift}
@@ -23,7 +26,7 @@ use Rattle.terms.specs.Made.{Made, RaisePost}
 use Rattle.reduction.specs.Book.{Book, known-wf}
 use Rattle.reduction.specs.Depths.{lifted-below}
 use Rattle.categories.specs.Places.{ScopeHolds}
-use Rattle.categories.specs.Posts.{Finds, MadePost, StoredPost, BoundPost}
+use Rattle.categories.specs.Posts.{Finds, MadePost, StoredPost, BoundPost, IsStoredPost}
 use Rattle.categories.proofs.Clauses.{made-passed, domain-of, bound-clause}
 use Rattle.categories.proofs.Spots.{frame-of, frames, level-scratch, level-result, copied-found, made-held, spans-none, spans-all}
 
@@ -52,6 +55,17 @@ module _ {tb ts w : List ℕ} {limit budget level v from end : ℕ} (pf : from �
         (copied-found w (l .category) (rw (sym pf) at (C .categoryAt)) h (B .categorySize i) room
         (omega (arith, C .categoryEnds, size-is-length (l .category))) (pt (B .limit)) e);
   }
+
+-- is it the category of an expression?
+module _ {tb : List ℕ} {x : ℕ} where
+  pub of-variable : x % 8 ≡ 1 → IsStoredPost tb x true
+  of-variable h = record { is = λ t. inl h }
+
+  pub of-none : IsStoredPost tb x false
+  of-none = record { is = λ t. absurd (false≢true t) }
+
+  pub of-constant : {count : ℕ} {r : Bool} → x % 8 ≡ 3 → count ≡ rowCell tb (x / 8) 3 → r ≡ eqb count 0 → IsStoredPost tb x r
+  of-constant {count} h q e = record { is = λ t. inr (h, sym q ∙ eqb-true count 0 (sym e ∙ t)) }
 
 -- ---- a bound variable
 

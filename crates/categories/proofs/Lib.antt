@@ -12,7 +12,7 @@ pub mod Fitting
 pub mod Applications
 -- Expressions inside an expression; the functions that call each other.
 pub mod Within
-pub mod Cycle
 pub mod Strings
+pub mod Cycle
 -- The line at hand.
 pub mod LineChecks

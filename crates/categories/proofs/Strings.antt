@@ -28,7 +28,7 @@ use Rattle.terms.specs.Starts.{start-first, start-join, started-none, started-m
 use Rattle.reduction.specs.Book.{Book}
 use Rattle.categories.specs.Nesting.{nestings}
 use Rattle.categories.specs.Places.{LieAll, Awaits, Expression, Arguments}
-use Rattle.categories.specs.Posts.{Frame, wantedFits, KeptArgument, ContextOf, ContextVariable, ArgumentPost, ArgumentsPost}
+use Rattle.categories.specs.Posts.{Frame, wantedFits, KeptArgument, NextStart, ContextOf, ContextVariable, ArgumentsPost}
 use Rattle.categories.proofs.Clauses.{argument-clause, none-left, passed-holds}
 use Rattle.categories.proofs.Spots.{frame-of, frames, level-inside}
 use Rattle.categories.proofs.Types.{at-join}
@@ -36,6 +36,14 @@ use Rattle.categories.proofs.Fitting.{next-unit}
 use Rattle.categories.proofs.Within.{part, part-of, at-part}
 
 -- ---- an argument among the others
+
+-- the argument at the start of e, for the context variable on line `wanted`: what is left when it was looked at
+pub record ArgumentPost (tb ts e : List ℕ) (scope : Scope) (w : List ℕ) (limit budget level wanted base count : ℕ) (starts w′ : List ℕ) (code extent left : ℕ) : Type 0 where
+  pub frame : Frame limit (level + 1) w w′
+  pub within : extent ≤ length e
+  pub means : {ls : Lines} {sc : List Expr} {v : ℕ} {l : Line} {earlier : Exprs} (x : Expr) → Book ls limit tb ts → 128 * limit ≤ length w
+      → Awaits ls w limit level (length sc) base count starts wanted v l earlier → Expression ls ts e scope limit (level + 1) sc x
+      → Result (λ _. extent ≡ size x) code left (andThen (wantedFits ls limit (l .context) earlier wanted) (category ls limit sc x budget))
 
 known-front : (ls : Lines) (k : ℕ) (es fs : Exprs) → AllKnown ls k (join es fs) → AllKnown ls k es × AllKnown ls k fs
 unfolding Scoped join
@@ -104,12 +112,6 @@ start-front (cons e es) fs (suc i) h = ap (λ (k : ℕ). size e + k) (start-fron
 -- what is noted of a string holds of its front
 started-front : {starts : List ℕ} (es fs : Exprs) → StartedTo (countExprs es) (join es fs) starts → Started es starts
 started-front es fs S = record { place = λ i h k. S .place i h k ∙ start-front es fs i h }
-
--- place i of starts becomes `at`, if there is such a place and the number fits
-pub record NextStart (starts : List ℕ) (i at : ℕ) (starts′ : List ℕ) : Type 0 where
-  pub long : length starts′ ≡ length starts
-  pub noted : i < 64 → at < 65536 → starts′ ≡ set starts i at
-  pub past : 64 ≤ i → starts′ ≡ starts
 
 pub next-noted : {starts : List ℕ} {i at : ℕ} → i < 64 → NextStart starts i at (set starts i at)
 next-noted {starts} {i} {at} h = record { long = length-set starts i at; noted = λ k l. refl; past = λ k. absurd (omega arith) }

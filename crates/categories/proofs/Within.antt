@@ -3,8 +3,9 @@ use mathlib.Core.Path.{_≡_, refl, sym, ap, _∙_}
 use mathlib.Core.List.{List, [], _∷_, _++_, append-nil}
 use Prim.Native.Nat.{ℕ, suc, _+_, _-_, _≤_, _<_}
 use native.Mathlib.Omega.{arith}
+use native.Mathlib.Nat.{add-zero}
 use lib.ListN.{length, getD, take, drop, set, length-drop, length-set}
-use lib.Seq.{take-all, drop-drop, getD-set-same, getD-set-other}
+use lib.Seq.{take-all, drop-drop, getD-drop, getD-set-same, getD-set-other}
 use Rattle.aut68.specs.Expr.{Expr, Exprs, type, var, bound, const, app, abs, nil, cons, size, cells, cellss, parts, countExprs}
 use Rattle.aut68.specs.Lines.{Lines}
 use Rattle.aut68.specs.Rules.Categories.{DomainAt, innermost, outside}
@@ -27,6 +28,9 @@ part-is s a = take-all (length s - a) (drop a s) (omega (arith, length-drop a s)
 
 pub part-length : (s : List ℕ) (a : ℕ) → length (part s a) ≡ length s - a
 part-length s a = ap length (part-is s a) ∙ length-drop a s
+
+pub part-first : (s : List ℕ) (a : ℕ) → getD (part s a) 0 0 ≡ getD s a 0
+part-first s a = ap (λ (l : List ℕ). getD l 0 0) (part-is s a) ∙ getD-drop a s 0 0 ∙ ap (λ (k : ℕ). getD s k 0) (add-zero a)
 
 pub at-part : {s : List ℕ} {a : ℕ} {xs rest : List ℕ} → At s a xs rest → At (part s a) 0 xs rest
 at-part {s} {a} h = record { is = part-is s a ∙ h .is }

@@ -2,12 +2,13 @@
 -- and w′ as it is left; `frame` says which of its cells are as they were, whatever lies there; `means` says which part of the
 -- procedure the code and the budget that is left answer, for every expression that lies where the arguments point.
 use mathlib.Core.Path.{_≡_}
-use mathlib.Core.Bool.{Bool}
+use mathlib.Core.Logic.{_⊎_}
+use mathlib.Core.Bool.{Bool, true}
 use mathlib.Core.List.{List, _∷_}
-use Prim.Native.Nat.{ℕ, _+_, _*_, _≤_, _<_}
-use lib.ListN.{length, getD}
+use Prim.Native.Nat.{ℕ, _+_, _*_, _/_, _%_, _≤_, _<_}
+use lib.ListN.{length, getD, set}
 use Rattle.aut68.specs.Procedure.Answer.{Act, Answer, andThen, _>>=_, ensure, notType}
-use Rattle.aut68.specs.Expr.{Expr, Exprs, var, bound, app, abs, nil, size, sizes, cells, countExprs, isType}
+use Rattle.aut68.specs.Expr.{Expr, Exprs, bound, app, abs, nil, size, sizes, cells, countExprs, isType}
 use Rattle.aut68.specs.Substitution.{substitute, instantiate}
 use Rattle.aut68.specs.Expr as Expr
 use Rattle.aut68.specs.Lines.{Line, Lines}
@@ -91,6 +92,12 @@ pub record KeptArgument (s : List ℕ) (at n : ℕ) (w : List ℕ) (base : ℕ) 
   pub frame : Outside (base + at) (base + at + n) w w′
   pub copied : base ≤ length w → w′ ≡ copyCells s at n w (base + at)
 
+-- place i of starts becomes `at`, if there is such a place and the number fits
+pub record NextStart (starts : List ℕ) (i at : ℕ) (starts′ : List ℕ) : Type 0 where
+  pub long : length starts′ ≡ length starts
+  pub noted : i < 64 → at < 65536 → starts′ ≡ set starts i at
+  pub past : 64 ≤ i → starts′ ≡ starts
+
 -- the arguments xs passed: they lie in a level's unit, of `extent` cells
 abbrev pub Kept : List ℕ → ℕ → ℕ → ℕ → List ℕ → Exprs → Type 0
 Kept w limit level extent starts xs = LieAll w limit level starts xs × (extent ≡ sizes xs)
@@ -135,12 +142,16 @@ pub record WantedPost (tb ts w : List ℕ) (limit budget level wanted base count
       → Awaits ls w limit level k base count starts wanted v l earlier → Lies w limit (level + 1) c → KnownCategory ls k c
       → Passes code left (wantedFits ls limit (l .context) earlier wanted c budget)
 
--- the argument is the variable of line u
-pub record VariableFitsPost (tb ts w : List ℕ) (limit budget level u wanted base count : ℕ) (starts w′ : List ℕ) (code left : ℕ) : Type 0 where
+-- is the category of an expression that begins with the cell x stored on its line?
+pub record IsStoredPost (tb : List ℕ) (x : ℕ) (r : Bool) : Type 0 where
+  pub is : r ≡ true → (x % 8 ≡ 1) ⊎ ((x % 8 ≡ 3) × (rowCell tb (x / 8) 3 ≡ 0))
+
+-- its category is stored on line u
+pub record StoredFitsPost (tb ts w : List ℕ) (limit budget level u wanted base count : ℕ) (starts w′ : List ℕ) (code left : ℕ) : Type 0 where
   pub frame : Frame limit (level + 1) w w′
   pub means : {ls : Lines} {k v : ℕ} {l d : Line} {earlier : Exprs} → Book ls limit tb ts → 128 * limit ≤ length w
-      → Awaits ls w limit level k base count starts wanted v l earlier → IsLine ls u d → (sc : List Expr)
-      → Passes code left (andThen (wantedFits ls limit (l .context) earlier wanted) (category ls limit sc (var u) budget))
+      → Awaits ls w limit level k base count starts wanted v l earlier → IsLine ls u d
+      → Passes code left (andThen (wantedFits ls limit (l .context) earlier wanted) (made limit (d .category) budget))
 
 -- `found`, `size` and `budget` are the answer of the search for its category, one level deeper
 pub record ArgumentFitsPost (tb ts w : List ℕ) (limit found size budget level wanted base count : ℕ) (starts w′ : List ℕ) (code left : ℕ) : Type 0 where
@@ -205,14 +216,6 @@ pub record AbstractionPost (tb ts e : List ℕ) (scope : Scope) (w : List ℕ) (
   pub frame : Frame limit level w w′
   pub within : extent ≤ length e
   pub means : (p t : Expr) → Categorises tb ts e scope w limit budget level w′ code size extent left (abs p t)
-
--- the argument at the start of e, for the context variable on line `wanted`
-pub record ArgumentPost (tb ts e : List ℕ) (scope : Scope) (w : List ℕ) (limit budget level wanted base count : ℕ) (starts w′ : List ℕ) (code extent left : ℕ) : Type 0 where
-  pub frame : Frame limit (level + 1) w w′
-  pub within : extent ≤ length e
-  pub means : {ls : Lines} {sc : List Expr} {v : ℕ} {l : Line} {earlier : Exprs} (x : Expr) → Book ls limit tb ts → 128 * limit ≤ length w
-      → Awaits ls w limit level (length sc) base count starts wanted v l earlier → Expression ls ts e scope limit (level + 1) sc x
-      → Result (λ _. extent ≡ Expr.size x) code left (andThen (wantedFits ls limit (l .context) earlier wanted) (category ls limit sc x budget))
 
 -- the arguments at the start of s of the constant of line v, and a copy of them in the level's unit
 pub record ArgumentsPost (tb ts s : List ℕ) (scope : Scope) (w : List ℕ) (limit budget level v : ℕ) (w′ : List ℕ) (code extent : ℕ) (starts : List ℕ) (left : ℕ) : Type 0 where

@@ -6,12 +6,12 @@
 // that it is the found one, and copies the argument to its level's unit. An argument and A are one nesting deeper than their
 // expression, so levels stay below 32.
 //
-// The functions that call each other are category, arguments, argument, application and abstraction, the remaining cells
-// falling; what they do between two categories is in functions that call none of them.
+// The functions that call each other are category, arguments, application and abstraction, the remaining cells falling; what they
+// do between two categories is in functions that call none of them.
 ghost use mathlib.Core.Path.{_≡_};
 ghost use Prim.Native.Nat.{ℕ, _≤_};
-ghost use lib.ListN.{length};
-ghost use Rattle.categories.specs.Posts.{CategoryPost, ArgumentsPost, ArgumentPost, ApplicationPost, AbstractionPost};
+ghost use lib.ListN.{length, getD};
+ghost use Rattle.categories.specs.Posts.{CategoryPost, ArgumentsPost, ApplicationPost, AbstractionPost};
 
 mod checks;
 mod parts;
@@ -28,15 +28,16 @@ use parts::bound;
 use parts::constant;
 use parts::context_of;
 use parts::context_variable;
+use parts::enter_start;
 use parts::found_type;
 use parts::function_of;
+use parts::is_stored;
 use parts::keep_argument;
 use parts::over_binding;
 use parts::refused;
 use parts::stored;
+use parts::stored_fits;
 use parts::unfit;
-use parts::variable_fits;
-use terms::Arguments;
 
 // code 0: a category of `size` cells was found, of an expression of `extent` cells; else a refusal. The budget that is left.
 pub struct Found {
@@ -46,12 +47,10 @@ pub struct Found {
     pub budget: u32,
 }
 
-// code 0: the arguments, of `extent` cells, passed, and lie in the level's unit, each where `starts` says; else a refusal. The
-// budget that is left.
+// code 0: the arguments, of `extent` cells, passed, and lie in the level's unit; else a refusal. The budget that is left.
 pub struct Argued {
     pub code: u32,
     pub extent: usize,
-    pub starts: [u16; 64],
     pub budget: u32,
 }
 
@@ -98,8 +97,20 @@ pub fn category(
             if field(table, v, 3) == 0 {
                 return stored(table, store, w, limit, budget, level, v);
             }
-            let c = arguments(table, store, &e[1..], scope, w, limit, budget, level, v);
-            constant(table, store, w, limit, c, level, v)
+            let mut starts = [0; 64];
+            let c = arguments(
+                table,
+                store,
+                &e[1..],
+                scope,
+                w,
+                limit,
+                budget,
+                level,
+                v,
+                &mut starts,
+            );
+            constant(table, store, w, limit, c, &starts, level, v)
         }
         4 => application(table, store, e, scope, w, limit, budget, level),
         5 => abstraction(table, store, e, scope, w, limit, budget, level),
@@ -108,7 +119,8 @@ pub fn category(
 }
 
 // The arguments at the start of s of the constant of line v, from left to right, each copied to the level's unit when it has
-// passed.
+// passed, and where it ends entered in `starts`, whose first place has 0. Where an argument's category is stored it is compared
+// there.
 fn arguments(
     table: &[u32],
     store: &[u16],
@@ -119,36 +131,53 @@ fn arguments(
     budget: u32,
     level: usize,
     v: usize,
+    starts: &mut [u16; 64],
 ) -> Argued
-    requires { ⌜ (length (now s) ≤ length (now store)) × (level ≤ 31) ⌝ }
-    ensures { λ r. ⌜ ArgumentsPost (now (table .entry)) (now (store .entry)) (now (s .entry)) scope (now (w .entry)) limit budget level v (now (w .exit)) (r .code) (r .extent) (r .starts) (r .budget) ⌝ }
+    requires { ⌜ (length (now s) ≤ length (now store)) × (level ≤ 31) × (length (now starts) ≡ 64) × (getD (now starts) 0 0 ≡ 0) ⌝ }
+    ensures { λ r. ⌜ ArgumentsPost (now (table .entry)) (now (store .entry)) (now (s .entry)) scope (now (w .entry)) limit budget level v (now (w .exit)) (r .code) (r .extent) (now (starts .exit)) (r .budget) ⌝ }
 {
     let count = field(table, v, 3);
-    let context = context_of(table, v, count);
+    let mut context = [0; 64];
+    context_of(table, v, count, &mut context);
     let base = level_at(limit, level);
-    let mut starts = [0; 64];
     let mut i = 0;
     let mut at = 0;
     let mut left = budget;
     while i < count {
-        let wanted = context_variable(table, v, context, i);
-        let args = Arguments {
-            base: base,
-            count: i,
-            starts: starts,
+        let wanted = context_variable(table, v, &context, i);
+        if at >= s.len() {
+            return unfit(cells::NOT_TYPE, left);
+        }
+        let x = s[at];
+        let f = if is_stored(table, x) {
+            let u = (x / 8) as usize;
+            let c = stored_fits(
+                table,
+                store,
+                w,
+                limit,
+                left,
+                level,
+                u,
+                wanted,
+                base,
+                i,
+                starts,
+            );
+            Fitted {
+                code: c.code,
+                extent: 1,
+                budget: c.budget,
+            }
+        } else {
+            let g = category(table, store, &s[at..], scope, w, limit, left, level + 1);
+            let c = argument_fits(table, store, w, limit, g, level, wanted, base, i, starts);
+            Fitted {
+                code: c.code,
+                extent: g.extent,
+                budget: c.budget,
+            }
         };
-        let f = argument(
-            table,
-            store,
-            &s[at..],
-            scope,
-            w,
-            limit,
-            left,
-            level,
-            wanted,
-            args,
-        );
         left = f.budget;
         let code = f.code;
         if code != 0 {
@@ -158,60 +187,12 @@ fn arguments(
         keep_argument(s, at, n, w, base);
         at = at + n;
         i = i + 1;
-        if i < 64 {
-            if at < 65536 {
-                starts[i] = at as u16;
-            }
-        }
+        enter_start(starts, i, at);
     }
     Argued {
         code: 0,
         extent: at,
-        starts: starts,
         budget: left,
-    }
-}
-
-// The argument at the start of e, with those before it: its category, the wanted one, of the context variable on line `wanted`,
-// and their comparison. The category of a variable is compared where it is stored.
-fn argument(
-    table: &[u32],
-    store: &[u16],
-    e: &[u16],
-    scope: Scope,
-    w: &mut [u16],
-    limit: usize,
-    budget: u32,
-    level: usize,
-    wanted: usize,
-    args: Arguments,
-) -> Fitted
-    requires { ⌜ (length (now e) ≤ length (now store)) × (level ≤ 31) ⌝ }
-    ensures { λ r. ⌜ ArgumentPost (now (table .entry)) (now (store .entry)) (now (e .entry)) scope (now (w .entry)) limit budget level wanted (args .base) (args .count) (args .starts) (now (w .exit)) (r .code) (r .extent) (r .budget) ⌝ }
-{
-    if e.len() == 0 {
-        return Fitted {
-            code: cells::NOT_TYPE,
-            extent: 0,
-            budget: budget,
-        };
-    }
-    let x = e[0];
-    let v = (x / 8) as usize;
-    if x % 8 == 1 {
-        let c = variable_fits(table, store, w, limit, budget, level, v, wanted, args);
-        return Fitted {
-            code: c.code,
-            extent: 1,
-            budget: c.budget,
-        };
-    }
-    let f = category(table, store, e, scope, w, limit, budget, level + 1);
-    let c = argument_fits(table, store, w, limit, f, level, wanted, args);
-    Fitted {
-        code: c.code,
-        extent: f.extent,
-        budget: c.budget,
     }
 }
 

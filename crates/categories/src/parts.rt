@@ -1,8 +1,8 @@
 // What is done between two categories: copies, comparisons, what is made of them.
 ghost use mathlib.Core.Path.{_≡_};
 ghost use Prim.Native.Nat.{ℕ, _+_, _≤_, _<_, _^_};
-ghost use lib.ListN.{length};
-ghost use Rattle.categories.specs.Posts.{MadePost, IsTypePost, FoundTypePost, ComparePost, StoredPost, BoundPost, KeptArgument, ConstantPost, ContextOf, ContextVariable, WantedPost, VariableFitsPost, ArgumentFitsPost, FunctionOfPost, AppliedPost, OverBindingPost};
+ghost use lib.ListN.{length, getD};
+ghost use Rattle.categories.specs.Posts.{MadePost, IsTypePost, FoundTypePost, ComparePost, StoredPost, BoundPost, KeptArgument, ConstantPost, NextStart, ContextOf, ContextVariable, WantedPost, IsStoredPost, StoredFitsPost, ArgumentFitsPost, FunctionOfPost, AppliedPost, OverBindingPost};
 use crate::Argued;
 use crate::Checked;
 use crate::Found;
@@ -16,7 +16,6 @@ use cells::scratch_at;
 use comparison::compare;
 use reduction::Function;
 use reduction::to_function;
-use terms::Arguments;
 use terms::instantiate;
 use terms::is_instance;
 use terms::raise;
@@ -41,7 +40,6 @@ pub fn unfit(code: u32, budget: u32) -> Argued
     Argued {
         code: code,
         extent: 0,
-        starts: [0; 64],
         budget: budget,
     }
 }
@@ -197,6 +195,17 @@ pub fn keep_argument(s: &[u16], at: usize, n: usize, w: &mut [u16], base: usize)
     load(s, at, n, w, base + at);
 }
 
+// Place i of `starts`, where an argument ends: `at`, if there is such a place and the number fits.
+pub fn enter_start(starts: &mut [u16; 64], i: usize, at: usize)
+    ensures { λ _. ⌜ NextStart (now (starts .entry)) i at (now (starts .exit)) ⌝ }
+{
+    if i < 64 {
+        if at < 65536 {
+            starts[i] = at as u16;
+        }
+    }
+}
+
 // The category of the constant of line v, whose arguments passed and lie in the level's unit: the one on its line, they put in;
 // or the refusal of its arguments.
 pub fn constant(
@@ -205,11 +214,12 @@ pub fn constant(
     w: &mut [u16],
     limit: usize,
     passed: Argued,
+    starts: &[u16; 64],
     level: usize,
     v: usize,
 ) -> Found
     requires { ⌜ (level < 36) × (passed .extent < 2 ^ 63) ⌝ }
-    ensures { λ r. ⌜ ConstantPost (now (table .entry)) (now (store .entry)) (now (w .entry)) limit (passed .code) (passed .extent) (passed .starts) (passed .budget) level v (now (w .exit)) (r .code) (r .size) (r .extent) (r .budget) ⌝ }
+    ensures { λ r. ⌜ ConstantPost (now (table .entry)) (now (store .entry)) (now (w .entry)) limit (passed .code) (passed .extent) (now (starts .entry)) (passed .budget) level v (now (w .exit)) (r .code) (r .size) (r .extent) (r .budget) ⌝ }
 {
     if passed.code != 0 {
         return refused(passed.code, passed.budget);
@@ -217,48 +227,45 @@ pub fn constant(
     let from = field(table, v, 6);
     let count = field(table, v, 3);
     let base = level_at(limit, level);
-    let starts = passed.starts;
-    let args = Arguments {
-        base: base,
-        count: count,
-        starts: starts,
-    };
     let to = result_at(limit);
-    let n = instantiate(table, store, from, w, args, to, limit);
+    let n = instantiate(table, store, from, w, base, count, starts, to, limit);
     made(w, limit, passed.budget, level, n, passed.extent + 1)
 }
 
-// The context of a line: the lines of its first 64 variables, the outermost first.
-pub struct Context {
-    pub lines: [u16; 64],
-}
-
-// The context of line v, of `count` variables.
-pub fn context_of(table: &[u32], v: usize, count: usize) -> Context
-    ensures { λ r. ⌜ ContextOf (now (table .entry)) v count (r .lines) ⌝ }
+// The context of line v, of `count` variables: the lines of its first 64 variables, the outermost first.
+pub fn context_of(table: &[u32], v: usize, count: usize, lines: &mut [u16; 64])
+    requires { ⌜ length (now lines) ≡ 64 ⌝ }
+    ensures { λ _. ⌜ ContextOf (now (table .entry)) v count (now (lines .exit)) ⌝ }
 {
-    let mut context = Context { lines: [0; 64] };
     let mut c = field(table, v, 2);
     let mut behind = count;
     while behind > 0 {
         behind = behind - 1;
+        let line = c;
+        c = field(table, line, 2);
         if behind < 64 {
-            if c < 65536 {
-                context.lines[behind] = c as u16;
+            if line < 65536 {
+                lines[behind] = line as u16;
             }
         }
-        c = field(table, c, 2);
     }
-    context
+}
+
+// Line i of a context: by a call, as its result is known to be 16 bits wide and what lies behind a reference is not.
+fn noted(lines: &[u16; 64], i: usize) -> u16
+    requires { ⌜ i < 64 ⌝ }
+    ensures { λ r. ⌜ r ≡ getD (now (lines .entry)) i 0 ⌝ }
+{
+    lines[i]
 }
 
 // The line of variable i of the context of line v, the outermost being 0.
-pub fn context_variable(table: &[u32], v: usize, context: Context, i: usize) -> usize
+pub fn context_variable(table: &[u32], v: usize, lines: &[u16; 64], i: usize) -> usize
     requires { ⌜ i < 2 ^ 32 ⌝ }
-    ensures { λ r. ⌜ ContextVariable (now (table .entry)) v (context .lines) i r ⌝ }
+    ensures { λ r. ⌜ ContextVariable (now (table .entry)) v (now (lines .entry)) i r ⌝ }
 {
     if i < 64 {
-        return context.lines[i] as usize;
+        return noted(lines, i) as usize;
     }
     let mut c = field(table, v, 2);
     let mut behind = field(table, v, 3);
@@ -279,14 +286,16 @@ fn compare_wanted(
     budget: u32,
     level: usize,
     wanted: usize,
-    args: Arguments,
+    base: usize,
+    count: usize,
+    starts: &[u16; 64],
 ) -> Checked
     requires { ⌜ level < 34 ⌝ }
-    ensures { λ r. ⌜ WantedPost (now (table .entry)) (now (store .entry)) (now (w .entry)) limit budget level wanted (args .base) (args .count) (args .starts) (now (w .exit)) (r .code) (r .budget) ⌝ }
+    ensures { λ r. ⌜ WantedPost (now (table .entry)) (now (store .entry)) (now (w .entry)) limit budget level wanted base count (now (starts .entry)) (now (w .exit)) (r .code) (r .budget) ⌝ }
 {
     let from = field(table, wanted, 6);
     let to = level_at(limit, level + 2);
-    let n = instantiate(table, store, from, w, args, to, limit);
+    let n = instantiate(table, store, from, w, base, count, starts, to, limit);
     if n > limit {
         return Checked {
             code: cells::TOO_LARGE,
@@ -296,9 +305,24 @@ fn compare_wanted(
     compare_units(table, store, w, limit, budget, level + 1, level + 2)
 }
 
-// An argument of a constant, the variable of line v: its category, which is on that line, and the wanted one, of the context
-// variable on line `wanted` with the arguments before put in, compared.
-pub fn variable_fits(
+// Is the category of an expression with the first cell x stored on its line: is it a variable, or a constant without arguments?
+pub fn is_stored(table: &[u32], x: u16) -> bool
+    ensures { λ r. ⌜ IsStoredPost (now (table .entry)) x r ⌝ }
+{
+    let k = x % 8;
+    if k == 1 {
+        return true;
+    }
+    if k != 3 {
+        return false;
+    }
+    let count = field(table, (x / 8) as usize, 3);
+    count == 0
+}
+
+// An argument of a constant whose category is stored on line v: that category and the wanted one, of the context variable on line
+// `wanted` with the arguments before put in, compared.
+pub fn stored_fits(
     table: &[u32],
     store: &[u16],
     w: &mut [u16],
@@ -307,10 +331,12 @@ pub fn variable_fits(
     level: usize,
     v: usize,
     wanted: usize,
-    args: Arguments,
+    base: usize,
+    count: usize,
+    starts: &[u16; 64],
 ) -> Checked
     requires { ⌜ level < 34 ⌝ }
-    ensures { λ r. ⌜ VariableFitsPost (now (table .entry)) (now (store .entry)) (now (w .entry)) limit budget level v wanted (args .base) (args .count) (args .starts) (now (w .exit)) (r .code) (r .budget) ⌝ }
+    ensures { λ r. ⌜ StoredFitsPost (now (table .entry)) (now (store .entry)) (now (w .entry)) limit budget level v wanted base count (now (starts .entry)) (now (w .exit)) (r .code) (r .budget) ⌝ }
 {
     let at = field(table, v, 6);
     let end = field(table, v, 7);
@@ -318,7 +344,19 @@ pub fn variable_fits(
     let stop = field(table, wanted, 7);
     if end >= at {
         if end - at <= limit {
-            if is_instance(table, store, from, stop, w, args, store, at, end - at) {
+            if is_instance(
+                table,
+                store,
+                from,
+                stop,
+                w,
+                base,
+                count,
+                starts,
+                store,
+                at,
+                end - at,
+            ) {
                 return Checked {
                     code: 0,
                     budget: budget,
@@ -333,7 +371,18 @@ pub fn variable_fits(
             budget: f.budget,
         };
     }
-    compare_wanted(table, store, w, limit, f.budget, level, wanted, args)
+    compare_wanted(
+        table,
+        store,
+        w,
+        limit,
+        f.budget,
+        level,
+        wanted,
+        base,
+        count,
+        starts,
+    )
 }
 
 // An argument of a constant whose category was found at the next level: the wanted category, of the context variable on line
@@ -346,10 +395,12 @@ pub fn argument_fits(
     found: Found,
     level: usize,
     wanted: usize,
-    args: Arguments,
+    base: usize,
+    count: usize,
+    starts: &[u16; 64],
 ) -> Checked
     requires { ⌜ level < 34 ⌝ }
-    ensures { λ r. ⌜ ArgumentFitsPost (now (table .entry)) (now (store .entry)) (now (w .entry)) limit (found .code) (found .size) (found .budget) level wanted (args .base) (args .count) (args .starts) (now (w .exit)) (r .code) (r .budget) ⌝ }
+    ensures { λ r. ⌜ ArgumentFitsPost (now (table .entry)) (now (store .entry)) (now (w .entry)) limit (found .code) (found .size) (found .budget) level wanted base count (now (starts .entry)) (now (w .exit)) (r .code) (r .budget) ⌝ }
 {
     if found.code != 0 {
         return Checked {
@@ -360,13 +411,36 @@ pub fn argument_fits(
     let from = field(table, wanted, 6);
     let stop = field(table, wanted, 7);
     let at = level_at(limit, level + 1);
-    if is_instance(table, store, from, stop, w, args, w, at, found.size) {
+    if is_instance(
+        table,
+        store,
+        from,
+        stop,
+        w,
+        base,
+        count,
+        starts,
+        w,
+        at,
+        found.size,
+    ) {
         return Checked {
             code: 0,
             budget: found.budget,
         };
     }
-    compare_wanted(table, store, w, limit, found.budget, level, wanted, args)
+    compare_wanted(
+        table,
+        store,
+        w,
+        limit,
+        found.budget,
+        level,
+        wanted,
+        base,
+        count,
+        starts,
+    )
 }
 
 // Head steps of the category that was found at a level until it is an abstraction (else 7); or the refusal of that category.

@@ -78,7 +78,7 @@ module _ {limit levels l r : ℕ} (O : Opened limit levels l r) where
     goes : (ls : Lines) (k : ℕ) (e f : Expr) (re rf : List ℕ) → Book ls limit tb ts → KnownCategory ls k e → KnownCategory ls k f
         → k + levels ≤ 64 → size e ≤ limit → size f ≤ limit → 128 * limit ≤ length w
         → At (take (unitAt limit (sideUnit levels)) w) a (cells e) re → At (take (unitAt limit (sideUnit levels)) w) b (cells f) rf
-        → Goes ls limit k w₁ l r e f budget state left (λ _ _. ⊥)
+        → Goes ls limit k w₁ l r e f budget state 0 0 left
     goes ls k e f re rf B x y d s s′ h p p′ =
         S .means ls k e f B (omega arith) (placed (length w) h)
         (record {
@@ -104,11 +104,11 @@ module _ {limit levels l r : ℕ} (O : Opened limit levels l r) where
           result-is (compareAt-more ls limit levels (O .some) e f budget) (go ls k e f (goes ls k e f re rf B x y d s s′ h p p′));
     }
       where
-        go : (ls : Lines) (k : ℕ) (e f : Expr) → Goes ls limit k w₁ l r e f budget state left (λ _ _. ⊥)
+        go : (ls : Lines) (k : ℕ) (e f : Expr) → Goes ls limit k w₁ l r e f budget state 0 0 left
             → Result (λ _. Unit {0}) state left (sides ls limit (compareAt ls limit (levels - 1)) e f budget)
         go ls k e f (identically z p) = result-is (p (compareAt ls limit (levels - 1))) (passed z tt)
         go ls k e f (toParts g h z P p) = absurd (n z)
-        go ls k e f (onward g h P n p) = absurd n
+        go ls k e f (onward g h z P x y p) = absurd (S .ends z)
         go ls k e f (tooFar z p) = result-is (p (compareAt ls limit (levels - 1))) (refused z)
         go ls k e f (spent z p) = result-is (p (compareAt ls limit (levels - 1))) (refused z)
 
@@ -140,12 +140,12 @@ module _ {limit levels l r : ℕ} (O : Opened limit levels l r) where
       }
         where
           go : (ls : Lines) (k : ℕ) (e f : Expr) → Book ls limit tb ts → k + levels ≤ 64 → 128 * limit ≤ length w
-              → Goes ls limit k w₁ l r e f budget state left (λ _ _. ⊥)
+              → Goes ls limit k w₁ l r e f budget state 0 0 left
               → Result (λ _. Unit {0}) code left₂ (sides ls limit (compareAt ls limit (levels - 1)) e f budget)
           go ls k e f B d h (identically z p) = absurd (omega arith)
           go ls k e f B d h (toParts g i z P p) =
               result-is (p (compareAt ls limit (levels - 1)))
               (C .means ls k g i B (omega (arith, O .some)) (omega (arith, O .few)) (omega (arith, frame₁ .long)) (below-deeper ls k g i P))
-          go ls k e f B d h (onward g i P n p) = absurd n
+          go ls k e f B d h (onward g i z P x y p) = absurd (omega arith)
           go ls k e f B d h (tooFar z p) = absurd (omega arith)
           go ls k e f B d h (spent z p) = absurd (omega arith)

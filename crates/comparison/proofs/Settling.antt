@@ -1,6 +1,6 @@
 -- Laws: turns of the sides one after the other, and the sides put in place.
-use mathlib.Core.Path.{_≡_, refl, sym, _∙_}
-use mathlib.Core.Bool.{Bool, true, false}
+use mathlib.Core.Path.{_≡_, refl, sym, subst, _∙_}
+use mathlib.Core.Bool.{Bool, true}
 use mathlib.Core.Logic.{inl, inr}
 use mathlib.Core.List.{List}
 use Prim.Native.Nat.{ℕ, _+_, _≤_}
@@ -16,71 +16,71 @@ use Rattle.cells.specs.Stores.{outside-same, outside-then, outside-more, at-kep
 use Rattle.cells.specs.CopyLaws.{move-outside, move-at}
 use Rattle.cells.specs.Layout.{unit-inside}
 use Rattle.reduction.specs.Book.{Book, category-wf}
-use Rattle.reduction.specs.Posts.{HeadPost}
-use Rattle.reduction.specs.declared.heads.Head.{Head}
-use Rattle.comparison.specs.declared.Progress.{Progress}
-use Rattle.comparison.specs.Posts.{Pair, Placed, Goes, identically, toParts, onward, tooFar, spent, Proceeds, SidesAre, Redexes, Settles, SaysSame}
+use Rattle.comparison.specs.Posts.{Pair, Placed, Goes, identically, toParts, onward, tooFar, spent, Proceeds, Settles, SaysSame}
 use Rattle.comparison.proofs.Places.{at-whole, at-under, outside-open}
 use Rattle.comparison.proofs.Turns.{sides-same, next-same}
 
 -- ---- one turn after another
 
 -- before the first
-pub proceed-none : {tb ts w : List ℕ} {limit l r : ℕ} {p : Progress} → Redexes l r p → Proceeds tb ts w limit l r p w p
-proceed-none R = record { frame = λ _ _. outside-same; redexes = R; means = λ ls k e f B h pl P A. onward e f P A λ d. refl }
+pub proceed-none : {tb ts w : List ℕ} {limit budget l n r m : ℕ} → Proceeds tb ts w limit budget l n r m w 2 n m budget
+proceed-none = record { frame = λ _ _. outside-same; means = λ ls k e f B h p P x y. onward e f refl P x y λ d. refl }
 
 -- the same procedure from an earlier pair of sides
-goes-from : {ls : Lines} {limit k : ℕ} {w : List ℕ} {l r : ℕ} {e f g h : Expr} {b c state b′ : ℕ} {N : Expr → Expr → Type 0}
+goes-from : {ls : Lines} {limit k : ℕ} {w : List ℕ} {l r : ℕ} {e f g h : Expr} {b c state n m b′ : ℕ}
     → ((deeper : Comparison) → sides ls limit deeper e f b ≡ sides ls limit deeper g h c)
-    → Goes ls limit k w l r g h c state b′ N → Goes ls limit k w l r e f b state b′ N
+    → Goes ls limit k w l r g h c state n m b′ → Goes ls limit k w l r e f b state n m b′
 goes-from q (identically z p) = identically z λ d. q d ∙ p d
 goes-from q (toParts e f z P p) = toParts e f z P λ d. q d ∙ p d
-goes-from q (onward e f P n p) = onward e f P n λ d. q d ∙ p d
+goes-from q (onward e f z P x y p) = onward e f z P x y λ d. q d ∙ p d
 goes-from q (tooFar z p) = tooFar z λ d. q d ∙ p d
 goes-from q (spent z p) = spent z λ d. q d ∙ p d
 
--- a turn after those before it
-pub proceed-then : {tb ts w w₁ w₂ : List ℕ} {limit l r : ℕ} {p p₁ p₂ : Progress} → Proceeds tb ts w limit l r p w₁ p₁ → length w₁ ≡ length w → p₁ .state ≡ 2
-    → Proceeds tb ts w₁ limit l r p₁ w₂ p₂ → Proceeds tb ts w limit l r p w₂ p₂
-proceed-then {tb} {ts} {w} {w₁} {w₂} {limit} {l} {r} {p} {p₁} {p₂} s long z t = record {
-  frame = λ h u. outside-then (s .frame h u) (outside-more (omega arith) (omega arith) (t .frame h u));
-  redexes = t .redexes;
-  means = λ ls k e f B h pl P A. go ls k e f B h pl (s .means ls k e f B h pl P A);
-}
-  where
-    go : (ls : Lines) (k : ℕ) (e f : Expr) → Book ls limit tb ts → k ≤ 64 → Placed limit (length w) l r
-        → Goes ls limit k w₁ l r e f (p .budget) (p₁ .state) (p₁ .budget) (SidesAre ls l r p₁)
-        → Goes ls limit k w₂ l r e f (p .budget) (p₂ .state) (p₂ .budget) (SidesAre ls l r p₂)
-    go ls k e f B h pl (identically y q) = absurd (omega arith)
-    go ls k e f B h pl (toParts g i y P q) = absurd (omega arith)
-    go ls k e f B h pl (onward g i P A q) =
-        goes-from q (t .means ls k g i B h (record { next = pl .next; below = pl .below; long = omega (arith, pl .long) }) P A)
-    go ls k e f B h pl (tooFar y q) = absurd (omega arith)
-    go ls k e f B h pl (spent y q) = absurd (omega arith)
+module _ {tb ts w w₁ w₂ : List ℕ} {limit budget l n r m n₁ m₁ budget₁ state n₂ m₂ budget₂ : ℕ} where
+  pub proceed-then : Proceeds tb ts w limit budget l n r m w₁ 2 n₁ m₁ budget₁ → length w₁ ≡ length w
+      → Proceeds tb ts w₁ limit budget₁ l n₁ r m₁ w₂ state n₂ m₂ budget₂ → Proceeds tb ts w limit budget l n r m w₂ state n₂ m₂ budget₂
+  proceed-then p long q = record {
+    frame = λ h t. outside-then (p .frame h t) (outside-more (omega arith) (omega arith) (q .frame h t));
+    means = λ ls k e f B h pl P x y. go ls k e f B h pl (p .means ls k e f B h pl P x y);
+  }
+    where
+      go : (ls : Lines) (k : ℕ) (e f : Expr) → Book ls limit tb ts → k ≤ 64 → Placed limit (length w) l r
+          → Goes ls limit k w₁ l r e f budget 2 n₁ m₁ budget₁ → Goes ls limit k w₂ l r e f budget state n₂ m₂ budget₂
+      go ls k e f B h pl (identically z s) = absurd (omega arith)
+      go ls k e f B h pl (toParts g i z P s) = absurd (omega arith)
+      go ls k e f B h pl (onward g i z P x y s) =
+          goes-from s (q .means ls k g i B h (record { next = pl .next; below = pl .below; long = omega arith }) P x y)
+      go ls k e f B h pl (tooFar z s) = absurd (omega arith)
+      go ls k e f B h pl (spent z s) = absurd (omega arith)
 
--- no step follows
-goes-ended : {ls : Lines} {limit k : ℕ} {w : List ℕ} {l r : ℕ} {e f : Expr} {b b′ : ℕ} {x : Progress} → (x .state ≡ 2 → ⊥)
-    → Goes ls limit k w l r e f b (x .state) b′ (SidesAre ls l r x) → Goes ls limit k w l r e f b (x .state) b′ (λ _ _. ⊥)
+  -- and there may be more
+  pub proceed-on : Proceeds tb ts w limit budget l n r m w₁ 2 n₁ m₁ budget₁ → length w₁ ≡ length w
+      → Proceeds tb ts w₁ limit budget₁ l n₁ r m₁ w₂ state n₂ m₂ budget₂ → state ≡ 2 → Proceeds tb ts w limit budget l n r m w₂ 2 n₂ m₂ budget₂
+  proceed-on p long q z = subst (λ (x : ℕ). Proceeds tb ts w limit budget l n r m w₂ x n₂ m₂ budget₂) z (proceed-then p long q)
+
+-- no step may follow: the sizes do not matter
+goes-ended : {ls : Lines} {limit k : ℕ} {w : List ℕ} {l r : ℕ} {e f : Expr} {b state n m b′ : ℕ} → (state ≡ 2 → ⊥)
+    → Goes ls limit k w l r e f b state n m b′ → Goes ls limit k w l r e f b state 0 0 b′
 goes-ended q (identically z p) = identically z p
 goes-ended q (toParts e f z P p) = toParts e f z P p
-goes-ended q (onward e f P A p) = absurd (q (A .between))
+goes-ended q (onward e f z P x y p) = absurd (q z)
 goes-ended q (tooFar z p) = tooFar z p
 goes-ended q (spent z p) = spent z p
 
 -- ---- identical before anything is put in place
 
-module _ {tb ts w : List ℕ} {limit a b : ℕ} (l : ℕ) {answer : Bool} (same : SaysSame tb w a b answer) where
-  same-answered : (ls : Lines) (k : ℕ) (e f : Expr) → Book ls limit tb ts → Pair ls limit k (take l w) a b e f → answer ≡ identical e f
-  same-answered ls k e f B P =
-      same .means e f _ _ (category-wf (B .rows) k e (P .knownLeft)) (category-wf (B .rows) k f (P .knownRight)) (at-whole w l e (P .atLeft))
-      (at-whole w l f (P .atRight))
-
-  pub settled-same : {budget r : ℕ} → answer ≡ true → Settles tb ts w limit budget a b l r w 0 budget
-  settled-same {budget} q = record {
-    frame = λ _ _. outside-same;
-    means = λ ls k e f B h pl P.
-        identically refl λ d. sides-same ls limit e f budget d (next-same ls limit e f (sym (same-answered ls k e f B P) ∙ q));
-  }
+pub settled-same : {tb ts w : List ℕ} {limit budget a b l r : ℕ} {answer : Bool} → SaysSame tb w a b answer → answer ≡ true
+    → Settles tb ts w limit budget a b l r w 0 budget
+settled-same {w = w} {limit} {budget} {l = l} same q = record {
+  frame = λ _ _. outside-same;
+  ends = λ z. omega arith;
+  means = λ ls k e f B h pl P.
+      let x : identical e f ≡ true =
+      sym (same .means e f _ _ (category-wf (B .rows) k e (P .knownLeft)) (category-wf (B .rows) k f (P .knownRight)) (at-whole w l e (P .atLeft)) (at-whole w l f (P .atRight)))
+      ∙ q
+      in
+      identically refl λ d. sides-same ls limit e f budget d (next-same ls limit e f x);
+}
 
 -- ---- the sides in place
 
@@ -139,31 +139,14 @@ module _ (tb w : List ℕ) (a b l r n m : ℕ) (first : Extent tb w a n) (second
       atRight = right₂;
     }
 
-  module _ (ts : List ℕ) (limit budget : ℕ) {answer : Bool} {hl hr : Head} (same : SaysSame tb w a b answer) (different : answer ≡ false)
-      (headLeft : HeadPost tb w₂ l n hl) (headRight : HeadPost tb w₂ r m hr) where
-    abbrev start : Progress
-    start = record { state = 2; budget = budget; left = record { size = n; head = hl }; right = record { size = m; head = hr } }
-
-    start-sides : (ls : Lines) (k : ℕ) (e f : Expr) → Book ls limit tb ts → Placed limit (length w) l r → Pair ls limit k (take l w) a b e f
-        → SidesAre ls l r start e f
-    start-sides ls k e f B pl P =
-        let O = opened ls k e f B pl P in
-        let x = size-left ls k e f B pl P in
-        let y = size-right ls k e f B pl P in
-        record {
-          between = refl;
-          leftIs = record { sizeIs = x; headIs = headLeft .is B k e (O .knownLeft) (O .atLeft) x };
-          rightIs = record { sizeIs = y; headIs = headRight .is B k f (O .knownRight) (O .atRight) y };
-          differ = sym (same-answered l same ls k e f B P) ∙ different;
-        }
-
-    pub settled : {w₃ : List ℕ} {x : Progress} → Proceeds tb ts w₂ limit l r start w₃ x → (x .state ≡ 2 → ⊥)
-        → Settles tb ts w limit budget a b l r w₃ (x .state) (x .budget)
-    settled p z = record {
-      frame = λ h t.
-          outside-then (outside-open outside₁)
-          (outside-then (outside-more h (omega (arith, outside₁ .long)) (outside-open outside₂))
-          (outside-more (omega arith) (omega (arith, outside₁ .long, outside₂ .long)) (p .frame h t)));
-      means = λ ls k e f B h pl P.
-          goes-ended z (p .means ls k e f B h (placed ls k e f B pl P) (opened ls k e f B pl P) (start-sides ls k e f B pl P));
-    }
+  pub settled : {ts : List ℕ} {limit budget : ℕ} {w₃ : List ℕ} {state n′ m′ left : ℕ} → Proceeds tb ts w₂ limit budget l n r m w₃ state n′ m′ left
+      → (state ≡ 2 → ⊥) → Settles tb ts w limit budget a b l r w₃ state left
+  settled p z = record {
+    frame = λ h t.
+        outside-then (outside-open outside₁)
+        (outside-then (outside-more h (omega (arith, outside₁ .long)) (outside-open outside₂))
+        (outside-more (omega arith) (omega (arith, outside₁ .long, outside₂ .long)) (p .frame h t)));
+    ends = z;
+    means = λ ls k e f B h pl P.
+        goes-ended z (p .means ls k e f B h (placed ls k e f B pl P) (opened ls k e f B pl P) (size-left ls k e f B pl P) (size-right ls k e f B pl P));
+  }

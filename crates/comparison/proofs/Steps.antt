@@ -10,18 +10,17 @@ use lib.ListN.{length, drop}
 use Rattle.aut68.specs.Expr.{Expr, size, cells, identical}
 use Rattle.aut68.specs.Lines.{Lines}
 use Rattle.aut68.specs.Procedure.HeadStep.{headStep, left}
-use Rattle.aut68.specs.Procedure.Compare.{Comparison, choose, next, stepLeft, stepRight, sides}
+use Rattle.aut68.specs.Procedure.Compare.{choose, next, stepLeft, stepRight}
 use Rattle.cells.specs.Cells.{At, Outside}
 use Rattle.cells.specs.Forests.{size-is-length}
 use Rattle.cells.specs.Layout.{unitAt, scratchUnit}
 use Rattle.cells.specs.Stores.{outside-same}
 use Rattle.reduction.specs.Book.{Book, category-wf}
 use Rattle.reduction.specs.Frames.{at-framed}
-use Rattle.reduction.specs.Heads.{known-after}
+use Rattle.reduction.specs.Heads.{HeadIs, known-after}
 use Rattle.reduction.specs.Posts.{HeadPost, StepPost}
 use Rattle.reduction.specs.declared.heads.Head.{Head}
-use Rattle.comparison.specs.declared.Progress.{Progress}
-use Rattle.comparison.specs.Posts.{Pair, Placed, SaysIdentical, Chooses, Goes, identically, toParts, onward, tooFar, spent, SidesAre, Redexes, Proceeds}
+use Rattle.comparison.specs.Posts.{Pair, Placed, SaysIdentical, Chooses, Goes, identically, toParts, onward, tooFar, spent, Proceeds}
 use Rattle.comparison.proofs.Places.{framed-open}
 use Rattle.comparison.proofs.Turns.{sides-same, sides-parts, sides-spent, sides-spent-right, sides-left, sides-left-large, sides-right, sides-right-large, next-same, next-choice, Choice, neither, theLeft, theRight, choice}
 use Rattle.comparison.proofs.Heads.{head-numbered, head-some, StepIs, made, large, step-is}
@@ -32,67 +31,74 @@ answered {tb} same ls k e f B P x y =
     same .means tb e f (P .restLeft) (P .restRight) (category-wf (B .rows) k e (P .knownLeft)) (category-wf (B .rows) k f (P .knownRight)) x y
     (P .atLeft) (P .atRight)
 
--- the sides p in another state, with another budget
-abbrev pub ended : Progress → ℕ → ℕ → Progress
-ended p state budget = record { state = state; budget = budget; left = p .left; right = p .right }
+-- identical sides
+pub turn-same : {tb ts w : List ℕ} {limit budget l n r m : ℕ} {answer : Bool} → SaysIdentical w l n r m answer → answer ≡ true
+    → Proceeds tb ts w limit budget l n r m w 0 n m budget
+turn-same {limit = limit} {budget} same q = record {
+  frame = λ _ _. outside-same;
+  means = λ ls k e f B h p P x y. identically refl λ d. sides-same ls limit e f budget d (next-same ls limit e f (sym (answered same ls k e f B P x y) ∙ q));
+}
 
--- the left side, or the right one, as a step has left it
-abbrev pub leftStepped : Progress → ℕ → ℕ → Head → Progress
-leftStepped p budget n h = record { state = p .state; budget = budget; left = record { size = n; head = h }; right = p .right }
+-- the sides differ, and the side of the next step is chosen
+pub record Decided (tb w : List ℕ) (l n r m : ℕ) (hl hr : Head) (side : ℕ) : Type 0 where
+  pub answer : Bool
+  pub same : SaysIdentical w l n r m answer
+  pub differ : answer ≡ false
+  pub first : HeadPost tb w l n hl
+  pub second : HeadPost tb w r m hr
+  pub chosen : Chooses (hl .kind) (hl .line) (hr .kind) (hr .line) side
 
-abbrev pub rightStepped : Progress → ℕ → ℕ → Head → Progress
-rightStepped p budget m h = record { state = p .state; budget = budget; left = p .left; right = record { size = m; head = h } }
+-- what that says of two expressions
+record Chosen (ls : Lines) (l r : ℕ) (hl hr : Head) (side : ℕ) (e f : Expr) : Type 0 where
+  headLeft : HeadIs ls l (hl .kind) (hl .at) (hl .kept) (hl .line) e
+  headRight : HeadIs ls r (hr .kind) (hr .at) (hr .kept) (hr .line) f
+  nextIs : next ls e f ≡ choose (headStep ls e) (headStep ls f)
+  choiceIs : Choice (headStep ls e) (headStep ls f) side
 
-redexes-kept : {l r : ℕ} {p : Progress} {state budget : ℕ} → Redexes l r p → Redexes l r (ended p state budget)
-redexes-kept R = record { inLeft = R .inLeft; inRight = R .inRight }
-
-module _ (tb ts w : List ℕ) (limit : ℕ) {l r : ℕ} {p : Progress} {side : ℕ} (R : Redexes l r p)
-    (C : Chooses (p .left .head .kind) (p .left .head .line) (p .right .head .kind) (p .right .head .line) side) where
-  -- what the chosen side says of two expressions
-  record Chosen (ls : Lines) (e f : Expr) : Type 0 where
-    nextIs : next ls e f ≡ choose (headStep ls e) (headStep ls f)
-    choiceIs : Choice (headStep ls e) (headStep ls f) side
-
-  chosen : (ls : Lines) (e f : Expr) → SidesAre ls l r p e f → Chosen ls e f
-  chosen ls e f A = record {
-    nextIs = next-choice ls limit e f (A .differ);
-    choiceIs = choice C (head-numbered ls e (A .leftIs .headIs)) (head-numbered ls f (A .rightIs .headIs));
-  }
+module _ (ts : List ℕ) (limit budget : ℕ) {tb w : List ℕ} {l n r m : ℕ} {hl hr : Head} {side : ℕ} (D : Decided tb w l n r m hl hr side) where
+  choices : (ls : Lines) (k : ℕ) (e f : Expr) → Book ls limit tb ts → Pair ls limit k w l r e f → n ≡ size e → m ≡ size f → Chosen ls l r hl hr side e f
+  choices ls k e f B P x y =
+      let a = D .first .is B k e (P .knownLeft) (P .atLeft) x in
+      let b = D .second .is B k f (P .knownRight) (P .atRight) y in
+      record {
+        headLeft = a;
+        headRight = b;
+        nextIs = next-choice ls limit e f (sym (answered (D .same) ls k e f B P x y) ∙ D .differ);
+        choiceIs = choice (D .chosen) (head-numbered ls e a) (head-numbered ls f b);
+      }
 
   -- no side has a head step
-  pub turn-parts : side ≡ 0 → Proceeds tb ts w limit l r p w (ended p 1 (p .budget))
-  turn-parts z = record { frame = λ _ _. outside-same; redexes = redexes-kept R; means = λ ls k e f B h pl P A. go ls k e f P (chosen ls e f A) }
+  pub turn-parts : side ≡ 0 → Proceeds tb ts w limit budget l n r m w 1 n m budget
+  turn-parts z = record { frame = λ _ _. outside-same; means = λ ls k e f B h p P x y. go ls k e f P (choices ls k e f B P x y) }
     where
-      go : (ls : Lines) (k : ℕ) (e f : Expr) → Pair ls limit k w l r e f → Chosen ls e f
-          → Goes ls limit k w l r e f (p .budget) 1 (p .budget) (SidesAre ls l r (ended p 1 (p .budget)))
+      go : (ls : Lines) (k : ℕ) (e f : Expr) → Pair ls limit k w l r e f → Chosen ls l r hl hr side e f → Goes ls limit k w l r e f budget 1 n m budget
       go ls k e f P c = by (c .choiceIs)
         where
-          by : Choice (headStep ls e) (headStep ls f) side → Goes ls limit k w l r e f (p .budget) 1 (p .budget) (SidesAre ls l r (ended p 1 (p .budget)))
-          by (neither s q) = toParts e f refl P λ d. sides-parts ls limit e f (p .budget) d (c .nextIs ∙ q)
+          by : Choice (headStep ls e) (headStep ls f) side → Goes ls limit k w l r e f budget 1 n m budget
+          by (neither s q) = toParts e f refl P λ d. sides-parts ls limit e f budget d (c .nextIs ∙ q)
           by (theLeft g s h q) = absurd (omega arith)
           by (theRight g s h q) = absurd (omega arith)
 
   -- a step is past the budget
-  pub turn-spent : (side ≡ 0 → ⊥) → p .budget ≡ 0 → Proceeds tb ts w limit l r p w (ended p 11 (p .budget))
-  turn-spent z o = record { frame = λ _ _. outside-same; redexes = redexes-kept R; means = λ ls k e f B h pl P A. go ls k e f (chosen ls e f A) }
+  pub turn-spent : (side ≡ 0 → ⊥) → budget ≡ 0 → Proceeds tb ts w limit budget l n r m w 11 n m budget
+  turn-spent z o = record { frame = λ _ _. outside-same; means = λ ls k e f B h p P x y. go ls k e f (choices ls k e f B P x y) }
     where
-      go : (ls : Lines) (k : ℕ) (e f : Expr) → Chosen ls e f
-          → Goes ls limit k w l r e f (p .budget) 11 (p .budget) (SidesAre ls l r (ended p 11 (p .budget)))
+      go : (ls : Lines) (k : ℕ) (e f : Expr) → Chosen ls l r hl hr side e f → Goes ls limit k w l r e f budget 11 n m budget
       go ls k e f c = by (c .choiceIs)
         where
-          by : Choice (headStep ls e) (headStep ls f) side → Goes ls limit k w l r e f (p .budget) 11 (p .budget) (SidesAre ls l r (ended p 11 (p .budget)))
+          by : Choice (headStep ls e) (headStep ls f) side → Goes ls limit k w l r e f budget 11 n m budget
           by (neither s q) = absurd (z s)
-          by (theLeft g s h q) = spent refl λ d. sides-spent ls limit e f (p .budget) d g o (c .nextIs ∙ q)
-          by (theRight g s h q) = spent refl λ d. sides-spent-right ls limit e f (p .budget) d g o (c .nextIs ∙ q)
+          by (theLeft g s h q) = spent refl λ d. sides-spent ls limit e f budget d g o (c .nextIs ∙ q)
+          by (theRight g s h q) = spent refl λ d. sides-spent-right ls limit e f budget d g o (c .nextIs ∙ q)
 
   -- ---- a step in the left side
 
-  module _ {w′ : List ℕ} {n′ : ℕ} (S : StepPost tb ts w w′ limit (p .left .head) n′) (z : side ≡ 1) (o : 0 < p .budget) where
+  module _ {w′ : List ℕ} {n′ : ℕ} (S : StepPost tb ts w w′ limit hl n′) (z : side ≡ 1) (o : 0 < budget) where
     frame-left : l ≤ r → l ≤ unitAt limit scratchUnit → Outside l (length w) w w′
-    frame-left _ t = framed-open (S .framed) (omega (arith, R .inLeft)) t
+    frame-left _ t = framed-open (S .framed) (omega (arith, D .first .placed)) t
 
-    module _ (ls : Lines) (k : ℕ) (e f : Expr) (B : Book ls limit tb ts) (h : k ≤ 64) (pl : Placed limit (length w) l r) (P : Pair ls limit k w l r e f)
-        (A : SidesAre ls l r p e f) where
+    module _ (ls : Lines) (k : ℕ) (e f : Expr) (B : Book ls limit tb ts) (h : k ≤ 64) (p : Placed limit (length w) l r) (P : Pair ls limit k w l r e f)
+        (c : Chosen ls l r hl hr side e f) where
       -- what the step leaves
       record Left : Type 0 where
         g : Expr
@@ -101,107 +107,75 @@ module _ (tb ts w : List ℕ) (limit : ℕ) {l r : ℕ} {p : Progress} {side : �
         stepIs : StepIs limit l g n′ w′
 
       left-side : Left
-      left-side = by (chosen ls e f A .choiceIs)
+      left-side = by (c .choiceIs)
         where
           by : Choice (headStep ls e) (headStep ls f) side → Left
           by (neither s q) = absurd (omega arith)
           by (theLeft g s q x) = record {
             g = g;
             leaves = q;
-            nextIs = chosen ls e f A .nextIs ∙ x;
+            nextIs = c .nextIs ∙ x;
             stepIs =
                 step-is (B .limit) q
-                (S .made (pl .long) B k e (P .knownLeft) (omega arith) (P .smallLeft) (P .atLeft) (omega (arith, pl .next, pl .below)) (A .leftIs .headIs)
-                (head-some ls e g q (A .leftIs .headIs)));
+                (S .made (p .long) B k e (P .knownLeft) (omega arith) (P .smallLeft) (P .atLeft) (omega (arith, p .next, p .below)) (c .headLeft)
+                (head-some ls e g q (c .headLeft)));
           }
           by (theRight g s q x) = absurd (omega arith)
 
       -- the right side lies where it did
       right-stays : At w′ r (cells f) (drop (r + length (cells f)) w′)
       right-stays =
-          at-framed (S .framed) (omega (arith, pl .below, P .smallRight, size-is-length f)) (inr (omega (arith, pl .next, R .inLeft))) (P .atRight)
+          at-framed (S .framed) (omega (arith, p .below, P .smallRight, size-is-length f)) (inr (omega (arith, p .next, D .first .placed))) (P .atRight)
 
-      -- a step within the limit
-      record LeftMade : Type 0 where
-        g : Expr
-        sizeIs : n′ ≡ size g
-        pair : Pair ls limit k w′ l r g f
-        goes : (b : ℕ) → b + 1 ≡ p .budget → (deeper : Comparison) → sides ls limit deeper e f (p .budget) ≡ sides ls limit deeper g f b
-
-      left-made : n′ ≤ limit → LeftMade
-      left-made t = by left-side
+      goes-left : {budget′ : ℕ} → m ≡ size f → n′ ≤ limit → budget′ + 1 ≡ budget → Goes ls limit k w′ l r e f budget 2 n′ m budget′
+      goes-left {budget′} y t u = by left-side
         where
-          by : Left → LeftMade
+          by : Left → Goes ls limit k w′ l r e f budget 2 n′ m budget′
           by L = of (L .stepIs)
             where
-              of : StepIs limit l (L .g) n′ w′ → LeftMade
-              of (made s v at′) = record {
-                g = L .g;
-                sizeIs = v;
-                pair = record {
-                  knownLeft = inr (known-after ls (B .resolved) k e (L .g) (L .leaves) (P .knownLeft));
-                  knownRight = P .knownRight;
-                  smallLeft = s;
-                  smallRight = P .smallRight;
-                  restLeft = at′ .rest;
-                  restRight = _;
-                  atLeft = at′ .at;
-                  atRight = right-stays;
-                };
-                goes = λ b u d. sides-left ls limit e f (p .budget) b d (L .g) u (L .nextIs) s;
-              }
+              of : StepIs limit l (L .g) n′ w′ → Goes ls limit k w′ l r e f budget 2 n′ m budget′
+              of (made s v at′) =
+                  onward (L .g) f refl
+                  (record {
+                    knownLeft = inr (known-after ls (B .resolved) k e (L .g) (L .leaves) (P .knownLeft));
+                    knownRight = P .knownRight;
+                    smallLeft = s;
+                    smallRight = P .smallRight;
+                    restLeft = at′ .rest;
+                    restRight = _;
+                    atLeft = at′ .at;
+                    atRight = right-stays;
+                  })
+                  v y λ d. sides-left ls limit e f budget budget′ d (L .g) u (L .nextIs) s
               of (large s v) = absurd (omega arith)
 
-      large-left : limit < n′ → {N : Expr → Expr → Type 0} → Goes ls limit k w′ l r e f (p .budget) 10 (p .budget) N
-      large-left t {N} = by left-side
+      large-left : limit < n′ → Goes ls limit k w′ l r e f budget 10 n m budget
+      large-left t = by left-side
         where
-          by : Left → Goes ls limit k w′ l r e f (p .budget) 10 (p .budget) N
+          by : Left → Goes ls limit k w′ l r e f budget 10 n m budget
           by L = of (L .stepIs)
             where
-              of : StepIs limit l (L .g) n′ w′ → Goes ls limit k w′ l r e f (p .budget) 10 (p .budget) N
+              of : StepIs limit l (L .g) n′ w′ → Goes ls limit k w′ l r e f budget 10 n m budget
               of (made s v at′) = absurd (omega arith)
-              of (large s v) = tooFar refl λ d. sides-left-large ls limit e f (p .budget) d (L .g) o (L .nextIs) s
+              of (large s v) = tooFar refl λ d. sides-left-large ls limit e f budget d (L .g) o (L .nextIs) s
 
-    pub turn-left-large : limit < n′ → Proceeds tb ts w limit l r p w′ (ended p 10 (p .budget))
-    turn-left-large t = record { frame = frame-left; redexes = redexes-kept R; means = λ ls k e f B h pl P A. large-left ls k e f B h pl P A t }
+    pub turn-left : {budget′ : ℕ} → n′ ≤ limit → budget′ + 1 ≡ budget → Proceeds tb ts w limit budget l n r m w′ 2 n′ m budget′
+    turn-left t u = record {
+      frame = frame-left;
+      means = λ ls k e f B h p P x y. goes-left ls k e f B h p P (choices ls k e f B P x y) y t u;
+    }
 
-    module _ {b : ℕ} {answer : Bool} (t : n′ ≤ limit) (u : b + 1 ≡ p .budget) (I : SaysIdentical w′ l n′ r (p .right .size) answer) where
-      -- the sides are identical now
-      pub turn-left-same : answer ≡ true → Proceeds tb ts w limit l r p w′ (ended p 0 b)
-      turn-left-same q = record {
-        frame = frame-left;
-        redexes = redexes-kept R;
-        means = λ ls k e f B h pl P A.
-            let M = left-made ls k e f B h pl P A t in
-            let x : identical (M .g) f ≡ true = sym (answered I ls k (M .g) f B (M .pair) (M .sizeIs) (A .rightIs .sizeIs)) ∙ q in
-            identically refl λ d. M .goes b u d ∙ sides-same ls limit (M .g) f b d (next-same ls limit (M .g) f x);
-      }
-
-      -- they differ
-      pub turn-left : answer ≡ false → {h′ : Head} → HeadPost tb w′ l n′ h′ → Proceeds tb ts w limit l r p w′ (leftStepped p b n′ h′)
-      turn-left q H = record {
-        frame = frame-left;
-        redexes = record { inLeft = H .placed; inRight = R .inRight };
-        means = λ ls k e f B h pl P A.
-            let M = left-made ls k e f B h pl P A t in
-            onward (M .g) f (M .pair)
-            (record {
-              between = A .between;
-              leftIs = record { sizeIs = M .sizeIs; headIs = H .is B k (M .g) (M .pair .knownLeft) (M .pair .atLeft) (M .sizeIs) };
-              rightIs = A .rightIs;
-              differ = sym (answered I ls k (M .g) f B (M .pair) (M .sizeIs) (A .rightIs .sizeIs)) ∙ q;
-            })
-            (λ d. M .goes b u d);
-      }
+    pub turn-left-large : limit < n′ → Proceeds tb ts w limit budget l n r m w′ 10 n m budget
+    turn-left-large t = record { frame = frame-left; means = λ ls k e f B h p P x y. large-left ls k e f B h p P (choices ls k e f B P x y) t }
 
   -- ---- a step in the right side
 
-  module _ {w′ : List ℕ} {m′ : ℕ} (S : StepPost tb ts w w′ limit (p .right .head) m′) (z : side ≡ 0 → ⊥) (z′ : side ≡ 1 → ⊥) (o : 0 < p .budget) where
+  module _ {w′ : List ℕ} {m′ : ℕ} (S : StepPost tb ts w w′ limit hr m′) (z : side ≡ 0 → ⊥) (z′ : side ≡ 1 → ⊥) (o : 0 < budget) where
     frame-right : l ≤ r → l ≤ unitAt limit scratchUnit → Outside l (length w) w w′
-    frame-right q t = framed-open (S .framed) (omega (arith, R .inRight)) t
+    frame-right q t = framed-open (S .framed) (omega (arith, D .second .placed)) t
 
-    module _ (ls : Lines) (k : ℕ) (e f : Expr) (B : Book ls limit tb ts) (h : k ≤ 64) (pl : Placed limit (length w) l r) (P : Pair ls limit k w l r e f)
-        (A : SidesAre ls l r p e f) where
+    module _ (ls : Lines) (k : ℕ) (e f : Expr) (B : Book ls limit tb ts) (h : k ≤ 64) (p : Placed limit (length w) l r) (P : Pair ls limit k w l r e f)
+        (c : Chosen ls l r hl hr side e f) where
       -- what the step leaves
       record Right : Type 0 where
         g : Expr
@@ -210,7 +184,7 @@ module _ (tb ts w : List ℕ) (limit : ℕ) {l r : ℕ} {p : Progress} {side : �
         stepIs : StepIs limit r g m′ w′
 
       right-side : Right
-      right-side = by (chosen ls e f A .choiceIs)
+      right-side = by (c .choiceIs)
         where
           by : Choice (headStep ls e) (headStep ls f) side → Right
           by (neither s q) = absurd (z s)
@@ -218,88 +192,55 @@ module _ (tb ts w : List ℕ) (limit : ℕ) {l r : ℕ} {p : Progress} {side : �
           by (theRight g s q x) = record {
             g = g;
             leaves = q;
-            nextIs = chosen ls e f A .nextIs ∙ x;
+            nextIs = c .nextIs ∙ x;
             stepIs =
                 step-is (B .limit) q
-                (S .made (pl .long) B k f (P .knownRight) (omega arith) (P .smallRight) (P .atRight) (pl .below) (A .rightIs .headIs)
-                (head-some ls f g q (A .rightIs .headIs)));
+                (S .made (p .long) B k f (P .knownRight) (omega arith) (P .smallRight) (P .atRight) (p .below) (c .headRight) (head-some ls f g q (c .headRight)));
           }
 
       -- the left side lies where it did
       left-stays : At w′ l (cells e) (drop (l + length (cells e)) w′)
       left-stays =
-          at-framed (S .framed) (omega (arith, pl .below, pl .next, P .smallLeft, size-is-length e))
-          (inl (omega (arith, pl .next, P .smallLeft, size-is-length e, R .inRight))) (P .atLeft)
+          at-framed (S .framed) (omega (arith, p .below, p .next, P .smallLeft, size-is-length e))
+          (inl (omega (arith, p .next, P .smallLeft, size-is-length e, D .second .placed))) (P .atLeft)
 
-      -- a step within the limit
-      record RightMade : Type 0 where
-        g : Expr
-        sizeIs : m′ ≡ size g
-        pair : Pair ls limit k w′ l r e g
-        goes : (b : ℕ) → b + 1 ≡ p .budget → (deeper : Comparison) → sides ls limit deeper e f (p .budget) ≡ sides ls limit deeper e g b
-
-      right-made : m′ ≤ limit → RightMade
-      right-made t = by right-side
+      goes-right : {budget′ : ℕ} → n ≡ size e → m′ ≤ limit → budget′ + 1 ≡ budget → Goes ls limit k w′ l r e f budget 2 n m′ budget′
+      goes-right {budget′} y t u = by right-side
         where
-          by : Right → RightMade
-          by Q = of (Q .stepIs)
+          by : Right → Goes ls limit k w′ l r e f budget 2 n m′ budget′
+          by R = of (R .stepIs)
             where
-              of : StepIs limit r (Q .g) m′ w′ → RightMade
-              of (made s v at′) = record {
-                g = Q .g;
-                sizeIs = v;
-                pair = record {
-                  knownLeft = P .knownLeft;
-                  knownRight = inr (known-after ls (B .resolved) k f (Q .g) (Q .leaves) (P .knownRight));
-                  smallLeft = P .smallLeft;
-                  smallRight = s;
-                  restLeft = _;
-                  restRight = at′ .rest;
-                  atLeft = left-stays;
-                  atRight = at′ .at;
-                };
-                goes = λ b u d. sides-right ls limit e f (p .budget) b d (Q .g) u (Q .nextIs) s;
-              }
+              of : StepIs limit r (R .g) m′ w′ → Goes ls limit k w′ l r e f budget 2 n m′ budget′
+              of (made s v at′) =
+                  onward e (R .g) refl
+                  (record {
+                    knownLeft = P .knownLeft;
+                    knownRight = inr (known-after ls (B .resolved) k f (R .g) (R .leaves) (P .knownRight));
+                    smallLeft = P .smallLeft;
+                    smallRight = s;
+                    restLeft = _;
+                    restRight = at′ .rest;
+                    atLeft = left-stays;
+                    atRight = at′ .at;
+                  })
+                  y v λ d. sides-right ls limit e f budget budget′ d (R .g) u (R .nextIs) s
               of (large s v) = absurd (omega arith)
 
-      large-right : limit < m′ → {N : Expr → Expr → Type 0} → Goes ls limit k w′ l r e f (p .budget) 10 (p .budget) N
-      large-right t {N} = by right-side
+      large-right : limit < m′ → Goes ls limit k w′ l r e f budget 10 n m budget
+      large-right t = by right-side
         where
-          by : Right → Goes ls limit k w′ l r e f (p .budget) 10 (p .budget) N
-          by Q = of (Q .stepIs)
+          by : Right → Goes ls limit k w′ l r e f budget 10 n m budget
+          by R = of (R .stepIs)
             where
-              of : StepIs limit r (Q .g) m′ w′ → Goes ls limit k w′ l r e f (p .budget) 10 (p .budget) N
+              of : StepIs limit r (R .g) m′ w′ → Goes ls limit k w′ l r e f budget 10 n m budget
               of (made s v at′) = absurd (omega arith)
-              of (large s v) = tooFar refl λ d. sides-right-large ls limit e f (p .budget) d (Q .g) o (Q .nextIs) s
+              of (large s v) = tooFar refl λ d. sides-right-large ls limit e f budget d (R .g) o (R .nextIs) s
 
-    pub turn-right-large : limit < m′ → Proceeds tb ts w limit l r p w′ (ended p 10 (p .budget))
-    turn-right-large t = record { frame = frame-right; redexes = redexes-kept R; means = λ ls k e f B h pl P A. large-right ls k e f B h pl P A t }
+    pub turn-right : {budget′ : ℕ} → m′ ≤ limit → budget′ + 1 ≡ budget → Proceeds tb ts w limit budget l n r m w′ 2 n m′ budget′
+    turn-right t u = record {
+      frame = frame-right;
+      means = λ ls k e f B h p P x y. goes-right ls k e f B h p P (choices ls k e f B P x y) x t u;
+    }
 
-    module _ {b : ℕ} {answer : Bool} (t : m′ ≤ limit) (u : b + 1 ≡ p .budget) (I : SaysIdentical w′ l (p .left .size) r m′ answer) where
-      -- the sides are identical now
-      pub turn-right-same : answer ≡ true → Proceeds tb ts w limit l r p w′ (ended p 0 b)
-      turn-right-same q = record {
-        frame = frame-right;
-        redexes = redexes-kept R;
-        means = λ ls k e f B h pl P A.
-            let M = right-made ls k e f B h pl P A t in
-            let x : identical e (M .g) ≡ true = sym (answered I ls k e (M .g) B (M .pair) (A .leftIs .sizeIs) (M .sizeIs)) ∙ q in
-            identically refl λ d. M .goes b u d ∙ sides-same ls limit e (M .g) b d (next-same ls limit e (M .g) x);
-      }
-
-      -- they differ
-      pub turn-right : answer ≡ false → {h′ : Head} → HeadPost tb w′ r m′ h′ → Proceeds tb ts w limit l r p w′ (rightStepped p b m′ h′)
-      turn-right q H = record {
-        frame = frame-right;
-        redexes = record { inLeft = R .inLeft; inRight = H .placed };
-        means = λ ls k e f B h pl P A.
-            let M = right-made ls k e f B h pl P A t in
-            onward e (M .g) (M .pair)
-            (record {
-              between = A .between;
-              leftIs = A .leftIs;
-              rightIs = record { sizeIs = M .sizeIs; headIs = H .is B k (M .g) (M .pair .knownRight) (M .pair .atRight) (M .sizeIs) };
-              differ = sym (answered I ls k e (M .g) B (M .pair) (A .leftIs .sizeIs) (M .sizeIs)) ∙ q;
-            })
-            (λ d. M .goes b u d);
-      }
+    pub turn-right-large : limit < m′ → Proceeds tb ts w limit budget l n r m w′ 10 n m budget
+    turn-right-large t = record { frame = frame-right; means = λ ls k e f B h p P x y. large-right ls k e f B h p P (choices ls k e f B P x y) t }

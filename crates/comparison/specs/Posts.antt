@@ -1,6 +1,6 @@
 -- What the functions of the comparison leave.
 use mathlib.Core.Path.{_≡_}
-use mathlib.Core.Bool.{Bool, false}
+use mathlib.Core.Bool.{Bool}
 use mathlib.Core.List.{List}
 use Prim.Native.Nat.{ℕ, _+_, _*_, _≤_, _<_}
 use lib.ListN.{length, take}
@@ -13,9 +13,6 @@ use Rattle.cells.specs.Cells.{Wf, At, Outside}
 use Rattle.cells.specs.Layout.{unitAt, sideUnit, scratchUnit}
 use Rattle.cells.specs.Results.{Result}
 use Rattle.reduction.specs.Book.{Book}
-use Rattle.reduction.specs.Heads.{HeadIs}
-use Rattle.comparison.specs.declared.Side.{Side}
-use Rattle.comparison.specs.declared.Progress.{Progress}
 
 -- ---- the comparison
 
@@ -82,44 +79,27 @@ pub record Chooses (kind line kind′ line′ side : ℕ) : Type 0 where
 -- ---- head steps in the sides
 
 -- From the sides e and f with the budget b, the procedure came to a state, with the budget b′ left and the store w′. 0: the
--- sides are identical. 1: no side has a head step. 10, 11: a refusal. Or the sides are others now, of which Now holds, and there
--- may be more steps.
-pub data Goes (ls : Lines) (limit k : ℕ) (w′ : List ℕ) (l r : ℕ) (e f : Expr) (b state b′ : ℕ) (Now : Expr → Expr → Type 0) : Type 0 where
-  identically : state ≡ 0 → ((deeper : Comparison) → sides ls limit deeper e f b ≡ done tt b′) → Goes ls limit k w′ l r e f b state b′ Now
+-- sides are identical. 1: no side has a head step. 2: steps were taken, and there may be more; n and m are the sizes now. Else
+-- a refusal.
+pub data Goes (ls : Lines) (limit k : ℕ) (w′ : List ℕ) (l r : ℕ) (e f : Expr) (b state n m b′ : ℕ) : Type 0 where
+  identically : state ≡ 0 → ((deeper : Comparison) → sides ls limit deeper e f b ≡ done tt b′) → Goes ls limit k w′ l r e f b state n m b′
   toParts : (e′ f′ : Expr) → state ≡ 1 → Pair ls limit k w′ l r e′ f′
-      → ((deeper : Comparison) → sides ls limit deeper e f b ≡ compareParts deeper e′ f′ b′) → Goes ls limit k w′ l r e f b state b′ Now
-  onward : (e′ f′ : Expr) → Pair ls limit k w′ l r e′ f′ → Now e′ f′
-      → ((deeper : Comparison) → sides ls limit deeper e f b ≡ sides ls limit deeper e′ f′ b′) → Goes ls limit k w′ l r e f b state b′ Now
-  tooFar : state ≡ 10 → ((deeper : Comparison) → sides ls limit deeper e f b ≡ stop tooLarge b′) → Goes ls limit k w′ l r e f b state b′ Now
-  spent : state ≡ 11 → ((deeper : Comparison) → sides ls limit deeper e f b ≡ stop outOfBudget b′) → Goes ls limit k w′ l r e f b state b′ Now
+      → ((deeper : Comparison) → sides ls limit deeper e f b ≡ compareParts deeper e′ f′ b′) → Goes ls limit k w′ l r e f b state n m b′
+  onward : (e′ f′ : Expr) → state ≡ 2 → Pair ls limit k w′ l r e′ f′ → n ≡ size e′ → m ≡ size f′
+      → ((deeper : Comparison) → sides ls limit deeper e f b ≡ sides ls limit deeper e′ f′ b′) → Goes ls limit k w′ l r e f b state n m b′
+  tooFar : state ≡ 10 → ((deeper : Comparison) → sides ls limit deeper e f b ≡ stop tooLarge b′) → Goes ls limit k w′ l r e f b state n m b′
+  spent : state ≡ 11 → ((deeper : Comparison) → sides ls limit deeper e f b ≡ stop outOfBudget b′) → Goes ls limit k w′ l r e f b state n m b′
 
--- the size and the head step of e, which lies at index `at`
-pub record SideIs (ls : Lines) (at : ℕ) (side : Side) (e : Expr) : Type 0 where
-  pub sizeIs : side .size ≡ size e
-  pub headIs : HeadIs ls at (side .head .kind) (side .head .at) (side .head .kept) (side .head .line) e
-
--- the sides are e and f, which differ
-pub record SidesAre (ls : Lines) (l r : ℕ) (p : Progress) (e f : Expr) : Type 0 where
-  pub between : p .state ≡ 2
-  pub leftIs : SideIs ls l (p .left) e
-  pub rightIs : SideIs ls r (p .right) f
-  pub differ : identical e f ≡ false
-
--- whatever lies there: the redex of either side lies behind the cells that are kept of it
-pub record Redexes (l r : ℕ) (p : Progress) : Type 0 where
-  pub inLeft : p .left .head .at ≡ l + p .left .head .kept
-  pub inRight : p .right .head .at ≡ r + p .right .head .kept
-
--- the sides at l and r, of which p held, after head steps: x
-pub record Proceeds (tb ts w : List ℕ) (limit l r : ℕ) (p : Progress) (w′ : List ℕ) (x : Progress) : Type 0 where
+-- the sides of n and m cells at l and r, after head steps
+pub record Proceeds (tb ts w : List ℕ) (limit budget l n r m : ℕ) (w′ : List ℕ) (state n′ m′ left : ℕ) : Type 0 where
   -- what lies below the left side is as it was
   pub frame : l ≤ r → l ≤ unitAt limit scratchUnit → Outside l (length w) w w′
-  pub redexes : Redexes l r x
   pub means : (ls : Lines) (k : ℕ) (e f : Expr) → Book ls limit tb ts → k ≤ 64 → Placed limit (length w) l r → Pair ls limit k w l r e f
-      → SidesAre ls l r p e f → Goes ls limit k w′ l r e f (p .budget) (x .state) (x .budget) (SidesAre ls l r x)
+      → n ≡ size e → m ≡ size f → Goes ls limit k w′ l r e f budget state n′ m′ left
 
 -- the expressions at a and b, put at l and r as the sides, after all head steps
 pub record Settles (tb ts w : List ℕ) (limit budget a b l r : ℕ) (w′ : List ℕ) (state left : ℕ) : Type 0 where
   pub frame : l ≤ r → l ≤ unitAt limit scratchUnit → Outside l (length w) w w′
+  pub ends : state ≡ 2 → ⊥
   pub means : (ls : Lines) (k : ℕ) (e f : Expr) → Book ls limit tb ts → k ≤ 64 → Placed limit (length w) l r → Pair ls limit k (take l w) a b e f
-      → Goes ls limit k w′ l r e f budget state left (λ _ _. ⊥)
+      → Goes ls limit k w′ l r e f budget state 0 0 left

@@ -4,14 +4,13 @@
 // copies upwards, and nothing at a lesser depth changes.
 ghost use mathlib.Core.Path.{_≡_};
 ghost use Prim.Native.Nat.{ℕ, _+_};
-ghost use Rattle.comparison.specs.Posts.{Compares, ComparesParts, SaysIdentical, SaysSame, Chooses, Redexes, Proceeds, Settles};
+ghost use Rattle.comparison.specs.Posts.{Compares, ComparesParts, SaysIdentical, SaysSame, Chooses, Proceeds, Settles};
 use cells::extent;
 use cells::kids;
 use cells::move_cells;
 use cells::same_cells;
 use cells::side_at;
 use cells::skip;
-use reduction::Head;
 use reduction::head_of;
 use reduction::step;
 
@@ -21,19 +20,13 @@ pub struct Compared {
     pub budget: u32,
 }
 
-// One side: its size, and the head step that it has.
-struct Side {
-    size: usize,
-    head: Head,
-}
-
-// Two sides between head steps. state 0: they are identical, 1: neither has a head step, 2: they differ, and one may have one;
-// else a refusal. The budget that is left.
+// Where the head steps of two sides ended: 0 they are identical, 1 no side has a head step, 2 a step was taken and there may be
+// more; else a refusal. The sizes of both sides, and the budget that is left.
 struct Progress {
     state: u32,
+    left: usize,
+    right: usize,
     budget: u32,
-    left: Side,
-    right: Side,
 }
 
 // Are the sides of n and m cells at l and r identical?
@@ -99,68 +92,83 @@ fn choose(kind: u32, line: usize, other_kind: u32, other_line: usize) -> u32
     2
 }
 
-// One head step in the sides at l and r, which differ, if one is next.
+// One head step in the sides of n and m cells at l and r, if one is next.
 fn turn(
     table: &[u32],
     store: &[u16],
     w: &mut [u16],
     limit: usize,
+    budget: u32,
     l: usize,
+    n: usize,
     r: usize,
-    sides: Progress,
+    m: usize,
 ) -> Progress
-    requires { ⌜ Redexes l r sides ⌝ }
-    ensures { λ x. ⌜ (x .state ≡ 2 → x .budget + 1 ≡ sides .budget) × Proceeds (now (table .entry)) (now (store .entry)) (now (w .entry)) limit l r sides (now (w .exit)) x ⌝ }
+    ensures { λ x. ⌜ (x .state ≡ 2 → x .budget + 1 ≡ budget) × Proceeds (now (table .entry)) (now (store .entry)) (now (w .entry)) limit budget l n r m (now (w .exit)) (x .state) (x .left) (x .right) (x .budget) ⌝ }
 {
-    let left = sides.left;
-    let right = sides.right;
-    let hl = left.head;
-    let hr = right.head;
-    let side = choose(hl.kind, hl.line, hr.kind, hr.line);
-    let mut after = sides;
-    if side == 0 {
-        after.state = 1;
-        return after;
+    if identical(w, l, n, r, m) {
+        return Progress {
+            state: 0,
+            left: n,
+            right: m,
+            budget: budget,
+        };
     }
-    let budget = sides.budget;
+    let hl = head_of(table, w, l, n);
+    let hr = head_of(table, w, r, m);
+    let side = choose(hl.kind, hl.line, hr.kind, hr.line);
+    if side == 0 {
+        return Progress {
+            state: 1,
+            left: n,
+            right: m,
+            budget: budget,
+        };
+    }
     if budget == 0 {
-        after.state = cells::OUT_OF_BUDGET;
-        return after;
+        return Progress {
+            state: cells::OUT_OF_BUDGET,
+            left: n,
+            right: m,
+            budget: budget,
+        };
     }
     if side == 1 {
-        let n = step(table, store, w, limit, hl);
-        if n > limit {
-            after.state = cells::TOO_LARGE;
-            return after;
+        let left = step(table, store, w, limit, hl);
+        if left > limit {
+            return Progress {
+                state: cells::TOO_LARGE,
+                left: n,
+                right: m,
+                budget: budget,
+            };
         }
-        after.budget = budget - 1;
-        if identical(w, l, n, r, right.size) {
-            after.state = 0;
-            return after;
-        }
-        let h = head_of(table, w, l, n);
-        let stepped = Side { size: n, head: h };
-        after.left = stepped;
-        return after;
+        return Progress {
+            state: 2,
+            left: left,
+            right: m,
+            budget: budget - 1,
+        };
     }
-    let m = step(table, store, w, limit, hr);
-    if m > limit {
-        after.state = cells::TOO_LARGE;
-        return after;
+    let right = step(table, store, w, limit, hr);
+    if right > limit {
+        return Progress {
+            state: cells::TOO_LARGE,
+            left: n,
+            right: m,
+            budget: budget,
+        };
     }
-    after.budget = budget - 1;
-    if identical(w, l, left.size, r, m) {
-        after.state = 0;
-        return after;
+    Progress {
+        state: 2,
+        left: n,
+        right: right,
+        budget: budget - 1,
     }
-    let h = head_of(table, w, r, m);
-    let stepped = Side { size: m, head: h };
-    after.right = stepped;
-    after
 }
 
 // The expressions at a and b, put at l and r as the sides unless they are identical; then head steps until the sides are
-// identical or neither has one, which is code 1 (sides, up to the parts). The head of a side that no step changed is kept.
+// identical or neither has one (sides, up to the parts). The budget falls.
 fn settle(
     table: &[u32],
     store: &[u16],
@@ -171,12 +179,14 @@ fn settle(
     b: usize,
     l: usize,
     r: usize,
-) -> Compared
-    ensures { λ x. ⌜ Settles (now (table .entry)) (now (store .entry)) (now (w .entry)) limit budget a b l r (now (w .exit)) (x .code) (x .budget) ⌝ }
+) -> Progress
+    ensures { λ x. ⌜ Settles (now (table .entry)) (now (store .entry)) (now (w .entry)) limit budget a b l r (now (w .exit)) (x .state) (x .budget) ⌝ }
 {
     if same_expression(table, w, a, b) {
-        return Compared {
-            code: 0,
+        return Progress {
+            state: 0,
+            left: 0,
+            right: 0,
             budget: budget,
         };
     }
@@ -184,25 +194,17 @@ fn settle(
     let m = extent(table, w, b);
     move_cells(w, a, l, n);
     move_cells(w, b, r, m);
-    let hl = head_of(table, w, l, n);
-    let hr = head_of(table, w, r, m);
-    let left = Side { size: n, head: hl };
-    let right = Side { size: m, head: hr };
-    let mut sides = Progress {
-        state: 2,
-        budget: budget,
-        left: left,
-        right: right,
-    };
+    let mut left = n;
+    let mut right = m;
+    let mut budget_left = budget;
     loop {
-        let after = turn(table, store, w, limit, l, r, sides);
-        if after.state != 2 {
-            return Compared {
-                code: after.state,
-                budget: after.budget,
-            };
+        let t = turn(table, store, w, limit, budget_left, l, left, r, right);
+        if t.state != 2 {
+            return t;
         }
-        sides = after;
+        left = t.left;
+        right = t.right;
+        budget_left = t.budget;
     }
 }
 
@@ -240,10 +242,13 @@ pub fn compare(
     let l = side_at(limit, levels);
     let r = l + limit;
     let s = settle(table, store, w, limit, budget, a, b, l, r);
-    if s.code == 1 {
+    if s.state == 1 {
         return compare_parts(table, store, w, limit, s.budget, l, r, levels - 1);
     }
-    s
+    Compared {
+        code: s.state,
+        budget: s.budget,
+    }
 }
 
 // The parts of the sides at l and r, from left to right, one level deeper (compareParts): 9 where the shapes differ.

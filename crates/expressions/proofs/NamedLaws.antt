@@ -16,9 +16,9 @@ use Rattle.symbols.specs.Symbols.{PastSymbol, NameAt}
 use Rattle.cells.specs.declared.scope.Scope.{Scope}
 use Rattle.cells.specs.Posts.{Nested}
 use Rattle.names.specs.Known.{boundNames}
-use Rattle.names.specs.Posts.{Meant, MeaningFound}
+use Rattle.names.specs.Posts.{BindingFound, Meant, MeaningFound}
 use Rattle.names.specs.declared.names.Meaning.{Meaning}
-use Rattle.names.proofs.PartLaws.{nested-names}
+use Rattle.names.proofs.PartLaws.{nested-names, bound-start, bound-nowhere}
 use Rattle.expressions.specs.declared.parts.Reading.{Reading}
 use Rattle.expressions.specs.Walk.{ReadTo, passed, CellPut, Written}
 use Rattle.expressions.specs.Posts.{Ready, Refusing, ExpressionRead, Counted, ArgumentsRead, NamePut, CountTested}
@@ -30,12 +30,12 @@ use Rattle.expressions.proofs.PairLaws.{goOn}
 
 -- ---- a name's cell
 
-module _ {s : Bytes} {scope : Scope} {book tb : List ℕ} {lines indicator : ℕ} {w : List ℕ} {to fault start len : ℕ} where
-  pub put-after-fault : {cell wanted : ℕ} → fault ≢ 0 → NamePut s scope book tb lines indicator w w to fault start len (record { fault = fault; cell = cell; wanted = wanted })
+module _ {s : Bytes} {b : ℕ} {book tb : List ℕ} {lines indicator : ℕ} {w : List ℕ} {to fault start len : ℕ} where
+  pub put-after-fault : {cell wanted : ℕ} → fault ≢ 0 → NamePut s b book tb lines indicator w w to fault start len (record { fault = fault; cell = cell; wanted = wanted })
   put-after-fault n =
       record { below = below-same to w; kept = λ n. refl; stored = λ z. absurd (n z); meant = λ z. absurd (n z) }
 
-  pub put-no-room : {code cell wanted : ℕ} → fault ≡ 0 → length w ≤ to → NamePut s scope book tb lines indicator w w to fault start len (record { fault = code; cell = cell; wanted = wanted })
+  pub put-no-room : {code cell wanted : ℕ} → fault ≡ 0 → length w ≤ to → NamePut s b book tb lines indicator w w to fault start len (record { fault = code; cell = cell; wanted = wanted })
   put-no-room z l =
       record {
         below = below-same to w;
@@ -45,16 +45,25 @@ module _ {s : Bytes} {scope : Scope} {book tb : List ℕ} {lines indicator : ℕ
       }
 
   pub put-meaning : {w′ word : List ℕ} {m : Meaning} → fault ≡ 0 → CellPut w w′ to (m .cell) → word ≡ slice start (start + len) s → start + len ≤ length s
-      → MeaningFound s scope book tb lines indicator w word (m .fault) (m .cell) (m .wanted) → NamePut s scope book tb lines indicator w w′ to fault start len m
+      → MeaningFound b book tb lines indicator w word (m .fault) (m .cell) (m .wanted) → NamePut s b book tb lines indicator w w′ to fault start len m
   put-meaning {m = m} z put e l h =
       record {
         below = below-put put;
         kept = λ n. absurd (n z);
         stored = λ z m. put;
-        meant = λ z r p q ls k hinted context i d.
+        meant = λ z r p q ls k hinted context i scope f d.
             subst (λ x. Meant ls (contextAt ls indicator) (m .fault) (m .cell) (m .wanted) (meaning ls (contextAt ls indicator) x (boundNames s scope))) e
-            (h .is ls k hinted context i d (omega (arith, ap length e, length-slice start (start + len) s l)));
+            (h .is ls k hinted context i s scope (subst (λ x. BindingFound s scope x b) (sym e) f) d (omega (arith, ap length e, length-slice start (start + len) s l)));
       }
+
+-- ---- its binding, asked for only where there is one
+
+module _ {s : Bytes} {scope : Scope} {b : ℕ} where
+  pub binding-of : {r : ℕ} {word part : Bytes} → b ≡ r → word ≡ part → BindingFound s scope word r → BindingFound s scope part b
+  binding-of {r} {word} {part} e q h = subst (λ n. BindingFound s scope part n) (sym e) (subst (λ x. BindingFound s scope x r) q h)
+
+  pub binding-none : {word : Bytes} → b ≡ 32 → scope .bound ≤ 0 → BindingFound s scope word b
+  binding-none {word} e z = subst (λ n. BindingFound s scope word n) (sym e) (bound-nowhere (bound-start (omega arith)) z)
 
 -- the argument string one level deeper, with the names that are bound around it
 level-arguments : {ks s book tb : List ℕ} {lines indicator : ℕ} {scope inner : Scope} {w w′ : List ℕ} {r r′ : Reading} → Nested scope inner → scope .depth < 32
@@ -81,7 +90,7 @@ module _ {ks s book tb : List ℕ} {lines indicator : ℕ} {scope : Scope} {w : 
         read = λ ls ready. then-stop _ (n .missing (ready .table) inside e) (h .codeIs ∙ sym code-malformed);
       }
 
-  module _ (e : len ≢ 0) {w₁ : List ℕ} {m : Meaning} (put : NamePut s scope book tb lines indicator w w₁ (r .to) (r .fault) start len m)
+  module _ (e : len ≢ 0) {b : ℕ} (found : BindingFound s scope (slice start (start + len) s) b) {w₁ : List ℕ} {m : Meaning} (put : NamePut s b book tb lines indicator w w₁ (r .to) (r .fault) start len m)
       {o : ℕ} (p : PastSymbol ks s (start + len) 8 o) where
     pub named-alone : {r′ : Reading} → length s < o → CountTested (goOn (start + len) (r .to + 1) (m .fault)) m r′
         → ExpressionRead (named (anExpression (31 - scope .depth))) ks s scope book tb lines indicator w w₁ r r′
@@ -100,7 +109,7 @@ module _ {ks s book tb : List ℕ} {lines indicator : ℕ} {scope : Scope} {w : 
               then-done _ (n .read (ready .table) inside e)
               (then-done _ (no-arguments (anExpression (31 - scope .depth)) (drop (start + len) s) (symbol-missing 40 p (symbol-kinds .3) (omega arith) i (ready .table)))
               (passed (h .code) (ap (λ i. drop i s) (h .at))
-              (name-written ls put (ready .known) (ready .hinted) (ready .context) (ready .earlier) (omega (arith, ready .sized .few)) (omega arith) (n .within inside) (below-same (r .to + 1) w₁) nil h refl refl
+              (name-written ls put (ready .known) (ready .hinted) (ready .context) (ready .earlier) found (omega (arith, ready .sized .few)) (omega arith) (n .within inside) (below-same (r .to + 1) w₁) nil h refl refl
               (no-arguments-written ls (contextAt ls indicator) (boundNames s scope) w₁ (r .to + 1) (m .fault)))));
         }
 
@@ -108,7 +117,7 @@ module _ {ks s book tb : List ℕ} {lines indicator : ℕ} {scope : Scope} {w : 
         → ArgumentsRead ks s inner book tb lines indicator w₁ wA (goOn o (r .to + 1) (m .fault)) a → CountTested a m r′
         → ExpressionRead (named (anExpression (31 - scope .depth))) ks s scope book tb lines indicator w wA r r′
     unfolding named
-    named-read {a = a} i b A h =
+    named-read {a = a} i inner A h =
         let from = p .from (n .within inside) in
         record {
           onward =
@@ -123,8 +132,8 @@ module _ {ks s book tb : List ℕ} {lines indicator : ℕ} {scope : Scope} {w : 
               then-done _ (n .read (ready .table) inside e)
               (then-give-on (name (slice start (start + len) s)) (h .code) (h .at)
               (read-is (some-arguments (anExpression (31 - scope .depth)) (drop (start + len) s) (symbol-read 40 p (symbol-kinds .3) (omega arith) i (ready .table)))
-              (level-arguments b l A ls (ready-on (put .below) (omega arith) ready) (length (drop (start + len) s)) (omega (arith, length-drop (start + len) s, from))))
+              (level-arguments inner l A ls (ready-on (put .below) (omega arith) ready) (length (drop (start + len) s)) (omega (arith, length-drop (start + len) s, from))))
               (λ xs z X.
-              name-written ls put (ready .known) (ready .hinted) (ready .context) (ready .earlier) (omega (arith, ready .sized .few)) (omega arith) (n .within inside) (A .onward .below) xs h z
+              name-written ls put (ready .known) (ready .hinted) (ready .context) (ready .earlier) found (omega (arith, ready .sized .few)) (omega arith) (n .within inside) (A .onward .below) xs h z
               (X .number ∙ omega arith) (X .written)));
         }

@@ -23,7 +23,7 @@ use Rattle.cells.specs.declared.scope.Scope.{Scope}
 use Rattle.names.specs.Known.{Known, boundNames}
 use Rattle.names.specs.Hints.{Hinted}
 use Rattle.names.specs.NotedContext.{ContextNoted}
-use Rattle.names.specs.Posts.{cellOf, Meant, means, meansNothing}
+use Rattle.names.specs.Posts.{cellOf, BindingFound, Meant, means, meansNothing}
 use Rattle.names.specs.declared.names.Meaning.{Meaning as MeaningOf}
 use Rattle.expressions.specs.declared.parts.Reading.{Reading}
 use Rattle.expressions.specs.Posts.{NamePut, CountTested}
@@ -176,15 +176,15 @@ module _ (ls : Lines) (context : List ℕ) (bs : List Bytes) where
     name-found (means {m} z c w) = tested m z c w _ refl
 
 -- the name, its arguments xs and the test of their count
-pub name-written : (ls : Lines) {s : Bytes} {scope : Scope} {book tb : List ℕ} {lines indicator : ℕ} {w w₁ wA : List ℕ} {to fault start len : ℕ} {m : MeaningOf}
-    → NamePut s scope book tb lines indicator w w₁ to fault start len m → Known ls book tb lines → Hinted book tb lines w
-    → ContextNoted ls indicator w → indicator ≤ lines → scope .bound ≤ 32
+pub name-written : (ls : Lines) {s : Bytes} {b : ℕ} {scope : Scope} {book tb : List ℕ} {lines indicator : ℕ} {w w₁ wA : List ℕ} {to fault start len : ℕ} {m : MeaningOf}
+    → NamePut s b book tb lines indicator w w₁ to fault start len m → Known ls book tb lines → Hinted book tb lines w
+    → ContextNoted ls indicator w → indicator ≤ lines → BindingFound s scope (slice start (start + len) s) b → scope .bound ≤ 32
     → 1 ≤ len → start + len ≤ length s → SameBelow (to + 1) w₁ wA → {a r : Reading} (xs : Srcs) → CountTested a m r → a .code ≡ 0
     → a .count ≡ countSrcs xs
     → Written cellsOfSrcs cellss (resolves ls (contextAt ls indicator) (boundNames s scope)) w₁ wA (to + 1) (a .to) (m .fault) (a .fault) xs
     → Written cellsOfSrc cells (resolve ls (contextAt ls indicator) (boundNames s scope)) w wA to (r .to) fault (r .fault) (name (slice start (start + len) s) xs)
 unfolding cellsOfSrc resolve
-name-written ls {s} {scope} {indicator = indicator} {w = w} {w₁} {wA} {to} {fault} {start} {len} put k hinted context i d l e sA {a} {r} xs tested z number A =
+name-written ls {s} {scope = scope} {indicator = indicator} {w = w} {w₁} {wA} {to} {fault} {start} {len} put k hinted context i h d l e sA {a} {r} xs tested z number A =
     let sizes : a .to ≡ to + 1 + cellsOfSrcs xs = A .size in
     record {
       size = omega (arith, tested .to, sizes);
@@ -198,5 +198,5 @@ name-written ls {s} {scope} {indicator = indicator} {w = w} {w₁} {wA} {to} {fa
           (name-found ls (contextAt ls indicator) (boundNames s scope) xs cell sA (omega (arith, sizes)) (omega (arith, tested .to)) number
           (A .kept) (λ q. A .names q (omega (arith, tested .to, below-put cell .long)))
           (tested .kept) (tested .right) (tested .wrong z)
-          (put .meant f here l e ls k hinted context i d));
+          (put .meant f here l e ls k hinted context i scope h d));
     }

@@ -16,7 +16,7 @@ use Rattle.cells.specs.declared.scope.Scope.{Scope}
 use Rattle.names.specs.Known.{Known, boundNames}
 use Rattle.names.specs.Hints.{slots, Hinted}
 use Rattle.names.specs.NotedContext.{ContextNoted}
-use Rattle.names.specs.Posts.{Meant}
+use Rattle.names.specs.Posts.{BindingFound, Meant}
 use Rattle.names.specs.declared.names.Meaning.{Meaning}
 use Rattle.expressions.specs.declared.parts.Reading.{Reading}
 use Rattle.expressions.specs.Walk.{ReadTo, SameBelow, CellPut, Written}
@@ -82,13 +82,14 @@ pub record ArgumentsRead (ks s : Bytes) (scope : Scope) (book tb : List ℕ) (li
       → ReadTo s (Counted ls s indicator scope w w′ (r .to) (r .fault) 0 r′) (r′ .code) (r′ .at)
       (arguments (anExpression (32 - scope .depth)) n (drop (r .at) s))
 
--- the cell of a name was written at `to`, unless there was a fault before or no room
-pub record NamePut (s : Bytes) (scope : Scope) (book tb : List ℕ) (lines indicator : ℕ) (w w′ : List ℕ) (to fault start len : ℕ) (m : Meaning) : Type 0 where
+-- the cell of a name, wherever b is its binding, was written at `to`, unless there was a fault before or no room
+pub record NamePut (s : Bytes) (b : ℕ) (book tb : List ℕ) (lines indicator : ℕ) (w w′ : List ℕ) (to fault start len : ℕ) (m : Meaning) : Type 0 where
   pub below : SameBelow to w w′
   pub kept : fault ≢ 0 → m .fault ≡ fault
   pub stored : fault ≡ 0 → to < length w → CellPut w w′ to (m .cell)
   pub meant : fault ≡ 0 → to < length w → 1 ≤ len → start + len ≤ length s
-      → (ls : Lines) → Known ls book tb lines → Hinted book tb lines w → ContextNoted ls indicator w → indicator ≤ lines → scope .bound ≤ 32
+      → (ls : Lines) → Known ls book tb lines → Hinted book tb lines w → ContextNoted ls indicator w → indicator ≤ lines
+      → (scope : Scope) → BindingFound s scope (slice start (start + len) s) b → scope .bound ≤ 32
       → Meant ls (contextAt ls indicator) (m .fault) (m .cell) (m .wanted)
       (meaning ls (contextAt ls indicator) (slice start (start + len) s) (boundNames s scope))
 

@@ -1,5 +1,4 @@
 // The parts of a walk over an expression that call no other: how far it came, a cell and a name's cell written, counts tested.
-use cells::Scope;
 use names::Meaning;
 use names::meaning_of;
 ghost use mathlib.Core.Path.{_≡_};
@@ -54,8 +53,8 @@ pub fn put(w: &mut [u16], to: usize, x: u16)
     }
 }
 
-// The meaning of the name of `len` bytes at `start`, by the hints and the context noted in w, with its cell at index `to` of w. It is not looked up
-// where a fault came before or there is no room, since it is not asked for then.
+// The meaning of the name of `len` bytes at `start` whose binding is b, by the hints and the context noted in w, with its cell at index `to` of w.
+// It is not looked up where a fault came before or there is no room, since it is not asked for then.
 pub fn put_name(
     line: &[u8],
     book: &[u8],
@@ -65,12 +64,12 @@ pub fn put_name(
     w: &mut [u16],
     to: usize,
     fault: u32,
-    scope: Scope,
+    b: usize,
     start: usize,
     len: usize,
 ) -> Meaning
     requires { ⌜ start + len ≤ length (now line) ⌝ }
-    ensures { λ m. ⌜ NamePut (now (line .entry)) scope (now (book .entry)) (now (table .entry)) lines indicator (now (w .entry)) (now (w .exit)) to fault start len m ⌝ }
+    ensures { λ m. ⌜ NamePut (now (line .entry)) b (now (book .entry)) (now (table .entry)) lines indicator (now (w .entry)) (now (w .exit)) to fault start len m ⌝ }
 {
     if fault != 0 {
         return Meaning {
@@ -87,16 +86,7 @@ pub fn put_name(
         };
     }
     let end = start + len;
-    let m = meaning_of(
-        line,
-        scope,
-        book,
-        table,
-        lines,
-        indicator,
-        w,
-        &line[start..end],
-    );
+    let m = meaning_of(b, book, table, lines, indicator, w, &line[start..end]);
     let cell = m.cell;
     w[to] = cell;
     m

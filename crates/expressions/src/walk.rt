@@ -8,6 +8,7 @@ use crate::parts::refused;
 use cells::Scope;
 use cells::bind;
 use cells::nest;
+use names::binding;
 use symbols::kind_at;
 use symbols::name_at;
 use symbols::spaces;
@@ -69,6 +70,12 @@ fn named(
     if len == 0 {
         return refused(cells::MALFORMED, r.at, r.to);
     }
+    let next = start + len;
+    // Only where a name is bound: each call copies the scope.
+    let mut b = 32;
+    if scope.bound > 0 {
+        b = binding(line, scope, &line[start..next]);
+    }
     let m = put_name(
         line,
         book,
@@ -78,12 +85,11 @@ fn named(
         w,
         r.to,
         r.fault,
-        scope,
+        b,
         start,
         len,
     );
     let fault = m.fault;
-    let next = start + len;
     let to = r.to + 1;
     let open = symbol(line, kinds, next, kinds::OPEN);
     if open > line.len() {

@@ -78,35 +78,35 @@ variable-line {v = v} k n l ek z =
     let (x, h) = lineAt k v (omega arith) l in
     ap (λ (y : Line). y .kind) (line-lineOf h) ∙ is-variable (x .kind) (sym (k .rows .row h .kindIs) ∙ sym ek ∙ z)
 
-module _ {s : Bytes} {scope : Scope} {book tb : List ℕ} {lines indicator : ℕ} {w : List ℕ} {word : Bytes} {b : ℕ} (hb : BindingFound s scope word b) where
-  pub means-bound : b < 32 → MeaningFound s scope book tb lines indicator w word 0 (8 * b + 2) 0
+module _ {b : ℕ} {book tb : List ℕ} {lines indicator : ℕ} {w : List ℕ} {word : Bytes} where
+  pub means-bound : b < 32 → MeaningFound b book tb lines indicator w word 0 (8 * b + 2) 0
   unfolding cellOf wanted
   means-bound l =
       record {
-        is = λ ls k g o i d p. subst (λ m. Meant ls (contextAt ls indicator) 0 (8 * b + 2) 0 m) (sym (meaning-bound ls _ word _ (hb .bound d p l))) (means refl refl refl);
+        is = λ ls k g o i s scope hb d p. subst (λ m. Meant ls (contextAt ls indicator) 0 (8 * b + 2) 0 m) (sym (meaning-bound ls _ word _ (hb .bound d p l))) (means refl refl refl);
       }
 
   module _ (l : 32 ≤ b) {v : ℕ} (hv : LineFound book tb lines w word v) where
-    pub means-nothing : v ≡ 0 → MeaningFound s scope book tb lines indicator w word 5 0 0
+    pub means-nothing : v ≡ 0 → MeaningFound b book tb lines indicator w word 5 0 0
     unfolding codeOf lineMeaning
     means-nothing e =
         record {
-          is = λ ls k g o i d p.
+          is = λ ls k g o i s scope hb d p.
               subst (λ m. Meant ls (contextAt ls indicator) 5 0 0 m)
               (sym (meaning-line ls _ word _ (hb .free d p l)
               ∙ ap (lineMeaning ls (contextAt ls indicator)) (option-none (numberOf word ls) (number-positive ls word) (sym e ∙ hv .is ls k g p))))
               (meansNothing refl);
         }
 
-    pub means-too-many : 8191 < v → MeaningFound s scope book tb lines indicator w word 5 0 0
-    means-too-many m = record { is = λ ls k g o i d p. absurd (omega (arith, k .few, hv .within)) }
+    pub means-too-many : 8191 < v → MeaningFound b book tb lines indicator w word 5 0 0
+    means-too-many m = record { is = λ ls k g o i s scope hb d p. absurd (omega (arith, k .few, hv .within)) }
 
     module _ (n : v ≢ 0) {kind : ℕ} (ek : kind ≡ rowCell tb v 4) where
-      pub means-constant : kind ≢ 0 → {count : ℕ} → count ≡ rowCell tb v 3 → MeaningFound s scope book tb lines indicator w word 0 (8 * v + 3) count
+      pub means-constant : kind ≢ 0 → {count : ℕ} → count ≡ rowCell tb v 3 → MeaningFound b book tb lines indicator w word 0 (8 * v + 3) count
       unfolding cellOf wanted
       means-constant z {count} ec =
           record {
-            is = λ ls k g o i d p.
+            is = λ ls k g o i s scope hb d p.
                 let (x, h) = lineAt k v (omega arith) (hv .within) in
                 let q = line-lineOf h in
                 subst (λ m. Meant ls (contextAt ls indicator) 0 (8 * v + 3) count m)
@@ -115,21 +115,21 @@ module _ {s : Bytes} {scope : Scope} {book tb : List ℕ} {lines indicator : ℕ
                 (means refl refl (ec ∙ k .rows .row h .contextIs ∙ ap (λ (y : Line). length (y .context)) (sym q)));
           }
 
-      pub means-variable : kind ≡ 0 → {t : Bool} → InContext tb w indicator v t → t ≡ true → MeaningFound s scope book tb lines indicator w word 0 (8 * v + 1) 0
+      pub means-variable : kind ≡ 0 → {t : Bool} → InContext tb w indicator v t → t ≡ true → MeaningFound b book tb lines indicator w word 0 (8 * v + 1) 0
       unfolding cellOf wanted
       means-variable z {t} c f =
           record {
-            is = λ ls k g o i d p.
+            is = λ ls k g o i s scope hb d p.
                 subst (λ m. Meant ls (contextAt ls indicator) 0 (8 * v + 1) 0 m)
                 (sym (by-line ls _ word _ (hb .free d p l) (hv .is ls k g p) n ∙ kind-variable ls _ v (variable-line k n (hv .within) ek z) (sym (c .is ls book lines k o i (omega arith)) ∙ f)))
                 (means refl refl refl);
           }
 
-      pub means-outside : kind ≡ 0 → {t : Bool} → InContext tb w indicator v t → t ≡ false → MeaningFound s scope book tb lines indicator w word 5 0 0
+      pub means-outside : kind ≡ 0 → {t : Bool} → InContext tb w indicator v t → t ≡ false → MeaningFound b book tb lines indicator w word 5 0 0
       unfolding codeOf
       means-outside z {t} c f =
           record {
-            is = λ ls k g o i d p.
+            is = λ ls k g o i s scope hb d p.
                 subst (λ m. Meant ls (contextAt ls indicator) 5 0 0 m)
                 (sym (by-line ls _ word _ (hb .free d p l) (hv .is ls k g p) n ∙ kind-outside ls _ v (variable-line k n (hv .within) ek z) (sym (c .is ls book lines k o i (omega arith)) ∙ f)))
                 (meansNothing refl);

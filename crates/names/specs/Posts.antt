@@ -67,10 +67,10 @@ pub data Meant (ls : Lines) (context : List ℕ) (fault cell count : ℕ) : Foun
   means : {m : Meaning} → fault ≡ 0 → cell ≡ cellOf m → count ≡ wanted ls context m → Meant ls context fault cell count (Found.found m)
   meansNothing : {r : Refusal} → fault ≡ codeOf r → Meant ls context fault cell count (Found.refused r)
 
--- the meaning of a word, with the indicator of its line
-pub record MeaningFound (s : Bytes) (scope : Scope) (book tb : List ℕ) (lines indicator : ℕ) (w : List ℕ) (word : Bytes) (fault cell count : ℕ) : Type 0 where
-  pub is : (ls : Lines) → Known ls book tb lines → Hinted book tb lines w → ContextNoted ls indicator w → indicator ≤ lines → scope .bound ≤ 32
-      → 1 ≤ length word
+-- the meaning of a word, with the indicator of its line, wherever b is its binding
+pub record MeaningFound (b : ℕ) (book tb : List ℕ) (lines indicator : ℕ) (w : List ℕ) (word : Bytes) (fault cell count : ℕ) : Type 0 where
+  pub is : (ls : Lines) → Known ls book tb lines → Hinted book tb lines w → ContextNoted ls indicator w → indicator ≤ lines
+      → (s : Bytes) (scope : Scope) → BindingFound s scope word b → scope .bound ≤ 32 → 1 ≤ length word
       → Meant ls (contextAt ls indicator) fault cell count (meaning ls (contextAt ls indicator) word (boundNames s scope))
 
 -- does the row of line v, of the first `lines`, point to the word?

@@ -6,6 +6,7 @@ mod names;
 pub use contexts::note_context;
 pub use hints::note;
 pub use names::Meaning;
+pub use names::binding;
 pub use names::find;
 pub use names::identifier;
 pub use names::meaning_of;

@@ -92,7 +92,7 @@ fn wide(x: u32) -> usize
 }
 
 // The number of bindings between a name and its innermost binding (placeFrom); 32: it is not bound.
-fn binding(line: &[u8], scope: Scope, word: &[u8]) -> usize
+pub fn binding(line: &[u8], scope: Scope, word: &[u8]) -> usize
     ensures { λ r. ⌜ BindingFound (now (line .entry)) scope (now (word .entry)) r ⌝ }
 {
     let bindings = scope.bound;
@@ -118,10 +118,9 @@ pub struct Meaning {
     pub wanted: usize,
 }
 
-// The meaning of a word (meaning): the innermost binding, else the earlier line; by the hints and the context noted in w.
+// The meaning of a word (meaning) with b as its binding: that, else the earlier line, by the hints and the context noted in w.
 pub fn meaning_of(
-    line: &[u8],
-    scope: Scope,
+    b: usize,
     book: &[u8],
     table: &[u32],
     lines: usize,
@@ -129,9 +128,8 @@ pub fn meaning_of(
     w: &[u16],
     word: &[u8],
 ) -> Meaning
-    ensures { λ r. ⌜ MeaningFound (now (line .entry)) scope (now (book .entry)) (now (table .entry)) lines indicator (now (w .entry)) (now (word .entry)) (r .fault) (r .cell) (r .wanted) ⌝ }
+    ensures { λ r. ⌜ MeaningFound b (now (book .entry)) (now (table .entry)) lines indicator (now (w .entry)) (now (word .entry)) (r .fault) (r .cell) (r .wanted) ⌝ }
 {
-    let b = binding(line, scope, word);
     if b < 32 {
         return Meaning {
             fault: 0,

@@ -11,75 +11,60 @@ use Rattle.cells.specs.Forests.{at-one, cells-one, size-is-length}
 use Rattle.cells.specs.Posts.{Skipped}
 use Rattle.terms.specs.Made.{startOf, StartedTo}
 use Rattle.terms.specs.Starts.{start-first, split, argument-formed, argument-lies, argument-within, start-next, started-none, started-more, started-past, started-less}
-use Rattle.terms.specs.declared.instances.Arguments.{Arguments}
 use Rattle.reduction.specs.Posts.{ArgumentsAtPost}
 
--- of the arguments at `at`, the first i are passed, and the next one starts at `next`
-pub record Listed (tb w : List ℕ) (at count : ℕ) (r : Arguments) (i next : ℕ) : Type 0 where
-  pub based : r .base ≡ at
-  pub counted : r .count ≡ count
-  pub long : length (r .starts) ≡ 64
+-- of the arguments at `at`, the first i are passed, and the next one starts at `next`; starts has become starts′
+pub record Listed (tb w : List ℕ) (at count : ℕ) (starts starts′ : List ℕ) (i next : ℕ) : Type 0 where
+  pub long : length starts′ ≡ length starts
   pub low : i ≤ 63
   pub few : i ≤ count
-  pub means : (xs : Exprs) {rest : List ℕ} → countExprs xs ≡ count → Wfs tb xs → At w at (cellss xs) rest → length (cellss xs) < 65536
-      → StartedTo i xs (r .starts) × (next ≡ at + startOf xs i)
+  pub means : length starts ≡ 64 → getD starts 0 0 ≡ 0 → (xs : Exprs) {rest : List ℕ} → countExprs xs ≡ count → Wfs tb xs → At w at (cellss xs) rest
+      → length (cellss xs) < 65536 → StartedTo i xs starts′ × (next ≡ at + startOf xs i)
 
-module _ {tb w : List ℕ} {at count : ℕ} where
-  pub listed-none : {r : Arguments} → r .base ≡ at → r .count ≡ count → length (r .starts) ≡ 64 → getD (r .starts) 0 0 ≡ 0 → Listed tb w at count r 0 at
-  listed-none b c n z = record {
-    based = b;
-    counted = c;
-    long = n;
+module _ {tb w : List ℕ} {at count : ℕ} {starts : List ℕ} where
+  pub listed-none : Listed tb w at count starts starts 0 at
+  listed-none = record {
+    long = refl;
     low = omega arith;
     few = omega arith;
-    means = λ xs n f a l. (started-none z, omega (arith, start-first xs));
+    means = λ m z xs n f a l. (started-none z, omega (arith, start-first xs));
   }
 
   -- the argument with number i lies at `next`
-  listed-next : {r : Arguments} {i next next′ : ℕ} → Listed tb w at count r i next → Skipped tb w next 1 next′ → i < count → (xs : Exprs) {rest : List ℕ}
+  listed-next : {starts′ : List ℕ} {i next next′ : ℕ} → Listed tb w at count starts starts′ i next → Skipped tb w next 1 next′ → i < count
+      → length starts ≡ 64 → getD starts 0 0 ≡ 0 → (xs : Exprs) {rest : List ℕ}
       → countExprs xs ≡ count → Wfs tb xs → At w at (cellss xs) rest → length (cellss xs) < 65536
       → (next′ ≡ at + startOf xs (i + 1)) × (at + startOf xs (i + 1) ≤ at + length (cellss xs))
   unfolding AllFormed countExprs
-  listed-next {i = i} {next} {next′} L S h xs {rest} n f a l =
+  listed-next {i = i} {next} {next′} L S h m z xs {rest} n f a l =
       let s = split xs i (omega arith) in
       let y = s .argument in
-      let p : At w next (cells y) (cellss (s .back) ++ rest) = rw (L .means xs n f a l .1) (argument-lies s a) in
+      let p : At w next (cells y) (cellss (s .back) ++ rest) = rw (L .means m z xs n f a l .1) (argument-lies s a) in
       let e : next′ ≡ next + length (cellss (cons y nil)) = S .ends (cons y nil) _ refl (argument-formed s tb f, tt) (at-one y p) in
-      let m : startOf xs (i + 1) ≡ startOf xs i + size y = ap (startOf xs) (add-one i) ∙ start-next xs i y (s .found) in
-      (omega (arith, L .means xs n f a l .1, ap length (cells-one y), size-is-length y), omega (arith, argument-within s))
+      let b : startOf xs (i + 1) ≡ startOf xs i + size y = ap (startOf xs) (add-one i) ∙ start-next xs i y (s .found) in
+      (omega (arith, L .means m z xs n f a l .1, ap length (cells-one y), size-is-length y), omega (arith, argument-within s))
 
-  pub listed-more : {r r′ : Arguments} {i next next′ : ℕ} → Listed tb w at count r i next → Skipped tb w next 1 next′ → i < 63 → i < count → r′ .base ≡ r .base → r′ .count ≡ r .count → r′ .starts ≡ set (r .starts) (i + 1) (next′ - at) → Listed tb w at count r′ (i + 1) next′
-  listed-more {r} {r′} {i} {next} {next′} L S h k b c s = record {
-    based = b ∙ L .based;
-    counted = c ∙ L .counted;
-    long = ap length s ∙ length-set (r .starts) (i + 1) (next′ - at) ∙ L .long;
+  pub listed-more : {starts′ : List ℕ} {i next next′ : ℕ} → Listed tb w at count starts starts′ i next → Skipped tb w next 1 next′ → i < 63 → i < count
+      → Listed tb w at count starts (set starts′ (i + 1) (next′ - at)) (i + 1) next′
+  listed-more {starts′} {i} {next} {next′} L S h k = record {
+    long = length-set starts′ (i + 1) (next′ - at) ∙ L .long;
     low = omega arith;
     few = omega arith;
-    means = λ xs n f a l.
-        let N = listed-next L S k xs n f a l in
-        (rw s (started-more (L .means xs n f a l .0) (omega (arith, L .long)) (omega (arith, N .0))), N .0);
+    means = λ m z xs n f a l.
+        let N = listed-next L S k m z xs n f a l in
+        (started-more (L .means m z xs n f a l .0) (omega (arith, L .long)) (omega (arith, N .0)), N .0);
   }
 
   -- it ends before it starts, or too far on: that is not met
-  pub listed-wrong : {r : Arguments} {i next next′ : ℕ} → Listed tb w at count r i next → Skipped tb w next 1 next′ → i < count → (at ≤ next′ → 65535 < next′ - at)
-      → ArgumentsAtPost tb w at count r
+  pub listed-wrong : {starts′ : List ℕ} {i next next′ : ℕ} → Listed tb w at count starts starts′ i next → Skipped tb w next 1 next′ → i < count
+      → (at ≤ next′ → 65535 < next′ - at) → ArgumentsAtPost tb w at count starts starts′
   listed-wrong L S k h = record {
-    based = L .based;
-    counted = L .counted;
-    started = λ xs n f a l. let N = listed-next L S k xs n f a l in absurd (omega (arith, h (omega (arith, N .0)), N .0, N .1));
+    started = λ m z xs n f a l. let N = listed-next L S k m z xs n f a l in absurd (omega (arith, h (omega (arith, N .0)), N .0, N .1));
   }
 
   -- all are passed, or as many as there are places for
-  pub listed-all : {r : Arguments} {i next : ℕ} → Listed tb w at count r i next → count ≤ i → ArgumentsAtPost tb w at count r
-  listed-all {r} {i} L h = record {
-    based = L .based;
-    counted = L .counted;
-    started = λ xs n f a l. started-less (L .means xs n f a l .0) (omega arith);
-  }
+  pub listed-all : {starts′ : List ℕ} {i next : ℕ} → Listed tb w at count starts starts′ i next → count ≤ i → ArgumentsAtPost tb w at count starts starts′
+  listed-all {i = i} L h = record { started = λ m z xs n f a l. started-less (L .means m z xs n f a l .0) (omega arith) }
 
-  pub listed-full : {r : Arguments} {i next : ℕ} → Listed tb w at count r i next → 63 ≤ i → ArgumentsAtPost tb w at count r
-  listed-full L h = record {
-    based = L .based;
-    counted = L .counted;
-    started = λ xs n f a l. started-past (L .means xs n f a l .0) h;
-  }
+  pub listed-full : {starts′ : List ℕ} {i next : ℕ} → Listed tb w at count starts starts′ i next → 63 ≤ i → ArgumentsAtPost tb w at count starts starts′
+  listed-full L h = record { started = λ m z xs n f a l. started-past (L .means m z xs n f a l .0) h }

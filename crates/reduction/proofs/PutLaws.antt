@@ -4,7 +4,7 @@ use mathlib.Core.Logic.{inl, inr}
 use mathlib.Core.List.{List, _∷_, _++_}
 use Prim.Native.Nat.{ℕ, _+_, _-_, _*_, _≤_, _<_}
 use native.Mathlib.Omega.{arith}
-use lib.ListN.{length, take, drop, length-append}
+use lib.ListN.{length, getD, drop, length-append}
 use lib.Seq.{sets, take-all}
 use Rattle.aut68.specs.Expr.{Expr, const, app, abs, nil, cons, size, cells, cellss, countExprs}
 use Rattle.aut68.specs.Substitution.{instantiate}
@@ -21,7 +21,6 @@ use Rattle.cells.specs.Layout.{unitAt, scratchUnit, resultUnit, unit-below, uni
 use Rattle.cells.specs.Posts.{Skipped}
 use Rattle.cells.specs.Stores.{outside-same, outside-more, at-sets, at-before}
 use Rattle.terms.specs.Made.{noRoom, Made, Confined, SubstitutePost, InstantiatePost}
-use Rattle.terms.specs.declared.instances.Arguments.{Arguments}
 use Rattle.reduction.specs.Book.{Book, right-count, all-known-wf}
 use Rattle.reduction.specs.Depths.{instantiated-below}
 use Rattle.reduction.specs.Frames.{Quiet, Lies, framed-same, framed-then, outside-quiet}
@@ -132,11 +131,11 @@ unfolded-none {v = v} h = record {
   made = λ l m B k xs i g W z a b s. absurd (omega (arith, at-inside (const v xs) a, cells-long (const v xs)));
 }
 
-pub unfolded-law : {tb ts w w′ : List ℕ} {limit at v room r from count result : ℕ} (args : Arguments) → limit ≤ 4096 → from ≡ rowCell tb v 5 → count ≡ rowCell tb v 3
-    → ArgumentsAtPost tb w (at + 1) count args → result ≡ unitAt limit resultUnit
-    → InstantiatePost tb ts w w′ from (args .base) (args .count) (args .starts) result room r → UnfoldedPost tb ts w w′ limit at v room r
+pub unfolded-law : {tb ts w w′ : List ℕ} {limit at v room r from count result : ℕ} {starts starts′ : List ℕ} → limit ≤ 4096 → from ≡ rowCell tb v 5 → count ≡ rowCell tb v 3
+    → length starts ≡ 64 → getD starts 0 0 ≡ 0 → ArgumentsAtPost tb w (at + 1) count starts starts′ → result ≡ unitAt limit resultUnit
+    → InstantiatePost tb ts w w′ from (at + 1) count starts′ result room r → UnfoldedPost tb ts w w′ limit at v room r
 unfolding cells size Scoped kindCells left
-unfolded-law {tb} {ts} {w} {limit = limit} {at} {v} {count = count} {result} args small ef ec A t I = record {
+unfolded-law {tb} {ts} {w} {limit = limit} {at} {v} {count = count} {result} small ef ec places first A t I = record {
   prepared = prepared-by framed-same t (I .confined);
   made = λ h d {ls} B k xs {l} {m} {rest} j g W z a b s.
       let S = B .stored .cellsOf j in
@@ -152,10 +151,10 @@ unfolded-law {tb} {ts} {w} {limit = limit} {at} {v} {count = count} {result} arg
       (I .made (l .context) xs m _ (omega arith) (middle-numbered B j xs m g)
       (record {
         formed = f;
-        counted = n ∙ sym (A .counted);
-        started = A .started xs n f p (omega (arith, sizes-is-length xs));
+        counted = n;
+        started = A .started places first xs n f p (omega (arith, sizes-is-length xs));
         rest = _;
-        lies = subst (λ (i : ℕ). At (take result w) i (cellss xs) (drop (at + 1 + length (cellss xs)) (take result w))) (sym (A .based)) (at-before {n = result} (omega (arith, sizes-is-length xs)) p);
+        lies = at-before {n = result} (omega (arith, sizes-is-length xs)) p;
       })
       (subst (λ (i : ℕ). At ts i (cells m) (S .afterMiddle)) (sym ef) (subst (λ (c : List ℕ). At ts (rowCell tb v 5) c (S .afterMiddle)) e (S .middleAt)))
       (instantiated-below ls (B .few) k (l .context) xs m known z (omega arith) (omega (arith, size-is-length m))));

@@ -19,7 +19,6 @@ use Rattle.cells.specs.Layout.{unitAt, scratchUnit, resultUnit}
 use Rattle.cells.specs.Posts.{Skipped}
 use Rattle.cells.specs.Results.{Result}
 use Rattle.terms.specs.Made.{noRoom, Started}
-use Rattle.terms.specs.declared.instances.Arguments.{Arguments}
 use Rattle.reduction.specs.Book.{Book}
 use Rattle.reduction.specs.Frames.{Framed, Quiet, Lies}
 use Rattle.reduction.specs.Heads.{HeadIs, applied, front}
@@ -55,11 +54,10 @@ pub record Prepared (limit room r : ℕ) (w w′ : List ℕ) : Type 0 where
   pub quiet : Quiet (unitAt limit scratchUnit) w w′
   pub answers : (r ≤ room) ⊎ (r ≡ noRoom)
 
--- the `count` arguments that lie from index `at` of w on
-pub record ArgumentsAtPost (tb w : List ℕ) (at count : ℕ) (r : Arguments) : Type 0 where
-  pub based : r .base ≡ at
-  pub counted : r .count ≡ count
-  pub started : (xs : Exprs) {rest : List ℕ} → countExprs xs ≡ count → Wfs tb xs → At w at (cellss xs) rest → length (cellss xs) < 65536 → Started xs (r .starts)
+-- where the `count` arguments that lie from index `at` of w on start is entered in `starts`, whose first place has 0
+pub record ArgumentsAtPost (tb w : List ℕ) (at count : ℕ) (starts starts′ : List ℕ) : Type 0 where
+  pub started : length starts ≡ 64 → getD starts 0 0 ≡ 0 → (xs : Exprs) {rest : List ℕ} → countExprs xs ≡ count → Wfs tb xs → At w at (cellss xs) rest
+      → length (cellss xs) < 65536 → Started xs starts′
 
 -- <A>[x,P]T at index `at`
 pub record ContractedPost (tb w w′ : List ℕ) (limit at room r : ℕ) : Type 0 where

@@ -8,37 +8,31 @@ use cells::load;
 use cells::move_cells;
 use cells::result_at;
 use cells::skip;
-use terms::Arguments;
 use terms::NO_ROOM;
 use terms::instantiate;
 use terms::substitute;
 
-// The `count` arguments that lie from `at` on in w, and where each starts.
-fn arguments_at(table: &[u32], w: &[u16], at: usize, count: usize) -> Arguments
-    ensures { λ r. ⌜ ArgumentsAtPost (now (table .entry)) (now (w .entry)) at count r ⌝ }
+// Where each of the `count` arguments that lie from `at` on in w starts, counted from there, and where the last one ends: as far as
+// there are places for it. The first place is not written: it has 0.
+fn arguments_at(table: &[u32], w: &[u16], at: usize, count: usize, starts: &mut [u16; 64])
+    ensures { λ _. ⌜ ArgumentsAtPost (now (table .entry)) (now (w .entry)) at count (now (starts .entry)) (now (starts .exit)) ⌝ }
 {
-    let mut args = Arguments {
-        base: at,
-        count: count,
-        starts: [0; 64],
-    };
     let mut i = 0;
     let mut next = at;
     while i < 63 {
         if i >= count {
-            return args;
+            return;
         }
         next = skip(table, w, next, 1);
         if next < at {
-            return args;
+            return;
         }
         if next - at > 65535 {
-            return args;
+            return;
         }
         i = i + 1;
-        args.starts[i] = (next - at) as u16;
+        starts[i] = (next - at) as u16;
     }
-    args
 }
 
 // <A>[x,P]T at index `at` of w becomes T with A for x, in the result unit, in at most `room` cells. Returns its size.
@@ -78,9 +72,10 @@ fn unfolded(
     }
     let from = field(table, v, 5);
     let count = field(table, v, 3);
-    let args = arguments_at(table, w, at + 1, count);
+    let mut starts = [0; 64];
+    arguments_at(table, w, at + 1, count, &mut starts);
     let result = result_at(limit);
-    instantiate(table, store, from, w, args, result, room)
+    instantiate(table, store, from, w, at + 1, count, &starts, result, room)
 }
 
 // The redex of h, contracted or unfolded, in the result unit.

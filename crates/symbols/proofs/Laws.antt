@@ -1,20 +1,20 @@
 -- Reading one byte more of a line.
-use mathlib.Core.Path.{_≡_, refl, sym, ap, ap₂, _∙_}
+use mathlib.Core.Path.{_≡_, refl, sym, ap, ap₂, _∙_, subst}
 use mathlib.Core.Logic.{_≢_}
 use mathlib.Core.Bool.{Bool, true, false, not, _&&_}
 use mathlib.Core.List.{[], _∷_, _++_, append-assoc, append-nil}
-use Prim.Native.Nat.{ℕ, zero, suc, _+_, _-_, _≤_, _<_}
+use Prim.Native.Nat.{ℕ, zero, suc, _+_, _-_, _*_, _≤_, _<_}
 use native.Mathlib.Numerals.{add-one}
 use native.Mathlib.Omega.{arith}
 use lib.Dec.{eqb, leb}
 use lib.ListN.{length, getD, take, drop, drop-of-length-le}
 use lib.Seq.{drop-cons, take-suc, drop-append-le, slice, slice-empty, length-slice, length-take-le, take-nil}
-use borrow.Author.Tests.{eq-eqb, ne-eqb, le-leb, lt-leb}
+use borrow.Author.Tests.{eq-eqb, ne-eqb, eqb-true, eqb-false, le-leb, lt-leb}
 use Rattle.aut68.specs.Bytes.{Bytes, nameByte, sameBytes, reserved, wordType, wordPN, wordEB}
 use Rattle.aut68.specs.Procedure.Answer.{done, stop, malformed}
 use Rattle.aut68.specs.Procedure.Parse.{spaces, byte, symbol, wordOf, afterWord, wordAhead, nameFits, aName}
 use Rattle.kinds.specs.Kinds.{KindsTable, kindOf, name-of-kind, kind-of-name, one-of-kind}
-use Rattle.symbols.specs.Symbols.{firstKind, PastSpaces, KindAt, PastSymbol, WordEnd, NameAt}
+use Rattle.symbols.specs.Symbols.{firstKind, PastSpaces, KindAt, PastSymbol, WordEnd, fourAt, NameAt}
 
 pub step : (s : Bytes) (i : ℕ) → i < length s → drop i s ≡ getD s i 0 ∷ drop (i + 1) s
 step s i l = rw (add-one, drop-cons s i 0)
@@ -251,6 +251,10 @@ nil-same : sameBytes [] [] ≡ true
 unfolding sameBytes
 nil-same = refl
 
+digits : {x₀ x₁ x₂ x₃ y₀ y₁ y₂ y₃ : ℕ} → x₀ < 256 → x₁ < 256 → x₂ < 256 → x₃ < 256 → y₀ < 256 → y₁ < 256 → y₂ < 256 → y₃ < 256
+    → x₀ + 256 * x₁ + 65536 * x₂ + 16777216 * x₃ ≡ y₀ + 256 * y₁ + 65536 * y₂ + 16777216 * y₃ → (x₀ ≡ y₀) × (x₁ ≡ y₁) × (x₂ ≡ y₂) × (x₃ ≡ y₃)
+digits a b c d e f g h q = (omega arith, omega arith, omega arith, omega arith)
+
 -- the bytes below i are the same
 pub record SameSoFar (a b : Bytes) (i : ℕ) : Type 0 where
   pub lengths : length a ≡ length b
@@ -279,6 +283,36 @@ module _ {a b : Bytes} {i : ℕ} (h : SameSoFar a b i) where
   same-last l =
       let m : length b ≤ i = omega (arith, h .lengths) in
       h .rest ∙ ap₂ sameBytes (ended a i l) (ended b i m) ∙ nil-same
+
+-- four bytes at once: those of equal numbers are equal
+module _ {a b : Bytes} where
+  same-next : {i j : ℕ} → SameSoFar a b i → j ≡ i + 1 → i < length a → getD a i 0 ≡ getD b i 0 → SameSoFar a b j
+  same-next h q l e = subst (SameSoFar a b) (sym q) (same-more h l e)
+
+  same-unless : {i : ℕ} → SameSoFar a b i → i < length a → (getD a i 0 ≡ getD b i 0 → sameBytes a b ≡ false) → sameBytes a b ≡ false
+  same-unless {i} h l f = split (eqb (getD a i 0) (getD b i 0)) refl
+    where
+      split : (t : Bool) → eqb (getD a i 0) (getD b i 0) ≡ t → sameBytes a b ≡ false
+      split true q = f (eqb-true _ _ q)
+      split false q = same-stop h l (eqb-false _ _ q)
+
+  module _ {i : ℕ} (h : SameSoFar a b i) (l : i + 4 ≤ length a) where
+    pub same-four-more : ((j : ℕ) → getD a j 0 < 256) → ((j : ℕ) → getD b j 0 < 256) → fourAt a i ≡ fourAt b i → SameSoFar a b (i + 4)
+    unfolding fourAt
+    same-four-more p q e =
+        let (e₀, e₁, e₂, e₃) = digits (p i) (p (i + 1)) (p (i + 2)) (p (i + 3)) (q i) (q (i + 1)) (q (i + 2)) (q (i + 3)) e in
+        same-next (same-next (same-next (same-next h refl (omega arith) e₀) (omega arith) (omega arith) e₁) (omega arith) (omega arith) e₂) (omega arith) (omega arith) e₃
+
+    pub same-four-stop : fourAt a i ≢ fourAt b i → sameBytes a b ≡ false
+    unfolding fourAt
+    same-four-stop n =
+        same-unless h (omega arith) λ e₀.
+        let h₁ : SameSoFar a b (i + 1) = same-next h refl (omega arith) e₀ in
+        same-unless h₁ (omega arith) λ e₁.
+        let h₂ : SameSoFar a b (i + 2) = same-next h₁ (omega arith) (omega arith) e₁ in
+        same-unless h₂ (omega arith) λ e₂.
+        let h₃ : SameSoFar a b (i + 3) = same-next h₂ (omega arith) (omega arith) e₂ in
+        same-unless h₃ (omega arith) λ e₃. absurd (n (omega arith))
 
 pub lengths-differ : (a b : Bytes) → length a ≢ length b → sameBytes a b ≡ false
 unfolding sameBytes

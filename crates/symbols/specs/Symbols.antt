@@ -2,8 +2,8 @@
 use mathlib.Core.Path.{_≡_}
 use mathlib.Core.Logic.{_≢_}
 use mathlib.Core.List.{[], _∷_}
-use Prim.Native.Nat.{ℕ, _+_, _≤_, _<_}
-use lib.ListN.{length, drop}
+use Prim.Native.Nat.{ℕ, _+_, _*_, _≤_, _<_}
+use lib.ListN.{length, getD, drop}
 use lib.Seq.{slice}
 use Rattle.aut68.specs.Bytes.{Bytes}
 use Rattle.aut68.specs.Procedure.Answer.{done, stop, malformed}
@@ -39,6 +39,10 @@ pub record WordEnd (ks s : Bytes) (at r : ℕ) : Type 0 where
   pub within : at ≤ length s → r ≤ length s
   pub word : KindsTable ks → at ≤ length s → slice at r s ≡ wordOf (drop at s)
   pub rest : KindsTable ks → drop r s ≡ afterWord (drop at s)
+
+-- the four bytes of s from i on, as a number
+unfoldable pub fourAt : Bytes → ℕ → ℕ
+fourAt s i = getD s i 0 + 256 * getD s (i + 1) 0 + 65536 * getD s (i + 2) 0 + 16777216 * getD s (i + 3) 0
 
 -- the name that stands next: its place and its length, 0 where none does
 pub record NameAt (ks s : Bytes) (at start len : ℕ) : Type 0 where

@@ -1,7 +1,9 @@
 // Symbols and words: what stands at a place of a line. specs/Symbols has the contracts.
 ghost use mathlib.Core.Path.{_≡_};
+ghost use Prim.Native.Nat.{_+_, _≤_};
+ghost use lib.ListN.{length};
 ghost use Rattle.aut68.specs.Bytes.{sameBytes, reserved};
-ghost use Rattle.symbols.specs.Symbols.{PastSpaces, KindAt, PastSymbol, WordEnd, NameAt};
+ghost use Rattle.symbols.specs.Symbols.{PastSpaces, KindAt, PastSymbol, WordEnd, fourAt, NameAt};
 
 // The first byte from `at` on that is no space; the line's length where there is none (spaces).
 pub fn spaces(line: &[u8], at: usize) -> usize
@@ -57,7 +59,19 @@ pub fn word_end(line: &[u8], kinds: &[u8; 256], at: usize) -> usize
     i
 }
 
-// Are the bytes of a and b the same (sameBytes)?
+// The four bytes of s from i on, as a number (fourAt).
+fn four(s: &[u8], i: usize) -> u32
+    requires { ⌜ i + 4 ≤ length (now s) ⌝ }
+    ensures { λ r. ⌜ r ≡ fourAt (now (s .entry)) i ⌝ }
+{
+    let a = s[i] as u32;
+    let b = s[i + 1] as u32;
+    let c = s[i + 2] as u32;
+    let d = s[i + 3] as u32;
+    a + 256 * b + 65536 * c + 16777216 * d
+}
+
+// Are the bytes of a and b the same (sameBytes)? Four at once while four are left.
 pub fn same_bytes(a: &[u8], b: &[u8]) -> bool
     ensures { λ r. ⌜ r ≡ sameBytes (now (a .entry)) (now (b .entry)) ⌝ }
 {
@@ -66,10 +80,17 @@ pub fn same_bytes(a: &[u8], b: &[u8]) -> bool
     }
     let mut i = 0;
     while i < a.len() {
-        if a[i] != b[i] {
-            return false;
+        if a.len() - i >= 4 {
+            if four(a, i) != four(b, i) {
+                return false;
+            }
+            i = i + 4;
+        } else {
+            if a[i] != b[i] {
+                return false;
+            }
+            i = i + 1;
         }
-        i = i + 1;
     }
     true
 }

@@ -100,26 +100,25 @@ module _ (tb : List ℕ) (x count : ℕ) (starts : List ℕ) where
   pub run-unknown : RunPost tb x count starts 0 18446744073709551615
   run-unknown = record { short = omega arith; itself = λ z. absurd (omega arith); argument = λ l m. absurd (omega arith) }
 
-  pub run-argument : (i : ℕ) → x % 8 ≡ 1 → i ≡ rowCell tb (x / 8) 3 → i < count → i < 63 → getD starts i 0 < 65536 → getD starts i 0 < getD starts (i + 1) 0
-      → RunPost tb x count starts (getD starts i 0) (getD starts (i + 1) 0 - getD starts i 0)
-  run-argument i is1 n l k s p = record {
+  pub run-argument : (i : ℕ) {first next : ℕ} → x % 8 ≡ 1 → i ≡ rowCell tb (x / 8) 3 → i < count → i < 63 → first ≡ getD starts i 0 → next ≡ getD starts (i + 1) 0
+      → first < 65536 → first < next → RunPost tb x count starts first (next - first)
+  run-argument i {first} {next} is1 n l k a b s p = record {
     short = s;
     itself = λ z. absurd (omega arith);
     argument = λ _ _ vs xs c S e q f.
         let r = split xs i (omega (arith, c)) in
-        put vs xs e q f r (S .place i (omega (arith, c)) (omega arith))
-        (S .place (i + 1) (omega (arith, c)) (omega arith) ∙ ap (startOf xs) (add-one i) ∙ start-next xs i (r .argument) (r .found));
+        put vs xs e q f r (a ∙ S .place i (omega (arith, c)) (omega arith))
+        (b ∙ S .place (i + 1) (omega (arith, c)) (omega arith) ∙ ap (startOf xs) (add-one i) ∙ start-next xs i (r .argument) (r .found));
   }
     where
-      put : (vs : List ℕ) (xs : Exprs) (e : Expr) → firstCell e ≡ x → Fit tb (instantiating vs xs) e → (r : Split xs i) → getD starts i 0 ≡ startOf xs i
-          → getD starts (i + 1) 0 ≡ startOf xs i + size (r .argument)
-          → (parts e ≡ nil) × (getD starts i 0 + (getD starts (i + 1) 0 - getD starts i 0) ≤ length (cellss xs))
-          × (cells (instantiate vs xs 0 e) ≡ take (getD starts (i + 1) 0 - getD starts i 0) (drop (getD starts i 0) (cellss xs)))
-      put vs xs e q f r first next =
-          let len : getD starts (i + 1) 0 - getD starts i 0 ≡ size (r .argument) = omega arith in (
+      put : (vs : List ℕ) (xs : Exprs) (e : Expr) → firstCell e ≡ x → Fit tb (instantiating vs xs) e → (r : Split xs i) → first ≡ startOf xs i
+          → next ≡ startOf xs i + size (r .argument)
+          → (parts e ≡ nil) × (first + (next - first) ≤ length (cellss xs)) × (cells (instantiate vs xs 0 e) ≡ take (next - first) (drop first (cellss xs)))
+      put vs xs e q f r starts-at ends-at =
+          let len : next - first ≡ size (r .argument) = omega arith in (
             variable-parts x is1 e q,
             omega (arith, argument-within r),
             ap cells (argument-put tb 0 x vs xs is1 (sym n) r e q f ∙ lift-0-0 (r .argument))
                 ∙ sym (argument-taken r)
-                ∙ ap₂ (λ (k j : ℕ). take k (drop j (cellss xs))) (sym len) (sym first),
+                ∙ ap₂ (λ (k j : ℕ). take k (drop j (cellss xs))) (sym len) (sym starts-at),
           )

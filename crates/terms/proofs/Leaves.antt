@@ -191,18 +191,18 @@ module _ (tb s : List ℕ) (base count : ℕ) (starts : List ℕ) (cut x : ℕ) 
   variable-itself is1 l (instantiates-all {vs} {xs} A) e xe f = no-argument-cells tb cut x vs xs is1 (rw (A .counted) l) e xe f
 
 -- the argument with the number of the context length on the variable's row, moved under the bindings between
-pub variable-argument : (tb : List ℕ) (end base count : ℕ) (starts : List ℕ) (cut x : ℕ) {top : ℕ} {w w′ : List ℕ} {v from to i at : ℕ} → x % 8 ≡ 1
-    → v ≡ rowCell tb (x / 8) 3 → v < count → StartPost tb w base count starts v from
+pub variable-argument : (tb : List ℕ) (end base count : ℕ) (starts : List ℕ) (cut x : ℕ) {top : ℕ} {w w′ : List ℕ} {number from to i at : ℕ} → x % 8 ≡ 1
+    → number ≡ rowCell tb (x / 8) 3 → number < count → StartPost tb w base count starts number from
     → GraftPost top (Raises cut) tb (take end w) (take end w) w w′ from 1 to 0 i at → LeafPost top (Instantiates tb base count starts (take end w)) tb w w′ x to cut at
 unfolding graft
-variable-argument tb end base count starts cut x {top} {w} {w′} {v} {from} {to} {i} {at} is1 row l S G =
+variable-argument tb end base count starts cut x {top} {w} {w′} {number} {from} {to} {i} {at} is1 n l S G =
     record { ahead = G .ahead; kept = G .kept; means = λ k q e xe f b. go q e xe f b }
   where
     go : {k : Choice} → Instantiates tb base count starts (take end w) k → (e : Expr) → firstCell e ≡ x → Fit tb k e → Below top (cells (graft k cut e))
         → Written w w′ to at (cells (graft k cut e))
     go (instantiates-all {vs} {xs} A) e xe f b =
-        let r = split xs v (rw (A .counted) l) in
-        let q : from ≡ base + startOf xs v = S .is xs (arguments-whole end (omega arith) A) l in
-        let m : instantiate vs xs cut e ≡ lift cut 0 (r .argument) = argument-put tb cut x vs xs is1 (sym row) r e xe f in
+        let r = split xs number (rw (A .counted) l) in
+        let q : from ≡ base + startOf xs number = S .is xs (arguments-whole end (omega arith) A) l in
+        let m : instantiate vs xs cut e ≡ lift cut 0 (r .argument) = argument-put tb cut x vs xs is1 (sym n) r e xe f in
         let p : At (take end w) from (cells (r .argument)) (cellss (r .back) ++ A .rest) = rw q (argument-lies r (A .lies)) in
         rw m (lifted (r .argument) _ G (argument-formed r tb (A .formed)) p (rw m at b))

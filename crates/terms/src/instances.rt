@@ -1,6 +1,10 @@
 // Instantiation: an expression of the term store with arguments in the working store put in for its context variables.
-ghost use Prim.Native.Nat.{_%_, _<_, _≤_};
-ghost use lib.ListN.{length, take};
+//
+// The arguments: `count` expressions that lie one after the other from `base` on in the working store. starts: where each starts,
+// counted from there, and where the last one ends; for the first 64 of these places.
+ghost use mathlib.Core.Path.{_≡_};
+ghost use Prim.Native.Nat.{ℕ, _%_, _<_, _≤_};
+ghost use lib.ListN.{length, getD, take};
 ghost use Rattle.terms.specs.Made.{InstantiatePost, InstancePost};
 ghost use Rattle.terms.specs.Grafts.{Instantiates, LeafPost, GraftPost, StartPost, RunPost};
 use crate::lift::Ends;
@@ -11,25 +15,25 @@ use cells::kids;
 use cells::same_run;
 use cells::skip;
 
-// The arguments of a constant: `count` expressions that lie one after the other from `base` on in the working store. starts: where
-// each starts, counted from there, and where the last one ends; for the first 64 of these places.
-pub struct Arguments {
-    pub base: usize,
-    pub count: usize,
-    pub starts: [u16; 64],
+// Place i of `starts`: by a call, as its result is known to be 16 bits wide and what lies behind a reference is not.
+fn start_at(starts: &[u16; 64], i: usize) -> u16
+    requires { ⌜ i < 64 ⌝ }
+    ensures { λ r. ⌜ r ≡ getD (now (starts .entry)) i 0 ⌝ }
+{
+    starts[i]
 }
 
 // Where argument i starts.
-fn argument_at(table: &[u32], w: &[u16], args: Arguments, i: usize) -> usize
-    ensures { λ r. ⌜ StartPost (now (table .entry)) (now (w .entry)) (args .base) (args .count) (args .starts) i r ⌝ }
+fn argument_at(table: &[u32], w: &[u16], base: usize, starts: &[u16; 64], i: usize) -> usize
+    ensures { λ r. ⌜ ((count : ℕ) → StartPost (now (table .entry)) (now (w .entry)) base count (now (starts .entry)) i r) ⌝ }
 {
-    if args.base > w.len() {
+    if base > w.len() {
         return w.len();
     }
     if i < 64 {
-        return args.base + (args.starts[i] as usize);
+        return base + (start_at(starts, i) as usize);
     }
-    let last = args.base + (args.starts[63] as usize);
+    let last = base + (start_at(starts, 63) as usize);
     skip(table, w, last, i - 63)
 }
 
@@ -42,21 +46,23 @@ fn put_argument(
     x: u16,
     to: usize,
     cut: usize,
-    args: Arguments,
+    base: usize,
+    count: usize,
+    starts: &[u16; 64],
 ) -> usize
     requires { ⌜ (x % 8 < 3) × (end ≤ to) × (to < length (now w)) ⌝ }
-    ensures { λ r. ⌜ LeafPost 65536 (Instantiates (now (table .entry)) (args .base) (args .count) (args .starts) (take end (now (w .entry)))) (now (table .entry)) (now (w .entry)) (now (w .exit)) x to cut r ⌝ }
+    ensures { λ r. ⌜ LeafPost 65536 (Instantiates (now (table .entry)) base count (now (starts .entry)) (take end (now (w .entry)))) (now (table .entry)) (now (w .entry)) (now (w .exit)) x to cut r ⌝ }
 {
     if x % 8 != 1 {
         w[to] = x;
         return to + 1;
     }
     let i = field(table, (x / 8) as usize, 3);
-    if i >= args.count {
+    if i >= count {
         w[to] = x;
         return to + 1;
     }
-    let from = argument_at(table, w, args, i);
+    let from = argument_at(table, w, base, starts, i);
     let r = lift_in(table, w, end, from, 1, to, cut, 0);
     r.to
 }
@@ -71,10 +77,12 @@ fn instantiate_in(
     n: usize,
     to: usize,
     cut: usize,
-    args: Arguments,
+    base: usize,
+    count: usize,
+    starts: &[u16; 64],
 ) -> Ends
     requires { ⌜ (end ≤ to) × (to ≤ length (now w)) × (cut ≤ from) ⌝ }
-    ensures { λ r. ⌜ GraftPost 65536 (Instantiates (now (table .entry)) (args .base) (args .count) (args .starts)) (now (table .entry)) (take end (now (w .entry))) (now (s .entry)) (now (w .entry)) (now (w .exit)) from n to cut (r .from) (r .to) ⌝ }
+    ensures { λ r. ⌜ GraftPost 65536 (Instantiates (now (table .entry)) base count (now (starts .entry))) (now (table .entry)) (take end (now (w .entry))) (now (s .entry)) (now (w .entry)) (now (w .exit)) from n to cut (r .from) (r .to) ⌝ }
 {
     let mut i = from;
     let mut at = to;
@@ -102,7 +110,7 @@ fn instantiate_in(
         let k = x % 8;
         if k == 5 {
             w[at] = x;
-            let p = instantiate_in(table, s, w, end, i + 1, 1, at + 1, cut, args);
+            let p = instantiate_in(table, s, w, end, i + 1, 1, at + 1, cut, base, count, starts);
             let i1 = p.from;
             let at1 = p.to;
             if at1 > w.len() {
@@ -111,7 +119,7 @@ fn instantiate_in(
                     to: w.len() + 1,
                 };
             }
-            let q = instantiate_in(table, s, w, end, i1, 1, at1, cut + 1, args);
+            let q = instantiate_in(table, s, w, end, i1, 1, at1, cut + 1, base, count, starts);
             let i2 = q.from;
             let at2 = q.to;
             if at2 > w.len() {
@@ -124,7 +132,7 @@ fn instantiate_in(
             at = at2;
             left = left - 1;
         } else if k < 3 {
-            let at1 = put_argument(table, w, end, x, at, cut, args);
+            let at1 = put_argument(table, w, end, x, at, cut, base, count, starts);
             if at1 > w.len() {
                 return Ends {
                     from: i,
@@ -151,11 +159,13 @@ pub fn instantiate(
     s: &[u16],
     e: usize,
     w: &mut [u16],
-    args: Arguments,
+    base: usize,
+    count: usize,
+    starts: &[u16; 64],
     to: usize,
     room: usize,
 ) -> usize
-    ensures { λ r. ⌜ InstantiatePost (now (table .entry)) (now (s .entry)) (now (w .entry)) (now (w .exit)) e (args .base) (args .count) (args .starts) to room r ⌝ }
+    ensures { λ r. ⌜ InstantiatePost (now (table .entry)) (now (s .entry)) (now (w .entry)) (now (w .exit)) e base count (now (starts .entry)) to room r ⌝ }
 {
     if to > w.len() {
         return NO_ROOM;
@@ -164,7 +174,19 @@ pub fn instantiate(
         return NO_ROOM;
     }
     let stop = to + room;
-    let r = instantiate_in(table, s, &mut w[..stop], to, e, 1, to, 0, args);
+    let r = instantiate_in(
+        table,
+        s,
+        &mut w[..stop],
+        to,
+        e,
+        1,
+        to,
+        0,
+        base,
+        count,
+        starts,
+    );
     let at = r.to;
     if at > stop {
         return NO_ROOM;
@@ -180,14 +202,14 @@ struct Run {
 
 // What stands for the cell x, which is no abstraction: the cells of its argument, for a context variable that has one. A run that
 // lies nowhere where it is not known how many those are.
-fn run_for(table: &[u32], x: u16, args: Arguments) -> Run
-    ensures { λ r. ⌜ RunPost (now (table .entry)) x (args .count) (args .starts) (r .start) (r .len) ⌝ }
+fn run_for(table: &[u32], x: u16, count: usize, starts: &[u16; 64]) -> Run
+    ensures { λ r. ⌜ RunPost (now (table .entry)) x count (now (starts .entry)) (r .start) (r .len) ⌝ }
 {
     if x % 8 != 1 {
         return Run { start: 0, len: 0 };
     }
     let i = field(table, (x / 8) as usize, 3);
-    if i >= args.count {
+    if i >= count {
         return Run { start: 0, len: 0 };
     }
     if i >= 63 {
@@ -196,8 +218,8 @@ fn run_for(table: &[u32], x: u16, args: Arguments) -> Run
             len: 18446744073709551615,
         };
     }
-    let first = args.starts[i] as usize;
-    let next = args.starts[i + 1] as usize;
+    let first = start_at(starts, i) as usize;
+    let next = start_at(starts, i + 1) as usize;
     if next <= first {
         return Run {
             start: 0,
@@ -218,14 +240,16 @@ pub fn is_instance(
     from: usize,
     stop: usize,
     w: &[u16],
-    args: Arguments,
+    base: usize,
+    count: usize,
+    starts: &[u16; 64],
     f: &[u16],
     at: usize,
     n: usize,
 ) -> bool
-    ensures { λ r. ⌜ InstancePost (now (table .entry)) (now (s .entry)) from stop (now (w .entry)) (args .base) (args .count) (args .starts) (now (f .entry)) at n r ⌝ }
+    ensures { λ r. ⌜ InstancePost (now (table .entry)) (now (s .entry)) from stop (now (w .entry)) base count (now (starts .entry)) (now (f .entry)) at n r ⌝ }
 {
-    if args.base > w.len() {
+    if base > w.len() {
         return false;
     }
     if at > f.len() {
@@ -241,7 +265,7 @@ pub fn is_instance(
         if x % 8 == 5 {
             return false;
         }
-        let run = run_for(table, x, args);
+        let run = run_for(table, x, count, starts);
         if run.len == 0 {
             if j >= f.len() {
                 return false;
@@ -252,7 +276,7 @@ pub fn is_instance(
             i = i + 1;
             j = j + 1;
         } else {
-            if !same_run(w, args.base + run.start, f, j, run.len) {
+            if !same_run(w, base + run.start, f, j, run.len) {
                 return false;
             }
             i = i + 1;

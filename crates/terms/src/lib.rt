@@ -7,7 +7,6 @@ mod instances;
 mod lift;
 mod substitution;
 
-pub use instances::Arguments;
 pub use instances::instantiate;
 pub use instances::is_instance;
 pub use lift::NO_ROOM;

@@ -36,7 +36,7 @@ same-length : tie.Need-same-length
 same-length c = search needs
 
 returns-2 : tie.Need-returns-2
-returns-2 c = constant-made (c .before .before .before .before .before .before .before .before .before .before .before .before .before .before .before .before .before .before .before .pre .0) (c .before .before .before .before .before .before .before .before .before .before .before .before .before .before .if1 .left) (c .before .before .before .before .before .before .before .before .before .before .before .before .before .field .ensures .0) (c .before .before .before .before .before .before .before .before .before .before .before .before .field2 .ensures .0) (λ h. c .before .before .before .before .before .before .before .before .before .before .before .level-at .ensures h (c .before .before .before .before .before .before .before .before .before .before .before .before .before .before .before .before .before .before .before .pre .0)) (λ h. c .before .before .before .before .before .before .before .before .before .result-at .ensures h) (c .before .before .before .before .before .before .before .instantiate .ensures) (c .before .before .made .ensures)
+returns-2 c = constant-made (c .before .before .before .before .before .before .before .before .before .before .before .before .before .before .before .before .before .before .pre .0) (c .before .before .before .before .before .before .before .before .before .before .before .before .before .if1 .left) (c .before .before .before .before .before .before .before .before .before .before .before .before .field .ensures .0) (c .before .before .before .before .before .before .before .before .before .before .before .field2 .ensures .0) (λ h. c .before .before .before .before .before .before .before .before .before .before .level-at .ensures h (c .before .before .before .before .before .before .before .before .before .before .before .before .before .before .before .before .before .before .pre .0)) (λ h. c .before .before .before .before .before .before .before .before .before .result-at .ensures h) (c .before .before .before .before .before .before .before .instantiate .ensures) (c .before .before .made .ensures)
 
 pub constant-spec : {M : Type 1} → statement M
 constant-spec =

@@ -1,5 +1,4 @@
 -- `context_variable`: noted, or met by following the indicators; `behind` variables of the context are still to be met.
-use mathlib.Core.Path.{refl}
 use Prim.Native.Nat.{_<_}
 use native.Mathlib.Omega.{arith}
 use Rattle.cells.specs.Cells.{rowCell}
@@ -9,22 +8,19 @@ use Rattle.categories.proofs.parts.context_variable.Statement.{statemen
 use Rattle.categories.proofs.parts.context_variable.Tie as tie
 
 abbrev Inv-loop : tie.InvT-loop
-Inv-loop table v i c₀ behind₀ c behind = Following table v c behind × (i < rowCell table v 3 → i < behind)
+Inv-loop table v lines i c₀ behind₀ c behind = Following table v c behind × (i < rowCell table v 3 → i < behind)
 
 abbrev μ-loop : tie.MeasureT-loop
-μ-loop table v i c₀ behind₀ c behind = behind
+μ-loop table v lines i c₀ behind₀ c behind = behind
 
-mul-result : tie.Need-mul-result Inv-loop μ-loop
-mul-result c = omega arith
-
-element-copy-out-result : tie.Need-element-copy-out-result Inv-loop μ-loop
-element-copy-out-result c = omega arith
+noted-requires : tie.Need-noted-requires Inv-loop μ-loop
+noted-requires c κs = omega arith
 
 cast-result : tie.Need-cast-result Inv-loop μ-loop
 cast-result c = search needs
 
 returns : tie.Need-returns Inv-loop μ-loop
-returns c = variable-noted (c .before .if1 .taken) refl
+returns c = variable-noted (c .before .if1 .taken) (c .noted .ensures)
 
 field-requires : tie.Need-field-requires Inv-loop μ-loop
 field-requires c κs = omega arith
@@ -59,8 +55,7 @@ context-variable-spec =
     (tie.spec
     Inv-loop
     μ-loop
-    mul-result
-    element-copy-out-result
+    noted-requires
     cast-result
     returns
     field-requires

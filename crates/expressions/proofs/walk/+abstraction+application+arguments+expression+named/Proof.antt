@@ -1,4 +1,6 @@
 use mathlib.Core.Path.{_∙_}
+use mathlib.Core.Logic.{⊎-elim}
+use Rattle.symbols.proofs.Laws.{part}
 use Rattle.expressions.proofs.StoreLaws.{below-put}
 use borrow.Author.Needs.{needs}
 use Prim.Native.Nat.{_+_, _*_, _-_}
@@ -6,7 +8,7 @@ use native.Mathlib.Omega.{arith}
 use lib.ListN.{length}
 use Rattle.expressions.proofs.ExpressionLaws.{expression-too-deep, expression-malformed, expression-application, expression-abstraction, expression-named}
 use Rattle.expressions.proofs.PairLaws.{goOn, application-unopened, application-first-refused, application-unclosed, application-read, abstraction-unopened, abstraction-unnamed, abstraction-no-comma, abstraction-first-refused, abstraction-unclosed, abstraction-read}
-use Rattle.expressions.proofs.NamedLaws.{named-unnamed, named-alone, named-read}
+use Rattle.expressions.proofs.NamedLaws.{binding-of, binding-none, named-unnamed, named-alone, named-read}
 use Rattle.expressions.proofs.ArgumentLaws.{ArgumentsSoFar, arguments-start, arguments-refused, arguments-more, arguments-unclosed, arguments-closed, arguments-of}
 use Prim.Native.Nat.{ℕ, _<_}
 use borrow.Fn.Kinds.{In}
@@ -31,6 +33,7 @@ use Rattle.cells.proofs.nest.Reads as nest-reads
 use Rattle.expressions.proofs.parts.counted.Reads as counted-reads
 use Rattle.expressions.proofs.parts.opens.Reads as opens-reads
 use Rattle.expressions.proofs.parts.put.Reads as put-reads
+use Rattle.names.proofs.binding.Reads as binding-reads
 use Rattle.expressions.proofs.parts.put_name.Reads as put-name-reads
 use Rattle.expressions.proofs.parts.refused.Reads as refused-reads
 use Rattle.symbols.proofs.kind_at.Reads as kind-at-reads
@@ -105,7 +108,7 @@ abbrev claims-expression : ℕ → expression-lts.Claims
 claims-expression t = (spaces-reads.Asked, spaces-reads.Learnt, kind-at-reads.Asked, kind-at-reads.Learnt, opens-reads.Asked, opens-reads.Learnt, refused-reads.Asked, refused-reads.Learnt, application-below t, application.Post, abstraction-below t, abstraction.Post, named-below t, named.Post)
 
 abbrev claims-named : ℕ → named-lts.Claims
-claims-named t = (name-at-reads.Asked, name-at-reads.Learnt, refused-reads.Asked, refused-reads.Learnt, put-name-reads.Asked, put-name-reads.Learnt, symbol-reads.Asked, symbol-reads.Learnt, counted-reads.Asked, counted-reads.Learnt, nest-reads.Asked, nest-reads.Learnt, arguments-below t, arguments.Post)
+claims-named t = (name-at-reads.Asked, name-at-reads.Learnt, refused-reads.Asked, refused-reads.Learnt, binding-reads.Asked, binding-reads.Learnt, put-name-reads.Asked, put-name-reads.Learnt, symbol-reads.Asked, symbol-reads.Learnt, counted-reads.Asked, counted-reads.Learnt, nest-reads.Asked, nest-reads.Learnt, arguments-below t, arguments.Post)
 
 abstraction-symbol-requires : (t : ℕ) → abstraction-lts.Need-symbol-requires (claims-abstraction t) (abstraction-at t) abstraction.Post
 abstraction-symbol-requires t c κs = tt
@@ -336,14 +339,26 @@ named-refused-requires t c κs = tt
 named-returns : (t : ℕ) → named-lts.Need-returns (claims-named t) (named-at t) named.Post
 named-returns t c = named-unnamed (c .before .before .before .before .before .before .before .pre .1 .0) (c .before .before .before .before .before .before .before .pre .1 .1) (c .before .before .before .before .before .before .before .pre .1 .2) (c .before .before .name-at .ensures) (c .before .if1 .taken) (c .refused .ensures)
 
-named-put-name-requires : (t : ℕ) → named-lts.Need-put-name-requires (claims-named t) (named-at t) named.Post
-named-put-name-requires t c κs = omega (arith, c .before .before .name-at .ensures .within (c .before .before .before .before .before .before .before .pre .1 .1))
-
 named-add-next : (t : ℕ) → named-lts.Need-add-next (claims-named t) (named-at t) named.Post
-named-add-next t c = omega (arith, c .before .before .before .before .before .name-at .ensures .within (c .before .before .before .before .before .before .before .before .before .before .pre .1 .1), c .before .before .before .before .before .before .before .before .before .before)
+named-add-next t c = omega (arith, c .before .name-at .ensures .within (c .before .before .before .before .before .before .pre .1 .1), c .before .before .before .before .before .before)
+
+named-sub-binding : (t : ℕ) → named-lts.Need-sub-binding (claims-named t) (named-at t) named.Post
+named-sub-binding t c = omega arith
+
+named-part-binding-start : (t : ℕ) → named-lts.Need-part-binding-start (claims-named t) (named-at t) named.Post
+named-part-binding-start t c = omega arith
+
+named-part-binding-end : (t : ℕ) → named-lts.Need-part-binding-end (claims-named t) (named-at t) named.Post
+named-part-binding-end t c = omega (arith, c .before .before .before .name-at .ensures .within (c .before .before .before .before .before .before .before .before .pre .1 .1))
+
+named-binding-requires : (t : ℕ) → named-lts.Need-binding-requires (claims-named t) (named-at t) named.Post
+named-binding-requires t c κs = tt
+
+named-put-name-requires : (t : ℕ) → named-lts.Need-put-name-requires (claims-named t) (named-at t) named.Post
+named-put-name-requires t c κs = omega (arith, c .before .before .before .before .name-at .ensures .within (c .before .before .before .before .before .before .before .before .before .pre .1 .1))
 
 named-add-to : (t : ℕ) → named-lts.Need-add-to (claims-named t) (named-at t) named.Post
-named-add-to t c = omega (arith, c .before .before .before .before .before .before .before .before .before .before .before .pre, c .before .before .before .before .before .before .before .before .before .before .before)
+named-add-to t c = omega (arith, c .before .before .before .before .before .before .before .before .before .before .before .before .before .pre, c .before .before .before .before .before .before .before .before .before .before .before .before .before)
 
 named-symbol-requires : (t : ℕ) → named-lts.Need-symbol-requires (claims-named t) (named-at t) named.Post
 named-symbol-requires t c κs = tt
@@ -355,13 +370,13 @@ named-same-length : (t : ℕ) → named-lts.Need-same-length (claims-named t) (n
 named-same-length t c = search needs
 
 named-returns-2 : (t : ℕ) → named-lts.Need-returns-2 (claims-named t) (named-at t) named.Post
-named-returns-2 t c = named-alone (c .before .before .before .before .before .before .before .before .before .before .before .before .before .before .pre .1 .0) (c .before .before .before .before .before .before .before .before .before .before .before .before .before .before .pre .1 .1) (c .before .before .before .before .before .before .before .before .before .before .before .before .before .before .pre .1 .2) (c .before .before .before .before .before .before .before .before .before .name-at .ensures) (c .before .before .before .before .before .before .before .before .if1 .left) (c .before .before .before .before .before .before .put-name .ensures) (c .before .before .symbol .ensures) (c .before .if2 .taken) (c .counted .ensures)
+named-returns-2 t c = named-alone (c .before .before .before .before .before .before .before .before .before .before .before .before .before .before .before .before .pre .1 .0) (c .before .before .before .before .before .before .before .before .before .before .before .before .before .before .before .before .pre .1 .1) (c .before .before .before .before .before .before .before .before .before .before .before .before .before .before .before .before .pre .1 .2) (c .before .before .before .before .before .before .before .before .before .before .before .name-at .ensures) (c .before .before .before .before .before .before .before .before .before .before .if1 .left) (⊎-elim (λ w. binding-of (w .3) (part _ (c .before .before .before .before .before .before .before .before .before .before .before .name-at .result .start) (c .before .before .before .before .before .before .before .before .before .before .before .name-at .result .start + c .before .before .before .before .before .before .before .before .before .before .before .name-at .result .len) (omega arith)) (w .2 .ensures)) (λ w. binding-none (w .1) (w .0 .left)) (c .before .before .before .before .before .before .before .before .if2 .came)) (c .before .before .before .before .before .before .put-name .ensures) (c .before .before .symbol .ensures) (c .before .if3 .taken) (c .counted .ensures)
 
 named-nest-requires : (t : ℕ) → named-lts.Need-nest-requires (claims-named t) (named-at t) named.Post
 named-nest-requires t c κs = tt
 
 named-arguments-requires : (t : ℕ) → named-lts.Need-arguments-requires (claims-named t) (named-at t) named.Post
-named-arguments-requires t c κs = omega (arith, c .before .before .before .before .before .before .before .before .before .before .before .before .before .before .before .pre, c .before .before .if2, c .before .nest .ensures .deeper (c .before .before .before .before .before .before .before .before .before .before .before .before .before .before .before .pre .1 .2), c .before .before .before .symbol .ensures .from (c .before .before .before .before .before .before .before .before .before .before .name-at .ensures .within (c .before .before .before .before .before .before .before .before .before .before .before .before .before .before .before .pre .1 .1)), c .before .before .before .before .before .before .before .before .before .before .name-at .ensures .from)
+named-arguments-requires t c κs = omega (arith, c .before .before .before .before .before .before .before .before .before .before .before .before .before .before .before .before .before .pre, c .before .before .if3, c .before .nest .ensures .deeper (c .before .before .before .before .before .before .before .before .before .before .before .before .before .before .before .before .before .pre .1 .2), c .before .before .before .symbol .ensures .from (c .before .before .before .before .before .before .before .before .before .before .before .before .name-at .ensures .within (c .before .before .before .before .before .before .before .before .before .before .before .before .before .before .before .before .before .pre .1 .1)), c .before .before .before .before .before .before .before .before .before .before .before .before .name-at .ensures .from)
 
 named-counted-requires-2 : (t : ℕ) → named-lts.Need-counted-requires-2 (claims-named t) (named-at t) named.Post
 named-counted-requires-2 t c κs = tt
@@ -370,7 +385,7 @@ named-same-length-2 : (t : ℕ) → named-lts.Need-same-length-2 (claims-named t
 named-same-length-2 t c = search needs
 
 named-returns-3 : (t : ℕ) → named-lts.Need-returns-3 (claims-named t) (named-at t) named.Post
-named-returns-3 t c = named-read (c .before .before .before .before .before .before .before .before .before .before .before .before .before .before .before .before .before .before .before .pre .1 .0) (c .before .before .before .before .before .before .before .before .before .before .before .before .before .before .before .before .before .before .before .pre .1 .1) (c .before .before .before .before .before .before .before .before .before .before .before .before .before .before .before .before .before .before .before .pre .1 .2) (c .before .before .before .before .before .before .before .before .before .before .before .before .before .before .name-at .ensures) (c .before .before .before .before .before .before .before .before .before .before .before .before .before .if1 .left) (c .before .before .before .before .before .before .before .before .before .before .before .put-name .ensures) (c .before .before .before .before .before .before .before .symbol .ensures) (c .before .before .before .before .before .before .if2 .left) (c .before .before .before .before .before .nest .ensures) (c .before .before .before .arguments .ensures) (c .counted2 .ensures)
+named-returns-3 t c = named-read (c .before .before .before .before .before .before .before .before .before .before .before .before .before .before .before .before .before .before .before .before .before .pre .1 .0) (c .before .before .before .before .before .before .before .before .before .before .before .before .before .before .before .before .before .before .before .before .before .pre .1 .1) (c .before .before .before .before .before .before .before .before .before .before .before .before .before .before .before .before .before .before .before .before .before .pre .1 .2) (c .before .before .before .before .before .before .before .before .before .before .before .before .before .before .before .before .name-at .ensures) (c .before .before .before .before .before .before .before .before .before .before .before .before .before .before .before .if1 .left) (⊎-elim (λ w. binding-of (w .3) (part _ (c .before .before .before .before .before .before .before .before .before .before .before .before .before .before .before .before .name-at .result .start) (c .before .before .before .before .before .before .before .before .before .before .before .before .before .before .before .before .name-at .result .start + c .before .before .before .before .before .before .before .before .before .before .before .before .before .before .before .before .name-at .result .len) (omega arith)) (w .2 .ensures)) (λ w. binding-none (w .1) (w .0 .left)) (c .before .before .before .before .before .before .before .before .before .before .before .before .before .if2 .came)) (c .before .before .before .before .before .before .before .before .before .before .before .put-name .ensures) (c .before .before .before .before .before .before .before .symbol .ensures) (c .before .before .before .before .before .before .if3 .left) (c .before .before .before .before .before .nest .ensures) (c .before .before .before .arguments .ensures) (c .counted2 .ensures)
 
 pub +abstraction+application+arguments+expression+named-spec : {M : Type 1} → statement M
 +abstraction+application+arguments+expression+named-spec =
@@ -511,6 +526,8 @@ pub +abstraction+application+arguments+expression+named-spec : {M : Type 1} → 
       name-at-reads.Learnt,
       refused-reads.Asked,
       refused-reads.Learnt,
+      binding-reads.Asked,
+      binding-reads.Learnt,
       put-name-reads.Asked,
       put-name-reads.Learnt,
       symbol-reads.Asked,
@@ -527,8 +544,12 @@ pub +abstraction+application+arguments+expression+named-spec : {M : Type 1} → 
     (named-name-at-requires t)
     (named-refused-requires t)
     (named-returns t)
-    (named-put-name-requires t)
     (named-add-next t)
+    (named-sub-binding t)
+    (named-part-binding-start t)
+    (named-part-binding-end t)
+    (named-binding-requires t)
+    (named-put-name-requires t)
     (named-add-to t)
     (named-symbol-requires t)
     (named-counted-requires t)

@@ -1,5 +1,4 @@
 use Prim.Native.Nat.{_-_}
-use mathlib.Core.Path.{refl}
 use native.Mathlib.Omega.{arith}
 use Rattle.reduction.proofs.ArgumentLaws.{Listed, listed-none, listed-more, listed-wrong, listed-all, listed-full}
 use borrow.Author.Needs.{needs}
@@ -7,13 +6,13 @@ use Rattle.reduction.proofs.steps.arguments_at.Statement.{statement}
 use Rattle.reduction.proofs.steps.arguments_at.Tie as tie
 
 abbrev Inv-loop : tie.InvT-loop
-Inv-loop table w at count args₀ i₀ next₀ args i next = Listed table w at count args i next
+Inv-loop table w at count starts₀ i₀ next₀ starts i next = Listed table w at count starts₀ starts i next
 
 abbrev μ-loop : tie.MeasureT-loop
-μ-loop table w at count args₀ i₀ next₀ args i next = 63 - i
+μ-loop table w at count starts₀ i₀ next₀ starts i next = 63 - i
 
 loop-holds : tie.Need-loop-holds Inv-loop μ-loop
-loop-holds c = listed-none refl refl refl refl
+loop-holds c = listed-none
 
 returns : tie.Need-returns Inv-loop μ-loop
 returns c = listed-all (c .before .before .loop .inv) (c .if1 .taken)
@@ -30,20 +29,20 @@ returns-3 c = listed-wrong (c .before .before .before .before .before .loop .inv
 add-i : tie.Need-add-i Inv-loop μ-loop
 add-i c = omega arith
 
-cast-args : tie.Need-cast-args Inv-loop μ-loop
-cast-args c = omega arith
+cast-starts : tie.Need-cast-starts Inv-loop μ-loop
+cast-starts c = omega arith
 
-mul-args : tie.Need-mul-args Inv-loop μ-loop
-mul-args c = omega arith
+mul-starts : tie.Need-mul-starts Inv-loop μ-loop
+mul-starts c = omega arith
 
-element-write-args : tie.Need-element-write-args Inv-loop μ-loop
-element-write-args c = search needs
+element-write-starts : tie.Need-element-write-starts Inv-loop μ-loop
+element-write-starts c = search needs
 
 loop-less : tie.Need-loop-less Inv-loop μ-loop
 loop-less c = omega arith
 
 loop-again : tie.Need-loop-again Inv-loop μ-loop
-loop-again c = listed-more (c .before .before .before .before .before .loop .inv) (c .before .before .skip .ensures) (c .before .before .before .before .loop-test .taken) (c .before .before .before .if1 .left) refl refl refl
+loop-again c = listed-more (c .before .before .before .before .before .loop .inv) (c .before .before .skip .ensures) (c .before .before .before .before .loop-test .taken) (c .before .before .before .if1 .left)
 
 returns-4 : tie.Need-returns-4 Inv-loop μ-loop
 returns-4 c = listed-full (c .before .loop .inv) (c .loop-test .left)
@@ -60,9 +59,9 @@ arguments-at-spec =
     returns-2
     returns-3
     add-i
-    cast-args
-    mul-args
-    element-write-args
+    cast-starts
+    mul-starts
+    element-write-starts
     loop-less
     loop-again
     returns-4)

@@ -1,3 +1,4 @@
+use mathlib.Core.Path.{refl}
 use native.Mathlib.Omega.{arith}
 use Rattle.reduction.proofs.PutLaws.{unfolded-none, unfolded-law}
 use borrow.Author.Needs.{needs}
@@ -24,6 +25,9 @@ arguments-at-requires c κs = search needs
 result-at-requires : tie.Need-result-at-requires
 result-at-requires c κs = search needs
 
+add-instantiate : tie.Need-add-instantiate
+add-instantiate c = search needs
+
 instantiate-requires : tie.Need-instantiate-requires
 instantiate-requires c κs = search needs
 
@@ -31,7 +35,7 @@ same-length : tie.Need-same-length
 same-length c = search needs
 
 returns-2 : tie.Need-returns-2
-returns-2 c = unfolded-law (c .before .before .before .before .before .arguments-at .result) (omega arith) (c .before .before .before .before .before .before .before .before .field .ensures .0) (c .before .before .before .before .before .before .before .field2 .ensures .0) (c .before .before .before .before .before .arguments-at .ensures) (c .before .before .before .before .result-at .ensures (omega arith)) (c .before .before .instantiate .ensures)
+returns-2 c = unfolded-law (omega arith) (c .before .before .before .before .before .before .before .before .before .before .field .ensures .0) (c .before .before .before .before .before .before .before .before .before .field2 .ensures .0) refl refl (c .before .before .before .before .before .before .arguments-at .ensures) (c .before .before .before .before .before .result-at .ensures (omega arith)) (c .before .before .instantiate .ensures)
 
 pub unfolded-spec : {M : Type 1} → statement M
 unfolded-spec =
@@ -43,6 +47,7 @@ unfolded-spec =
     add-arguments-at
     arguments-at-requires
     result-at-requires
+    add-instantiate
     instantiate-requires
     same-length
     returns-2)

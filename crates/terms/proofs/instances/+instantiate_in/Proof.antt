@@ -17,20 +17,20 @@ use Rattle.terms.proofs.instances.put_argument.Reads as put-argument-re
 use Rattle.terms.proofs.instances.+instantiate_in.{statement}
 use Rattle.terms.proofs.instances.+instantiate_in.Tie.{close}
 
-abbrev μ-instantiate-in : Measures 3 instantiate-in-kinds.ps ℕ
+abbrev μ-instantiate-in : Measures 4 instantiate-in-kinds.ps ℕ
 μ-instantiate-in κs a = length (a .1 .0 .now) - a .1 .1 .1 .1 .0
 
-abbrev instantiate-in-at : ℕ → In 3 instantiate-in-kinds.ps
-instantiate-in-at t = and 3 instantiate-in-kinds.ps (is 3 instantiate-in-kinds.ps μ-instantiate-in t) instantiate-in.Pre
+abbrev instantiate-in-at : ℕ → In 4 instantiate-in-kinds.ps
+instantiate-in-at t = and 4 instantiate-in-kinds.ps (is 4 instantiate-in-kinds.ps μ-instantiate-in t) instantiate-in.Pre
 
-abbrev instantiate-in-below : ℕ → In 3 instantiate-in-kinds.ps
-instantiate-in-below t = and 3 instantiate-in-kinds.ps (falls 3 instantiate-in-kinds.ps _<_ μ-instantiate-in t) instantiate-in.Pre
+abbrev instantiate-in-below : ℕ → In 4 instantiate-in-kinds.ps
+instantiate-in-below t = and 4 instantiate-in-kinds.ps (falls 4 instantiate-in-kinds.ps _<_ μ-instantiate-in t) instantiate-in.Pre
 
 abbrev instantiate-in-Inv-loop : instantiate-in-lts.InvT-loop
-instantiate-in-Inv-loop table s w₀ end from n to cut args i₀ at₀ left₀ w i at left = Inv 65536 (Instantiates table (args .base) (args .count) (args .starts)) table (take end w₀) s from n w₀ to cut w i at left
+instantiate-in-Inv-loop table s w₀ end from n to cut base count starts i₀ at₀ left₀ w i at left = Inv 65536 (Instantiates table base count starts) table (take end w₀) s from n w₀ to cut w i at left
 
 abbrev instantiate-in-μ-loop : instantiate-in-lts.MeasureT-loop
-instantiate-in-μ-loop table s w₀ end from n to cut args i₀ at₀ left₀ w i at left = length s - i
+instantiate-in-μ-loop table s w₀ end from n to cut base count starts i₀ at₀ left₀ w i at left = length s - i
 
 abbrev claims-instantiate-in : ℕ → instantiate-in-lts.Claims
 claims-instantiate-in t = (instantiate-in-below t, instantiate-in.Post, put-argument-reads.Asked, put-argument-reads.Learnt, kids-reads.Asked, kids-reads.Learnt)
@@ -38,8 +38,8 @@ claims-instantiate-in t = (instantiate-in-below t, instantiate-in.Post, put-argu
 instantiate-in-loop-holds : (t : ℕ) → instantiate-in-lts.Need-loop-holds (claims-instantiate-in t) (instantiate-in-at t) instantiate-in.Post instantiate-in-Inv-loop instantiate-in-μ-loop
 instantiate-in-loop-holds t c = start (omega arith)
 
-instantiate-in-add-t25 : (t : ℕ) → instantiate-in-lts.Need-add-t25 (claims-instantiate-in t) (instantiate-in-at t) instantiate-in.Post instantiate-in-Inv-loop instantiate-in-μ-loop
-instantiate-in-add-t25 t c = omega arith
+instantiate-in-add-t27 : (t : ℕ) → instantiate-in-lts.Need-add-t27 (claims-instantiate-in t) (instantiate-in-at t) instantiate-in.Post instantiate-in-Inv-loop instantiate-in-μ-loop
+instantiate-in-add-t27 t c = omega arith
 
 instantiate-in-same-length : (t : ℕ) → instantiate-in-lts.Need-same-length (claims-instantiate-in t) (instantiate-in-at t) instantiate-in.Post instantiate-in-Inv-loop instantiate-in-μ-loop
 instantiate-in-same-length t c = c .before .before .loop .inv .kept .long
@@ -50,8 +50,8 @@ instantiate-in-returns t c = stop-source (λ l. c .before .before .before .befor
 instantiate-in-sub-if2 : (t : ℕ) → instantiate-in-lts.Need-sub-if2 (claims-instantiate-in t) (instantiate-in-at t) instantiate-in.Post instantiate-in-Inv-loop instantiate-in-μ-loop
 instantiate-in-sub-if2 t c = omega arith
 
-instantiate-in-add-t28 : (t : ℕ) → instantiate-in-lts.Need-add-t28 (claims-instantiate-in t) (instantiate-in-at t) instantiate-in.Post instantiate-in-Inv-loop instantiate-in-μ-loop
-instantiate-in-add-t28 t c = omega arith
+instantiate-in-add-t30 : (t : ℕ) → instantiate-in-lts.Need-add-t30 (claims-instantiate-in t) (instantiate-in-at t) instantiate-in.Post instantiate-in-Inv-loop instantiate-in-μ-loop
+instantiate-in-add-t30 t c = omega arith
 
 instantiate-in-same-length-2 : (t : ℕ) → instantiate-in-lts.Need-same-length-2 (claims-instantiate-in t) (instantiate-in-at t) instantiate-in.Post instantiate-in-Inv-loop instantiate-in-μ-loop
 instantiate-in-same-length-2 t c = c .before .before .before .loop .inv .kept .long
@@ -59,8 +59,8 @@ instantiate-in-same-length-2 t c = c .before .before .before .loop .inv .kept .l
 instantiate-in-returns-2 : (t : ℕ) → instantiate-in-lts.Need-returns-2 (claims-instantiate-in t) (instantiate-in-at t) instantiate-in.Post instantiate-in-Inv-loop instantiate-in-μ-loop
 instantiate-in-returns-2 t c = stop-source (λ l. c .before .before .before .before .before .before .before .args .s .now) (c .before .before .before .before .before .before .before .pre .1 .0) (c .before .before .before .loop .inv) (length (c .before .before .before .before .before .before .before .args .s .now)) (le-refl _) (omega arith)
 
-instantiate-in-add-t30 : (t : ℕ) → instantiate-in-lts.Need-add-t30 (claims-instantiate-in t) (instantiate-in-at t) instantiate-in.Post instantiate-in-Inv-loop instantiate-in-μ-loop
-instantiate-in-add-t30 t c = omega arith
+instantiate-in-add-t32 : (t : ℕ) → instantiate-in-lts.Need-add-t32 (claims-instantiate-in t) (instantiate-in-at t) instantiate-in.Post instantiate-in-Inv-loop instantiate-in-μ-loop
+instantiate-in-add-t32 t c = omega arith
 
 instantiate-in-same-length-3 : (t : ℕ) → instantiate-in-lts.Need-same-length-3 (claims-instantiate-in t) (instantiate-in-at t) instantiate-in.Post instantiate-in-Inv-loop instantiate-in-μ-loop
 instantiate-in-same-length-3 t c = c .before .before .before .before .loop .inv .kept .long
@@ -89,8 +89,8 @@ instantiate-in-add-instantiate-in-2 t c = omega arith
 instantiate-in-instantiate-in-requires : (t : ℕ) → instantiate-in-lts.Need-instantiate-in-requires (claims-instantiate-in t) (instantiate-in-at t) instantiate-in.Post instantiate-in-Inv-loop instantiate-in-μ-loop
 instantiate-in-instantiate-in-requires t c κs = (omega arith, simp length-set (omega arith))
 
-instantiate-in-add-t40 : (t : ℕ) → instantiate-in-lts.Need-add-t40 (claims-instantiate-in t) (instantiate-in-at t) instantiate-in.Post instantiate-in-Inv-loop instantiate-in-μ-loop
-instantiate-in-add-t40 t c = omega arith
+instantiate-in-add-t42 : (t : ℕ) → instantiate-in-lts.Need-add-t42 (claims-instantiate-in t) (instantiate-in-at t) instantiate-in.Post instantiate-in-Inv-loop instantiate-in-μ-loop
+instantiate-in-add-t42 t c = omega arith
 
 instantiate-in-same-length-4 : (t : ℕ) → instantiate-in-lts.Need-same-length-4 (claims-instantiate-in t) (instantiate-in-at t) instantiate-in.Post instantiate-in-Inv-loop instantiate-in-μ-loop
 instantiate-in-same-length-4 t c = kept-domain (λ l. c .before .before .before .before .before .before .before .before .before .before .before .before .before .before .before .args .s .now) (c .before .before .before .before .before .before .before .before .before .before .before .before .before .before .before .pre .1 .0) (c .before .before .before .before .before .before .before .before .before .before .before .loop .inv) (c .before .before .before .before .before .before .before .before .before .before .loop-test .taken) (c .before .before .before .before .before .before .before .if3 .left) refl (c .before .before .before .before .before .if4 .taken) (c .before .before .before .instantiate-in .ensures) .long ∙ c .before .before .before .before .before .before .before .before .before .before .before .loop .inv .kept .long
@@ -104,8 +104,8 @@ instantiate-in-add-instantiate-in-3 t c = omega arith
 instantiate-in-instantiate-in-requires-2 : (t : ℕ) → instantiate-in-lts.Need-instantiate-in-requires-2 (claims-instantiate-in t) (instantiate-in-at t) instantiate-in.Post instantiate-in-Inv-loop instantiate-in-μ-loop
 instantiate-in-instantiate-in-requires-2 t c κs = (omega arith, omega arith)
 
-instantiate-in-add-t44 : (t : ℕ) → instantiate-in-lts.Need-add-t44 (claims-instantiate-in t) (instantiate-in-at t) instantiate-in.Post instantiate-in-Inv-loop instantiate-in-μ-loop
-instantiate-in-add-t44 t c = omega arith
+instantiate-in-add-t46 : (t : ℕ) → instantiate-in-lts.Need-add-t46 (claims-instantiate-in t) (instantiate-in-at t) instantiate-in.Post instantiate-in-Inv-loop instantiate-in-μ-loop
+instantiate-in-add-t46 t c = omega arith
 
 instantiate-in-same-length-5 : (t : ℕ) → instantiate-in-lts.Need-same-length-5 (claims-instantiate-in t) (instantiate-in-at t) instantiate-in.Post instantiate-in-Inv-loop instantiate-in-μ-loop
 instantiate-in-same-length-5 t c = c .before .before .before .instantiate-in2 .ensures .kept .long ∙ kept-domain (λ l. c .before .before .before .before .before .before .before .before .before .before .before .before .before .before .before .before .before .before .before .before .args .s .now) (c .before .before .before .before .before .before .before .before .before .before .before .before .before .before .before .before .before .before .before .before .pre .1 .0) (c .before .before .before .before .before .before .before .before .before .before .before .before .before .before .before .before .loop .inv) (c .before .before .before .before .before .before .before .before .before .before .before .before .before .before .before .loop-test .taken) (c .before .before .before .before .before .before .before .before .before .before .before .before .if3 .left) refl (c .before .before .before .before .before .before .before .before .before .before .if4 .taken) (c .before .before .before .before .before .before .before .before .instantiate-in .ensures) .long ∙ c .before .before .before .before .before .before .before .before .before .before .before .before .before .before .before .before .loop .inv .kept .long
@@ -125,8 +125,8 @@ instantiate-in-loop-again t c = turn-abstraction (λ l. c .before .before .befor
 instantiate-in-put-argument-requires : (t : ℕ) → instantiate-in-lts.Need-put-argument-requires (claims-instantiate-in t) (instantiate-in-at t) instantiate-in.Post instantiate-in-Inv-loop instantiate-in-μ-loop
 instantiate-in-put-argument-requires t c κs = (omega arith)
 
-instantiate-in-add-t51 : (t : ℕ) → instantiate-in-lts.Need-add-t51 (claims-instantiate-in t) (instantiate-in-at t) instantiate-in.Post instantiate-in-Inv-loop instantiate-in-μ-loop
-instantiate-in-add-t51 t c = omega arith
+instantiate-in-add-t53 : (t : ℕ) → instantiate-in-lts.Need-add-t53 (claims-instantiate-in t) (instantiate-in-at t) instantiate-in.Post instantiate-in-Inv-loop instantiate-in-μ-loop
+instantiate-in-add-t53 t c = omega arith
 
 instantiate-in-same-length-6 : (t : ℕ) → instantiate-in-lts.Need-same-length-6 (claims-instantiate-in t) (instantiate-in-at t) instantiate-in.Post instantiate-in-Inv-loop instantiate-in-μ-loop
 instantiate-in-same-length-6 t c = c .before .before .before .put-argument .ensures .kept .long ∙ c .before .before .before .before .before .before .before .before .before .before .before .before .loop .inv .kept .long
@@ -186,14 +186,14 @@ pub +instantiate-in-spec : {M : Type 1} → statement M
     instantiate-in-Inv-loop
     instantiate-in-μ-loop
     (instantiate-in-loop-holds t)
-    (instantiate-in-add-t25 t)
+    (instantiate-in-add-t27 t)
     (instantiate-in-same-length t)
     (instantiate-in-returns t)
     (instantiate-in-sub-if2 t)
-    (instantiate-in-add-t28 t)
+    (instantiate-in-add-t30 t)
     (instantiate-in-same-length-2 t)
     (instantiate-in-returns-2 t)
-    (instantiate-in-add-t30 t)
+    (instantiate-in-add-t32 t)
     (instantiate-in-same-length-3 t)
     (instantiate-in-returns-3 t)
     (instantiate-in-mul-x t)
@@ -203,19 +203,19 @@ pub +instantiate-in-spec : {M : Type 1} → statement M
     (instantiate-in-add-instantiate-in t)
     (instantiate-in-add-instantiate-in-2 t)
     (instantiate-in-instantiate-in-requires t)
-    (instantiate-in-add-t40 t)
+    (instantiate-in-add-t42 t)
     (instantiate-in-same-length-4 t)
     (instantiate-in-returns-4 t)
     (instantiate-in-add-instantiate-in-3 t)
     (instantiate-in-instantiate-in-requires-2 t)
-    (instantiate-in-add-t44 t)
+    (instantiate-in-add-t46 t)
     (instantiate-in-same-length-5 t)
     (instantiate-in-returns-5 t)
     (instantiate-in-sub-left t)
     (instantiate-in-loop-less t)
     (instantiate-in-loop-again t)
     (instantiate-in-put-argument-requires t)
-    (instantiate-in-add-t51 t)
+    (instantiate-in-add-t53 t)
     (instantiate-in-same-length-6 t)
     (instantiate-in-returns-6 t)
     (instantiate-in-add-i t)

@@ -1,6 +1,3 @@
-use mir.Val.{Fits}
-use mir.Syntax.{w16}
-use lib.ListN.{getD}
 use native.Mathlib.Omega.{arith}
 use Rattle.terms.proofs.Arguments.{start-none, start-listed, start-past}
 use borrow.Author.Needs.{needs}
@@ -8,35 +5,28 @@ use Rattle.terms.proofs.instances.argument_at.Statement.{statement}
 use Rattle.terms.proofs.instances.argument_at.Tie as tie
 
 returns : tie.Need-returns
-returns c = start-none (omega arith)
+returns c = λ count. start-none (omega arith)
 
-mul-result : tie.Need-mul-result
-mul-result c = search needs
-
-element-copy-out-result : tie.Need-element-copy-out-result
-element-copy-out-result c = search needs
+start-at-requires : tie.Need-start-at-requires
+start-at-requires c κs = search needs
 
 cast-result : tie.Need-cast-result
 cast-result c = search needs
 
 add-result : tie.Need-add-result
-add-result c =
-    let f : Fits w16 (getD (c .before .before .before .before .before .args .t3 .starts) (c .before .before .before .before .before .args .i) 0) = search needs in
-    omega (arith, f .fits)
+add-result c = omega (arith, c .start-at .ok)
 
 returns-2 : tie.Need-returns-2
-returns-2 c = start-listed (c .before .if2 .taken)
+returns-2 c = λ count. rw (c .start-at .ensures) (start-listed (c .before .if2 .taken))
 
-element-copy-out-last : tie.Need-element-copy-out-last
-element-copy-out-last c = search needs
+start-at-requires-2 : tie.Need-start-at-requires-2
+start-at-requires-2 c κs = search needs
 
 cast-last : tie.Need-cast-last
 cast-last c = search needs
 
 add-last : tie.Need-add-last
-add-last c =
-    let f : Fits w16 (getD (c .before .before .before .before .before .args .t3 .starts) 63 0) = search needs in
-    omega (arith, f .fits)
+add-last c = omega (arith, c .start-at2 .ok)
 
 sub-skip : tie.Need-sub-skip
 sub-skip c = search needs
@@ -45,19 +35,18 @@ skip-requires : tie.Need-skip-requires
 skip-requires c κs = search needs
 
 returns-3 : tie.Need-returns-3
-returns-3 c = start-past (c .before .before .if2 .left) (c .skip .ensures)
+returns-3 c = λ count. start-past (c .before .before .if2 .left) (rw (c .before .start-at2 .ensures) at (c .skip .ensures))
 
 pub argument-at-spec : {M : Type 1} → statement M
 argument-at-spec =
     tie.close
     (tie.spec
     returns
-    mul-result
-    element-copy-out-result
+    start-at-requires
     cast-result
     add-result
     returns-2
-    element-copy-out-last
+    start-at-requires-2
     cast-last
     add-last
     sub-skip

@@ -8,10 +8,10 @@ use Rattle.terms.proofs.instances.is_instance.Statement.{statement}
 use Rattle.terms.proofs.instances.is_instance.Tie as tie
 
 abbrev Inv-loop : tie.InvT-loop
-Inv-loop table s from stop w args f at n i₀ j₀ i j = Passed table s from stop w (args .base) (args .count) (args .starts) f at i j
+Inv-loop table s from stop w base count starts f at n i₀ j₀ i j = Passed table s from stop w base count starts f at i j
 
 abbrev μ-loop : tie.MeasureT-loop
-μ-loop table s from stop w args f at n i₀ j₀ i j = stop - i
+μ-loop table s from stop w base count starts f at n i₀ j₀ i j = stop - i
 
 returns : tie.Need-returns Inv-loop μ-loop
 returns c = instance-no
@@ -62,7 +62,7 @@ loop-again : tie.Need-loop-again Inv-loop μ-loop
 loop-again c = passed-itself (c .before .before .before .before .before .before .before .before .before .loop .inv) (c .before .before .before .before .before .before .before .before .loop-test .taken) refl (c .before .before .before .before .before .run-for .ensures) (c .before .before .before .before .before .before .if4 .left) (c .before .before .before .if5 .taken) (c .before .before .if6 .left) (c .if7 .left)
 
 add-same-run : tie.Need-add-same-run Inv-loop μ-loop
-add-same-run c = omega (arith, c .before .before .before .before .run-for .ensures .short, c .before .before .before .before .before .before .before .before .before .before .before .if1 .left)
+add-same-run c = omega (arith, c .before .before .before .run-for .ensures .short, c .before .before .before .before .before .before .before .before .before .before .if1 .left)
 
 same-run-requires : tie.Need-same-run-requires Inv-loop μ-loop
 same-run-requires c κs = tt
@@ -80,7 +80,7 @@ loop-less-2 : tie.Need-loop-less-2 Inv-loop μ-loop
 loop-less-2 c = omega arith
 
 loop-again-2 : tie.Need-loop-again-2 Inv-loop μ-loop
-loop-again-2 c = passed-argument (c .before .before .before .before .before .before .before .before .before .before .before .loop .inv) (c .before .before .before .before .before .before .before .before .before .before .loop-test .taken) refl (c .before .before .before .before .before .before .before .run-for .ensures) (c .before .before .before .before .before .if5 .left) (omega arith) (sym (c .before .before .same-run .ensures) ∙ not-false _ (c .before .if8 .left))
+loop-again-2 c = passed-argument (c .before .before .before .before .before .before .before .before .before .before .loop .inv) (c .before .before .before .before .before .before .before .before .before .loop-test .taken) refl (c .before .before .before .before .before .before .run-for .ensures) (c .before .before .before .before .if5 .left) (omega arith) (sym (c .before .before .same-run .ensures) ∙ not-false _ (c .before .if8 .left))
 
 sub-result : tie.Need-sub-result Inv-loop μ-loop
 sub-result c = omega (arith, c .before .loop .inv .ahead)

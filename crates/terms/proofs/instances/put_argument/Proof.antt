@@ -37,7 +37,7 @@ same-length-2 : tie.Need-same-length-2
 same-length-2 c = search needs
 
 returns-2 : tie.Need-returns-2
-returns-2 c = leaf-one _ (c .before .before .before .before .before .before .pre .2) λ k q e xe f. variable-itself _ _ _ _ _ _ _ (c .before .before .before .if1 .left) (rw (c .before .before .field .ensures .0) at (c .if2 .taken)) q e xe f
+returns-2 c = leaf-one _ (c .before .before .before .before .before .pre .2) λ k q e xe f. variable-itself _ _ _ _ _ _ _ (c .before .before .if1 .left) (rw (c .before .field .ensures .0) at (c .if2 .taken)) q e xe f
 
 argument-at-requires : tie.Need-argument-at-requires
 argument-at-requires c κs = search needs
@@ -49,7 +49,7 @@ same-length-3 : tie.Need-same-length-3
 same-length-3 c = search needs
 
 returns-3 : tie.Need-returns-3
-returns-3 c = variable-argument _ (c .before .before .before .before .before .before .before .before .before .before .before .before .args .end) _ _ _ _ _ (c .before .before .before .before .before .before .before .before .before .if1 .left) (c .before .before .before .before .before .before .before .before .field .ensures .0) (c .before .before .before .before .before .before .if2 .left) (c .before .before .before .before .argument-at .ensures) (c .before .before .lift-in .ensures)
+returns-3 c = variable-argument _ (c .before .before .before .before .before .before .before .before .before .before .before .args .end) _ _ _ _ _ (c .before .before .before .before .before .before .before .before .if1 .left) (c .before .before .before .before .before .before .before .field .ensures .0) (c .before .before .before .before .before .before .if2 .left) (c .before .before .before .before .argument-at .ensures _) (c .before .before .lift-in .ensures)
 
 pub put-argument-spec : {M : Type 1} → statement M
 put-argument-spec =

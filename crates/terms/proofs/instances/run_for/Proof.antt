@@ -1,6 +1,4 @@
-use mir.Val.{Fits}
-use mir.Syntax.{w16}
-use lib.ListN.{getD}
+use native.Mathlib.Omega.{arith}
 use Rattle.terms.proofs.Arguments.{run-other, run-itself, run-unknown, run-argument}
 use borrow.Author.Needs.{needs}
 use Rattle.terms.proofs.instances.run_for.Statement.{statement}
@@ -21,23 +19,17 @@ returns-2 c = run-itself _ _ _ _ (c .before .before .if1 .left) (rw (c .before .
 returns-3 : tie.Need-returns-3
 returns-3 c = run-unknown _ _ _ _
 
-mul-first : tie.Need-mul-first
-mul-first c = search needs
-
-element-copy-out-first : tie.Need-element-copy-out-first
-element-copy-out-first c = search needs
+start-at-requires : tie.Need-start-at-requires
+start-at-requires c κs = search needs
 
 cast-first : tie.Need-cast-first
 cast-first c = search needs
 
-add-next : tie.Need-add-next
-add-next c = search needs
+add-start-at : tie.Need-add-start-at
+add-start-at c = search needs
 
-mul-next : tie.Need-mul-next
-mul-next c = search needs
-
-element-copy-out-next : tie.Need-element-copy-out-next
-element-copy-out-next c = search needs
+start-at-requires-2 : tie.Need-start-at-requires-2
+start-at-requires-2 c κs = search needs
 
 cast-next : tie.Need-cast-next
 cast-next c = search needs
@@ -50,8 +42,7 @@ sub-t10 c = search needs
 
 returns-5 : tie.Need-returns-5
 returns-5 c =
-    let f : Fits w16 (getD (c .before .before .before .before .before .before .before .before .args .t3 .starts) (c .before .before .before .before .before .field .result) 0) = search needs in
-    run-argument _ _ _ _ _ (c .before .before .before .before .before .before .if1 .left) (c .before .before .before .before .before .field .ensures .0) (c .before .before .before .before .if2 .left) (c .before .before .before .if3 .left) (f .fits) (c .if4 .left)
+    run-argument _ _ _ _ _ (c .before .before .before .before .before .before .if1 .left) (c .before .before .before .before .before .field .ensures .0) (c .before .before .before .before .if2 .left) (c .before .before .before .if3 .left) (c .before .before .start-at .ensures) (c .before .start-at2 .ensures) (omega (arith, c .before .before .start-at .ok)) (c .if4 .left)
 
 pub run-for-spec : {M : Type 1} → statement M
 run-for-spec =
@@ -62,12 +53,10 @@ run-for-spec =
     field-requires
     returns-2
     returns-3
-    mul-first
-    element-copy-out-first
+    start-at-requires
     cast-first
-    add-next
-    mul-next
-    element-copy-out-next
+    add-start-at
+    start-at-requires-2
     cast-next
     returns-4
     sub-t10

@@ -1,50 +1,51 @@
--- The remaining cells fall: category 4n + 1, application and abstraction 4n of the same cells, argument 4n + 2, arguments 4n + 3 of fewer.
-use mathlib.Core.Path.{_≡_, refl, sym, _∙_}
+-- The remaining cells fall: category 4n + 1, application and abstraction 4n of the same cells, arguments 4n + 2 of fewer.
+use mathlib.Core.Path.{_≡_, refl, sym, ap, _∙_}
 use native.Mathlib.Omega.{arith}
 use borrow.Author.Needs.{needs}
+use mathlib.Core.Logic.{⊎-elim}
 use lib.ListN.{length}
-use Rattle.categories.proofs.Cycle.{category-deep, category-empty, by-variable, by-bound, by-alone, by-constant, by-application, by-abstraction, by-nothing, argument-none, argument-variable, argument-other, application-refused, application-made, abstraction-refused, abstraction-past, abstraction-made}
-use Rattle.categories.proofs.Strings.{Turns, turns-start, turns-more, turns-stop, turns-end, next-noted, next-large, next-past}
+use Rattle.categories.proofs.Cycle.{category-deep, category-empty, by-variable, by-bound, by-alone, by-constant, by-application, by-abstraction, by-nothing, argument-none, argument-stored, argument-other, application-refused, application-made, abstraction-refused, abstraction-past, abstraction-made}
+use Rattle.categories.proofs.Within.{part, part-length, part-first}
+use Rattle.categories.proofs.Strings.{ArgumentPost, Turns, turns-start, turns-more, turns-stop, turns-end}
 use Prim.Native.Nat.{ℕ, _+_, _*_, _-_, _≤_, _<_}
 use borrow.Fn.Kinds.{In}
 use borrow.Fn.PlainCycle.{Measures, is, falls, and}
 use Rattle.categories.proofs.abstraction.Reads as abstraction
 use Rattle.categories.proofs.abstraction.Kinds as abstraction-kinds
-use Rattle.categories.proofs.+abstraction+application+argument+arguments+category.Lts-abstraction as abstraction-lts
+use Rattle.categories.proofs.+abstraction+application+arguments+category.Lts-abstraction as abstraction-lts
 use Rattle.categories.proofs.application.Reads as application
 use Rattle.categories.proofs.application.Kinds as application-kinds
-use Rattle.categories.proofs.+abstraction+application+argument+arguments+category.Lts-application as application-lts
-use Rattle.categories.proofs.argument.Reads as argument
-use Rattle.categories.proofs.argument.Kinds as argument-kinds
-use Rattle.categories.proofs.+abstraction+application+argument+arguments+category.Lts-argument as argument-lts
+use Rattle.categories.proofs.+abstraction+application+arguments+category.Lts-application as application-lts
 use Rattle.categories.proofs.arguments.Reads as arguments
 use Rattle.categories.proofs.arguments.Kinds as arguments-kinds
-use Rattle.categories.proofs.+abstraction+application+argument+arguments+category.Lts-arguments as arguments-lts
+use Rattle.categories.proofs.+abstraction+application+arguments+category.Lts-arguments as arguments-lts
 use Rattle.categories.proofs.category.Reads as category
 use Rattle.categories.proofs.category.Kinds as category-kinds
-use Rattle.categories.proofs.+abstraction+application+argument+arguments+category.Lts-category as category-lts
+use Rattle.categories.proofs.+abstraction+application+arguments+category.Lts-category as category-lts
 use Rattle.categories.proofs.parts.applied.Reads as applied-reads
 use Rattle.categories.proofs.parts.argument_fits.Reads as argument-fits-reads
 use Rattle.categories.proofs.parts.bound.Reads as bound-reads
 use Rattle.categories.proofs.parts.constant.Reads as constant-reads
 use Rattle.categories.proofs.parts.context_of.Reads as context-of-reads
 use Rattle.categories.proofs.parts.context_variable.Reads as context-variable-reads
+use Rattle.categories.proofs.parts.enter_start.Reads as enter-start-reads
 use Rattle.categories.proofs.parts.found_type.Reads as found-type-reads
 use Rattle.categories.proofs.parts.function_of.Reads as function-of-reads
+use Rattle.categories.proofs.parts.is_stored.Reads as is-stored-reads
 use Rattle.categories.proofs.parts.keep_argument.Reads as keep-argument-reads
 use Rattle.categories.proofs.parts.over_binding.Reads as over-binding-reads
 use Rattle.categories.proofs.parts.refused.Reads as refused-reads
 use Rattle.categories.proofs.parts.stored.Reads as stored-reads
 use Rattle.categories.proofs.parts.unfit.Reads as unfit-reads
-use Rattle.categories.proofs.parts.variable_fits.Reads as variable-fits-reads
+use Rattle.categories.proofs.parts.stored_fits.Reads as stored-fits-reads
 use Rattle.cells.proofs.level_at.Reads as level-at-reads
 use Rattle.cells.proofs.field.Reads as field-reads
 use Rattle.cells.proofs.skip.Reads as skip-reads
 use Rattle.cells.proofs.bind.Reads as bind-reads
-use Rattle.categories.proofs.+abstraction+application+argument+arguments+category.{
+use Rattle.categories.proofs.+abstraction+application+arguments+category.{
   statement,
 }
-use Rattle.categories.proofs.+abstraction+application+argument+arguments+category.Tie.{
+use Rattle.categories.proofs.+abstraction+application+arguments+category.Tie.{
   close,
 }
 
@@ -54,11 +55,8 @@ abbrev μ-abstraction : Measures 4 abstraction-kinds.ps ℕ
 abbrev μ-application : Measures 4 application-kinds.ps ℕ
 μ-application κs a = 4 * length (a .1 .1 .0 .now)
 
-abbrev μ-argument : Measures 4 argument-kinds.ps ℕ
-μ-argument κs a = 4 * length (a .1 .1 .0 .now) + 2
-
-abbrev μ-arguments : Measures 4 arguments-kinds.ps ℕ
-μ-arguments κs a = 4 * length (a .1 .1 .0 .now) + 3
+abbrev μ-arguments : Measures 5 arguments-kinds.ps ℕ
+μ-arguments κs a = 4 * length (a .1 .1 .0 .now) + 2
 
 abbrev μ-category : Measures 4 category-kinds.ps ℕ
 μ-category κs a = 4 * length (a .1 .1 .0 .now) + 1
@@ -79,19 +77,12 @@ abbrev application-below : ℕ → In 4 application-kinds.ps
 application-below t =
     and 4 application-kinds.ps (falls 4 application-kinds.ps _<_ μ-application t) application.Pre
 
-abbrev argument-at : ℕ → In 4 argument-kinds.ps
-argument-at t = and 4 argument-kinds.ps (is 4 argument-kinds.ps μ-argument t) argument.Pre
+abbrev arguments-at : ℕ → In 5 arguments-kinds.ps
+arguments-at t = and 5 arguments-kinds.ps (is 5 arguments-kinds.ps μ-arguments t) arguments.Pre
 
-abbrev argument-below : ℕ → In 4 argument-kinds.ps
-argument-below t =
-    and 4 argument-kinds.ps (falls 4 argument-kinds.ps _<_ μ-argument t) argument.Pre
-
-abbrev arguments-at : ℕ → In 4 arguments-kinds.ps
-arguments-at t = and 4 arguments-kinds.ps (is 4 arguments-kinds.ps μ-arguments t) arguments.Pre
-
-abbrev arguments-below : ℕ → In 4 arguments-kinds.ps
+abbrev arguments-below : ℕ → In 5 arguments-kinds.ps
 arguments-below t =
-    and 4 arguments-kinds.ps (falls 4 arguments-kinds.ps _<_ μ-arguments t) arguments.Pre
+    and 5 arguments-kinds.ps (falls 5 arguments-kinds.ps _<_ μ-arguments t) arguments.Pre
 
 abbrev category-at : ℕ → In 4 category-kinds.ps
 category-at t = and 4 category-kinds.ps (is 4 category-kinds.ps μ-category t) category.Pre
@@ -106,11 +97,8 @@ claims-abstraction t = (category-below t, category.Post, found-type-reads.Asked,
 abbrev claims-application : ℕ → application-lts.Claims
 claims-application t = (skip-reads.Asked, skip-reads.Learnt, category-below t, category.Post, function-of-reads.Asked, function-of-reads.Learnt, refused-reads.Asked, refused-reads.Learnt, applied-reads.Asked, applied-reads.Learnt)
 
-abbrev claims-argument : ℕ → argument-lts.Claims
-claims-argument t = (variable-fits-reads.Asked, variable-fits-reads.Learnt, category-below t, category.Post, argument-fits-reads.Asked, argument-fits-reads.Learnt)
-
 abbrev claims-arguments : ℕ → arguments-lts.Claims
-claims-arguments t = (field-reads.Asked, field-reads.Learnt, context-of-reads.Asked, context-of-reads.Learnt, level-at-reads.Asked, level-at-reads.Learnt, context-variable-reads.Asked, context-variable-reads.Learnt, argument-below t, argument.Post, unfit-reads.Asked, unfit-reads.Learnt, keep-argument-reads.Asked, keep-argument-reads.Learnt)
+claims-arguments t = (field-reads.Asked, field-reads.Learnt, context-of-reads.Asked, context-of-reads.Learnt, level-at-reads.Asked, level-at-reads.Learnt, context-variable-reads.Asked, context-variable-reads.Learnt, unfit-reads.Asked, unfit-reads.Learnt, is-stored-reads.Asked, is-stored-reads.Learnt, stored-fits-reads.Asked, stored-fits-reads.Learnt, category-below t, category.Post, argument-fits-reads.Asked, argument-fits-reads.Learnt, keep-argument-reads.Asked, keep-argument-reads.Learnt, enter-start-reads.Asked, enter-start-reads.Learnt)
 
 abbrev claims-category : ℕ → category-lts.Claims
 claims-category t = (refused-reads.Asked, refused-reads.Learnt, stored-reads.Asked, stored-reads.Learnt, bound-reads.Asked, bound-reads.Learnt, field-reads.Asked, field-reads.Learnt, arguments-below t, arguments.Post, constant-reads.Asked, constant-reads.Learnt, application-below t, application.Post, abstraction-below t, abstraction.Post)
@@ -241,74 +229,26 @@ application-same-length-2 t c = search needs
 application-returns-2 : (t : ℕ) → application-lts.Need-returns-2 (claims-application t) (application-at t) application.Post
 application-returns-2 t c = application-made (c .before .before .before .before .before .before .before .before .before .before .before .before .before .before .before .before .before .before .before .before .before .before .before .before .pre .1 .1) (c .before .before .before .before .before .before .before .before .before .before .before .before .before .before .before .before .before .before .before .skip .ensures) (c .before .before .before .before .before .before .before .before .before .before .before .before .before .before .before .before .category .ensures) (c .before .before .before .before .before .before .before .before .before .before .before .before .function-of .ensures) (omega (arith, c .before .before .before .before .before .before .before .before .before .before .before .before .before .before .before .before .before .before .before .before .before .before .before .before .pre)) (c .before .before .before .before .before .before .before .before .before .if1 .left) (c .before .before .before .before .before .before .category2 .ensures) (c .before .before .applied .ensures)
 
-argument-returns : (t : ℕ) → argument-lts.Need-returns (claims-argument t) (argument-at t) argument.Post
-argument-returns t c = argument-none (c .if1 .taken) refl
-
-argument-shared-slice-read-x : (t : ℕ) → argument-lts.Need-shared-slice-read-x (claims-argument t) (argument-at t) argument.Post
-argument-shared-slice-read-x t c = omega arith
-
-argument-cast-v : (t : ℕ) → argument-lts.Need-cast-v (claims-argument t) (argument-at t) argument.Post
-argument-cast-v t c = omega (arith, c .shared-slice-known4 .given 0)
-
-argument-variable-fits-requires : (t : ℕ) → argument-lts.Need-variable-fits-requires (claims-argument t) (argument-at t) argument.Post
-argument-variable-fits-requires t c κs = omega (arith, c .before .before .before .before .before .before .before .before .pre)
-
-argument-same-length : (t : ℕ) → argument-lts.Need-same-length (claims-argument t) (argument-at t) argument.Post
-argument-same-length t c = search needs
-
-argument-returns-2 : (t : ℕ) → argument-lts.Need-returns-2 (claims-argument t) (argument-at t) argument.Post
-argument-returns-2 t c = argument-variable (omega (arith, c .before .before .before .before .before .before .if1 .left)) (c .before .before .before .before .if2 .taken) refl (c .before .before .variable-fits .ensures)
-
-argument-add-category : (t : ℕ) → argument-lts.Need-add-category (claims-argument t) (argument-at t) argument.Post
-argument-add-category t c = omega (arith, c .before .before .before .before .before .before .before .before .pre)
-
-argument-category-requires : (t : ℕ) → argument-lts.Need-category-requires (claims-argument t) (argument-at t) argument.Post
-argument-category-requires t c κs = (omega (arith, c .before .before .before .before .before .before .before .before .pre), omega (arith, c .before .before .before .before .before .before .before .before .pre))
-
-argument-argument-fits-requires : (t : ℕ) → argument-lts.Need-argument-fits-requires (claims-argument t) (argument-at t) argument.Post
-argument-argument-fits-requires t c κs = omega (arith, c .before .before .before .before .before .before .before .before .before .before .before .before .pre)
-
-argument-same-length-2 : (t : ℕ) → argument-lts.Need-same-length-2 (claims-argument t) (argument-at t) argument.Post
-argument-same-length-2 t c = search needs
-
-argument-returns-3 : (t : ℕ) → argument-lts.Need-returns-3 (claims-argument t) (argument-at t) argument.Post
-argument-returns-3 t c = argument-other (c .before .before .before .before .before .before .category .ensures) (c .before .before .argument-fits .ensures)
-
 abbrev arguments-Inv-loop : arguments-lts.InvT-loop
-arguments-Inv-loop table store s scope w₀ limit budget level v count context base starts₀ i₀ at₀ left₀ w starts i at left = (i ≤ count) × (at ≤ length s) × Turns table store s scope w₀ limit budget level v i at left starts w × (length w ≡ length w₀)
+arguments-Inv-loop table store s scope w₀ limit budget level v starts₀ count context base i₀ at₀ left₀ w starts i at left = (i ≤ count) × (at ≤ length s) × Turns table store s scope w₀ limit budget level v i at left starts w × (length w ≡ length w₀)
 
 abbrev arguments-μ-loop : arguments-lts.MeasureT-loop
-arguments-μ-loop table store s scope w₀ limit budget level v count context base starts₀ i₀ at₀ left₀ w starts i at left = count - i
+arguments-μ-loop table store s scope w₀ limit budget level v starts₀ count context base i₀ at₀ left₀ w starts i at left = count - i
 
 arguments-field-requires : (t : ℕ) → arguments-lts.Need-field-requires (claims-arguments t) (arguments-at t) arguments.Post arguments-Inv-loop arguments-μ-loop
 arguments-field-requires t c κs = omega arith
 
 arguments-context-of-requires : (t : ℕ) → arguments-lts.Need-context-of-requires (claims-arguments t) (arguments-at t) arguments.Post arguments-Inv-loop arguments-μ-loop
-arguments-context-of-requires t c κs = tt
+arguments-context-of-requires t c κs = refl
 
 arguments-level-at-requires : (t : ℕ) → arguments-lts.Need-level-at-requires (claims-arguments t) (arguments-at t) arguments.Post arguments-Inv-loop arguments-μ-loop
 arguments-level-at-requires t c κs = tt
 
 arguments-loop-holds : (t : ℕ) → arguments-lts.Need-loop-holds (claims-arguments t) (arguments-at t) arguments.Post arguments-Inv-loop arguments-μ-loop
-arguments-loop-holds t c = (omega arith, omega arith, turns-start refl refl, refl)
+arguments-loop-holds t c = (omega arith, omega arith, turns-start (c .before .before .before .before .before .before .before .before .pre .1 .2) (c .before .before .before .before .before .before .before .before .pre .1 .3), refl)
 
 arguments-context-variable-requires : (t : ℕ) → arguments-lts.Need-context-variable-requires (claims-arguments t) (arguments-at t) arguments.Post arguments-Inv-loop arguments-μ-loop
-arguments-context-variable-requires t c κs = omega (arith, c .before .before .before .before .field .ensures .1, c .loop-test .taken)
-
-arguments-mul-argument : (t : ℕ) → arguments-lts.Need-mul-argument (claims-arguments t) (arguments-at t) arguments.Post arguments-Inv-loop arguments-μ-loop
-arguments-mul-argument t c = omega arith
-
-arguments-sub-argument : (t : ℕ) → arguments-lts.Need-sub-argument (claims-arguments t) (arguments-at t) arguments.Post arguments-Inv-loop arguments-μ-loop
-arguments-sub-argument t c = omega arith
-
-arguments-part-argument-start : (t : ℕ) → arguments-lts.Need-part-argument-start (claims-arguments t) (arguments-at t) arguments.Post arguments-Inv-loop arguments-μ-loop
-arguments-part-argument-start t c = omega arith
-
-arguments-part-argument-end : (t : ℕ) → arguments-lts.Need-part-argument-end (claims-arguments t) (arguments-at t) arguments.Post arguments-Inv-loop arguments-μ-loop
-arguments-part-argument-end t c = omega arith
-
-arguments-argument-requires : (t : ℕ) → arguments-lts.Need-argument-requires (claims-arguments t) (arguments-at t) arguments.Post arguments-Inv-loop arguments-μ-loop
-arguments-argument-requires t c κs = (omega (arith, c .before .before .before .before .before .before .before .before .before .before .before .before .pre, c .before .before .before .before .loop .inv), (omega (arith, c .before .before .before .before .before .before .before .before .before .before .before .before .pre, c .before .before .before .before .loop .inv), omega (arith, c .before .before .before .before .before .before .before .before .before .before .before .before .pre)))
+arguments-context-variable-requires t c κs = omega (arith, c .before .before .before .before .before .before .field .ensures .1, c .before .loop-test .taken)
 
 arguments-unfit-requires : (t : ℕ) → arguments-lts.Need-unfit-requires (claims-arguments t) (arguments-at t) arguments.Post arguments-Inv-loop arguments-μ-loop
 arguments-unfit-requires t c κs = tt
@@ -317,49 +257,85 @@ arguments-same-length : (t : ℕ) → arguments-lts.Need-same-length (claims-arg
 arguments-same-length t c = search needs
 
 arguments-returns : (t : ℕ) → arguments-lts.Need-returns (claims-arguments t) (arguments-at t) arguments.Post arguments-Inv-loop arguments-μ-loop
-arguments-returns t c = turns-stop (c .before .before .before .before .before .before .before .before .before .before .before .before .before .before .before .before .before .pre .1 .1) (c .before .before .before .before .before .before .before .before .before .loop .inv .2) (c .before .before .before .before .before .before .before .before .before .before .before .before .field .ensures .0) (c .before .before .before .before .before .before .before .before .loop-test .taken) (c .before .before .before .before .before .before .before .before .before .before .before .context-of .ensures) (c .before .before .before .before .before .before .before .context-variable .ensures) (λ h. c .before .before .before .before .before .before .before .before .before .before .level-at .ensures h (omega (arith, c .before .before .before .before .before .before .before .before .before .before .before .before .before .before .before .before .before .pre))) (c .before .before .before .before .argument .ensures) (c .before .if1 .taken) (c .unfit .ensures .0) (c .unfit .ensures .1) (c .unfit .ensures .2)
+arguments-returns t c = turns-stop (c .before .before .before .before .before .before .before .before .before .before .before .before .before .before .pre .1 .1) (c .before .before .before .before .before .loop .inv .2) (c .before .before .before .before .before .before .before .before .before .field .ensures .0) (c .before .before .before .before .loop-test .taken) (c .before .before .before .before .before .before .before .context-of .ensures) (c .before .before .context-variable .ensures) (λ h. c .before .before .before .before .before .before .level-at .ensures h (omega (arith, c .before .before .before .before .before .before .before .before .before .before .before .before .before .before .pre))) (argument-none (omega (arith, part-length (c .before .before .before .before .before .before .before .before .before .before .before .before .before .before .args .s .now) (c .before .before .before .before .before .loop .at), c .before .if1 .taken)) refl) (λ z. omega arith) (c .unfit .ensures .0) (c .unfit .ensures .1) (c .unfit .ensures .2)
+
+arguments-mul-x : (t : ℕ) → arguments-lts.Need-mul-x (claims-arguments t) (arguments-at t) arguments.Post arguments-Inv-loop arguments-μ-loop
+arguments-mul-x t c = omega arith
+
+arguments-shared-slice-read-x : (t : ℕ) → arguments-lts.Need-shared-slice-read-x (claims-arguments t) (arguments-at t) arguments.Post arguments-Inv-loop arguments-μ-loop
+arguments-shared-slice-read-x t c = omega arith
+
+arguments-is-stored-requires : (t : ℕ) → arguments-lts.Need-is-stored-requires (claims-arguments t) (arguments-at t) arguments.Post arguments-Inv-loop arguments-μ-loop
+arguments-is-stored-requires t c κs = tt
+
+arguments-cast-u : (t : ℕ) → arguments-lts.Need-cast-u (claims-arguments t) (arguments-at t) arguments.Post arguments-Inv-loop arguments-μ-loop
+arguments-cast-u t c = omega (arith, c .before .before .shared-slice-known4 .given (c .before .before .before .before .before .before .before .loop .at))
+
+arguments-stored-fits-requires : (t : ℕ) → arguments-lts.Need-stored-fits-requires (claims-arguments t) (arguments-at t) arguments.Post arguments-Inv-loop arguments-μ-loop
+arguments-stored-fits-requires t c κs = omega (arith, c .before .before .before .before .before .before .before .before .before .before .before .before .before .before .before .before .before .before .pre)
+
+arguments-mul-category : (t : ℕ) → arguments-lts.Need-mul-category (claims-arguments t) (arguments-at t) arguments.Post arguments-Inv-loop arguments-μ-loop
+arguments-mul-category t c = omega arith
+
+arguments-sub-category : (t : ℕ) → arguments-lts.Need-sub-category (claims-arguments t) (arguments-at t) arguments.Post arguments-Inv-loop arguments-μ-loop
+arguments-sub-category t c = omega arith
+
+arguments-part-category-start : (t : ℕ) → arguments-lts.Need-part-category-start (claims-arguments t) (arguments-at t) arguments.Post arguments-Inv-loop arguments-μ-loop
+arguments-part-category-start t c = omega arith
+
+arguments-part-category-end : (t : ℕ) → arguments-lts.Need-part-category-end (claims-arguments t) (arguments-at t) arguments.Post arguments-Inv-loop arguments-μ-loop
+arguments-part-category-end t c = omega arith
+
+arguments-add-category : (t : ℕ) → arguments-lts.Need-add-category (claims-arguments t) (arguments-at t) arguments.Post arguments-Inv-loop arguments-μ-loop
+arguments-add-category t c = omega (arith, c .before .before .before .before .before .before .before .before .before .before .before .before .before .before .before .before .before .before .pre)
+
+arguments-category-requires : (t : ℕ) → arguments-lts.Need-category-requires (claims-arguments t) (arguments-at t) arguments.Post arguments-Inv-loop arguments-μ-loop
+arguments-category-requires t c κs = (omega (arith, c .before .before .before .before .before .before .before .before .before .before .before .before .before .before .before .before .before .before .pre, c .before .before .before .before .before .before .before .before .before .loop .inv), omega (arith, c .before .before .before .before .before .before .before .before .before .before .before .before .before .before .before .before .before .before .pre, c .before .before .before .before .before .before .before .before .before .loop .inv))
+
+arguments-argument-fits-requires : (t : ℕ) → arguments-lts.Need-argument-fits-requires (claims-arguments t) (arguments-at t) arguments.Post arguments-Inv-loop arguments-μ-loop
+arguments-argument-fits-requires t c κs = omega (arith, c .before .before .before .before .before .before .before .before .before .before .before .before .before .before .before .before .before .before .before .before .before .before .before .pre)
+
+-- the argument at hand, by whichever way
+arguments-fitted : (t : ℕ) (c : arguments-lts.Joined2 (claims-arguments t) (arguments-at t) arguments.Post arguments-Inv-loop arguments-μ-loop)
+    → ArgumentPost (c .before .before .before .before .before .before .before .before .before .before .before .before .before .before .before .before .args .table .now) (c .before .before .before .before .before .before .before .before .before .before .before .before .before .before .before .before .args .store .now) (part (c .before .before .before .before .before .before .before .before .before .before .before .before .before .before .before .before .args .s .now) (c .before .before .before .before .before .before .before .loop .at)) (c .before .before .before .before .before .before .before .before .before .before .before .before .before .before .before .before .args .scope) (c .before .before .before .before .before .before .before .loop .w) (c .before .before .before .before .before .before .before .before .before .before .before .before .before .before .before .before .args .limit) (c .before .before .before .before .before .before .before .loop .left) (c .before .before .before .before .before .before .before .before .before .before .before .before .before .before .before .before .args .level) (c .before .before .before .before .context-variable .result) (c .before .before .before .before .before .before .before .before .level-at .result) (c .before .before .before .before .before .before .before .loop .i) (c .before .before .before .before .before .before .before .loop .starts) (c .if2 .w) (c .if2 .f .code) (c .if2 .f .extent) (c .if2 .f .budget)
+    × (length (c .if2 .w) ≡ length (c .before .before .before .before .before .before .before .loop .w))
+arguments-fitted t c =
+    ⊎-elim (λ a. (rw (a .6, a .7) (argument-stored (a .3 .ensures) (omega (arith, part-length (c .before .before .before .before .before .before .before .before .before .before .before .before .before .before .before .before .args .s .now) (c .before .before .before .before .before .before .before .loop .at), c .before .before .before .if1 .left)) (sym (part-first (c .before .before .before .before .before .before .before .before .before .before .before .before .before .before .before .before .args .s .now) (c .before .before .before .before .before .before .before .loop .at))) refl (c .before .is-stored .ensures) (a .0 .taken)), omega (arith, ap length (a .6), a .4 .given)))
+    (λ a. (rw (a .11, a .12) (argument-other (a .3 .ensures) (a .8 .ensures)), omega (arith, ap length (a .11), a .4 .given, a .9 .given)))
+    (c .if2 .came)
+
+arguments-unfit-requires-2 : (t : ℕ) → arguments-lts.Need-unfit-requires-2 (claims-arguments t) (arguments-at t) arguments.Post arguments-Inv-loop arguments-μ-loop
+arguments-unfit-requires-2 t c κs = tt
+
+arguments-same-length-2 : (t : ℕ) → arguments-lts.Need-same-length-2 (claims-arguments t) (arguments-at t) arguments.Post arguments-Inv-loop arguments-μ-loop
+arguments-same-length-2 t c = omega (arith, arguments-fitted t (c .before .before) .1, c .before .before .before .before .before .before .before .before .before .loop .inv)
+
+arguments-returns-2 : (t : ℕ) → arguments-lts.Need-returns-2 (claims-arguments t) (arguments-at t) arguments.Post arguments-Inv-loop arguments-μ-loop
+arguments-returns-2 t c = turns-stop (c .before .before .before .before .before .before .before .before .before .before .before .before .before .before .before .before .before .before .pre .1 .1) (c .before .before .before .before .before .before .before .before .before .loop .inv .2) (c .before .before .before .before .before .before .before .before .before .before .before .before .before .field .ensures .0) (c .before .before .before .before .before .before .before .before .loop-test .taken) (c .before .before .before .before .before .before .before .before .before .before .before .context-of .ensures) (c .before .before .before .before .before .before .context-variable .ensures) (λ h. c .before .before .before .before .before .before .before .before .before .before .level-at .ensures h (omega (arith, c .before .before .before .before .before .before .before .before .before .before .before .before .before .before .before .before .before .before .pre))) (arguments-fitted t (c .before .before) .0) (c .before .if3 .taken) (c .unfit2 .ensures .0) (c .unfit2 .ensures .1) (c .unfit2 .ensures .2)
 
 arguments-keep-argument-requires : (t : ℕ) → arguments-lts.Need-keep-argument-requires (claims-arguments t) (arguments-at t) arguments.Post arguments-Inv-loop arguments-μ-loop
 arguments-keep-argument-requires t c κs = omega (arith, c .before .before .before .before .before .before .before .before .before .loop .inv)
 
 arguments-add-at : (t : ℕ) → arguments-lts.Need-add-at (claims-arguments t) (arguments-at t) arguments.Post arguments-Inv-loop arguments-μ-loop
-arguments-add-at t c = omega (arith, c .before .before .before .before .before .before .before .argument .ensures .within, c .before .before .before .before .before .before .before .before .before .before .before .before .loop .inv, c .before .before .before .before .before .before .before .before .before .before .before .before .before .before .before .before .before .before .before .before .good)
+arguments-add-at t c = omega (arith, arguments-fitted t (c .before .before .before .before .before) .0 .within, part-length (c .before .before .before .before .before .before .before .before .before .before .before .before .before .before .before .before .before .before .before .before .before .args .s .now) (c .before .before .before .before .before .before .before .before .before .before .before .before .loop .at), c .before .before .before .before .before .before .before .before .before .before .before .before .loop .inv, c .before .before .before .before .before .before .before .before .before .before .before .before .before .before .before .before .before .before .before .before .before .good .1 .1)
 
 arguments-add-i : (t : ℕ) → arguments-lts.Need-add-i (claims-arguments t) (arguments-at t) arguments.Post arguments-Inv-loop arguments-μ-loop
-arguments-add-i t c = omega (arith, c .before .before .before .before .before .before .before .before .before .before .before .before .before .before .before .field .ensures .1, c .before .before .before .before .before .before .before .before .before .before .before .loop-test .taken)
+arguments-add-i t c = omega (arith, c .before .before .before .before .before .before .before .before .before .before .before .before .before .before .before .before .field .ensures .1, c .before .before .before .before .before .before .before .before .before .before .before .loop-test .taken)
 
-arguments-cast-starts : (t : ℕ) → arguments-lts.Need-cast-starts (claims-arguments t) (arguments-at t) arguments.Post arguments-Inv-loop arguments-μ-loop
-arguments-cast-starts t c = omega arith
-
-arguments-mul-starts : (t : ℕ) → arguments-lts.Need-mul-starts (claims-arguments t) (arguments-at t) arguments.Post arguments-Inv-loop arguments-μ-loop
-arguments-mul-starts t c = omega arith
-
-arguments-array-write-starts : (t : ℕ) → arguments-lts.Need-array-write-starts (claims-arguments t) (arguments-at t) arguments.Post arguments-Inv-loop arguments-μ-loop
-arguments-array-write-starts t c = omega arith
+arguments-enter-start-requires : (t : ℕ) → arguments-lts.Need-enter-start-requires (claims-arguments t) (arguments-at t) arguments.Post arguments-Inv-loop arguments-μ-loop
+arguments-enter-start-requires t c κs = tt
 
 arguments-loop-less : (t : ℕ) → arguments-lts.Need-loop-less (claims-arguments t) (arguments-at t) arguments.Post arguments-Inv-loop arguments-μ-loop
 arguments-loop-less t c = omega (arith, c .before .before .before .before .before .before .before .before .before .before .before .before .before .loop-test .taken)
 
 arguments-loop-again : (t : ℕ) → arguments-lts.Need-loop-again (claims-arguments t) (arguments-at t) arguments.Post arguments-Inv-loop arguments-μ-loop
-arguments-loop-again t c = (omega (arith, c .before .before .before .before .before .before .before .before .before .before .before .before .before .loop-test .taken), omega (arith, c .before .before .before .before .before .before .before .before .before .argument .ensures .within, c .before .before .before .before .before .before .before .before .before .before .before .before .before .before .loop .inv), turns-more (c .before .before .before .before .before .before .before .before .before .before .before .before .before .before .before .before .before .before .before .before .before .before .pre .1 .1) (c .before .before .before .before .before .before .before .before .before .before .before .before .before .before .loop .inv .2) (c .before .before .before .before .before .before .before .before .before .before .before .before .before .before .before .before .before .field .ensures .0) (c .before .before .before .before .before .before .before .before .before .before .before .before .before .loop-test .taken) (c .before .before .before .before .before .before .before .before .before .before .before .before .before .before .before .before .context-of .ensures) (c .before .before .before .before .before .before .before .before .before .before .before .before .context-variable .ensures) (λ h. c .before .before .before .before .before .before .before .before .before .before .before .before .before .before .before .level-at .ensures h (omega (arith, c .before .before .before .before .before .before .before .before .before .before .before .before .before .before .before .before .before .before .before .before .before .before .pre))) (c .before .before .before .before .before .before .before .before .before .argument .ensures) (c .before .before .before .before .before .before .if1 .left) (c .before .before .before .before .keep-argument .ensures) (next-noted (c .before .if2 .taken)), omega (arith, c .before .before .before .before .before .before .before .before .w .given, c .before .before .before .w2 .given, c .before .before .before .before .before .before .before .before .before .before .before .before .before .before .loop .inv))
+arguments-loop-again t c = (omega (arith, c .before .before .before .before .before .before .before .before .before .before .before .before .before .loop-test .taken), omega (arith, arguments-fitted t (c .before .before .before .before .before .before .before) .0 .within, part-length (c .before .before .before .before .before .before .before .before .before .before .before .before .before .before .before .before .before .before .before .before .before .before .before .args .s .now) (c .before .before .before .before .before .before .before .before .before .before .before .before .before .before .loop .at), c .before .before .before .before .before .before .before .before .before .before .before .before .before .before .loop .inv), turns-more (c .before .before .before .before .before .before .before .before .before .before .before .before .before .before .before .before .before .before .before .before .before .before .before .pre .1 .1) (c .before .before .before .before .before .before .before .before .before .before .before .before .before .before .loop .inv .2) (c .before .before .before .before .before .before .before .before .before .before .before .before .before .before .before .before .before .before .field .ensures .0) (c .before .before .before .before .before .before .before .before .before .before .before .before .before .loop-test .taken) (c .before .before .before .before .before .before .before .before .before .before .before .before .before .before .before .before .context-of .ensures) (c .before .before .before .before .before .before .before .before .before .before .before .context-variable .ensures) (λ h. c .before .before .before .before .before .before .before .before .before .before .before .before .before .before .before .level-at .ensures h (omega (arith, c .before .before .before .before .before .before .before .before .before .before .before .before .before .before .before .before .before .before .before .before .before .before .before .pre))) (arguments-fitted t (c .before .before .before .before .before .before .before) .0) (c .before .before .before .before .before .before .if3 .left) (c .before .before .before .before .keep-argument .ensures) (c .enter-start .ensures), omega (arith, arguments-fitted t (c .before .before .before .before .before .before .before) .1, c .before .before .before .w4 .given, c .before .before .before .before .before .before .before .before .before .before .before .before .before .before .loop .inv))
 
-arguments-loop-less-2 : (t : ℕ) → arguments-lts.Need-loop-less-2 (claims-arguments t) (arguments-at t) arguments.Post arguments-Inv-loop arguments-μ-loop
-arguments-loop-less-2 t c = omega (arith, c .before .before .before .before .before .before .before .before .before .before .before .before .before .loop-test .taken)
+arguments-same-length-3 : (t : ℕ) → arguments-lts.Need-same-length-3 (claims-arguments t) (arguments-at t) arguments.Post arguments-Inv-loop arguments-μ-loop
+arguments-same-length-3 t c = search needs
 
-arguments-loop-again-2 : (t : ℕ) → arguments-lts.Need-loop-again-2 (claims-arguments t) (arguments-at t) arguments.Post arguments-Inv-loop arguments-μ-loop
-arguments-loop-again-2 t c = (omega (arith, c .before .before .before .before .before .before .before .before .before .before .before .before .before .loop-test .taken), omega (arith, c .before .before .before .before .before .before .before .before .before .argument .ensures .within, c .before .before .before .before .before .before .before .before .before .before .before .before .before .before .loop .inv), turns-more (c .before .before .before .before .before .before .before .before .before .before .before .before .before .before .before .before .before .before .before .before .before .before .pre .1 .1) (c .before .before .before .before .before .before .before .before .before .before .before .before .before .before .loop .inv .2) (c .before .before .before .before .before .before .before .before .before .before .before .before .before .before .before .before .before .field .ensures .0) (c .before .before .before .before .before .before .before .before .before .before .before .before .before .loop-test .taken) (c .before .before .before .before .before .before .before .before .before .before .before .before .before .before .before .before .context-of .ensures) (c .before .before .before .before .before .before .before .before .before .before .before .before .context-variable .ensures) (λ h. c .before .before .before .before .before .before .before .before .before .before .before .before .before .before .before .level-at .ensures h (omega (arith, c .before .before .before .before .before .before .before .before .before .before .before .before .before .before .before .before .before .before .before .before .before .before .pre))) (c .before .before .before .before .before .before .before .before .before .argument .ensures) (c .before .before .before .before .before .before .if1 .left) (c .before .before .before .before .keep-argument .ensures) (next-large (c .before .if2 .taken) (c .if3 .left)), omega (arith, c .before .before .before .before .before .before .before .before .w .given, c .before .before .before .w2 .given, c .before .before .before .before .before .before .before .before .before .before .before .before .before .before .loop .inv))
-
-arguments-loop-less-3 : (t : ℕ) → arguments-lts.Need-loop-less-3 (claims-arguments t) (arguments-at t) arguments.Post arguments-Inv-loop arguments-μ-loop
-arguments-loop-less-3 t c = omega (arith, c .before .before .before .before .before .before .before .before .before .before .before .before .loop-test .taken)
-
-arguments-loop-again-3 : (t : ℕ) → arguments-lts.Need-loop-again-3 (claims-arguments t) (arguments-at t) arguments.Post arguments-Inv-loop arguments-μ-loop
-arguments-loop-again-3 t c = (omega (arith, c .before .before .before .before .before .before .before .before .before .before .before .before .loop-test .taken), omega (arith, c .before .before .before .before .before .before .before .before .argument .ensures .within, c .before .before .before .before .before .before .before .before .before .before .before .before .before .loop .inv), turns-more (c .before .before .before .before .before .before .before .before .before .before .before .before .before .before .before .before .before .before .before .before .before .pre .1 .1) (c .before .before .before .before .before .before .before .before .before .before .before .before .before .loop .inv .2) (c .before .before .before .before .before .before .before .before .before .before .before .before .before .before .before .before .field .ensures .0) (c .before .before .before .before .before .before .before .before .before .before .before .before .loop-test .taken) (c .before .before .before .before .before .before .before .before .before .before .before .before .before .before .before .context-of .ensures) (c .before .before .before .before .before .before .before .before .before .before .before .context-variable .ensures) (λ h. c .before .before .before .before .before .before .before .before .before .before .before .before .before .before .level-at .ensures h (omega (arith, c .before .before .before .before .before .before .before .before .before .before .before .before .before .before .before .before .before .before .before .before .before .pre))) (c .before .before .before .before .before .before .before .before .argument .ensures) (c .before .before .before .before .before .if1 .left) (c .before .before .before .keep-argument .ensures) (next-past (c .if2 .left)), omega (arith, c .before .before .before .before .before .before .before .w .given, c .before .before .w2 .given, c .before .before .before .before .before .before .before .before .before .before .before .before .before .loop .inv))
-
-arguments-same-length-2 : (t : ℕ) → arguments-lts.Need-same-length-2 (claims-arguments t) (arguments-at t) arguments.Post arguments-Inv-loop arguments-μ-loop
-arguments-same-length-2 t c = search needs
-
-arguments-returns-2 : (t : ℕ) → arguments-lts.Need-returns-2 (claims-arguments t) (arguments-at t) arguments.Post arguments-Inv-loop arguments-μ-loop
-arguments-returns-2 t c = turns-end (c .before .before .before .before .field .ensures .0) (c .before .loop .inv .0) (c .loop-test .left) (c .before .loop .inv .1) (c .before .loop .inv .2)
+arguments-returns-3 : (t : ℕ) → arguments-lts.Need-returns-3 (claims-arguments t) (arguments-at t) arguments.Post arguments-Inv-loop arguments-μ-loop
+arguments-returns-3 t c = turns-end (c .before .before .before .before .before .field .ensures .0) (c .before .loop .inv .0) (c .loop-test .left) (c .before .loop .inv .1) (c .before .loop .inv .2)
 
 category-refused-requires : (t : ℕ) → category-lts.Need-refused-requires (claims-category t) (category-at t) category.Post
 category-refused-requires t c κs = tt
@@ -407,10 +383,10 @@ category-part-arguments-end : (t : ℕ) → category-lts.Need-part-arguments-end
 category-part-arguments-end t c = omega arith
 
 category-arguments-requires : (t : ℕ) → category-lts.Need-arguments-requires (claims-category t) (category-at t) category.Post
-category-arguments-requires t c κs = (omega arith, (omega arith, omega arith))
+category-arguments-requires t c κs = (omega arith, (omega arith, omega arith, refl, refl))
 
 category-constant-requires : (t : ℕ) → category-lts.Need-constant-requires (claims-category t) (category-at t) category.Post
-category-constant-requires t c κs = (omega (arith, c .before .before .before .before .before .before .before .before .before .before .before .if1 .left), omega (arith, c .before .before .before .arguments .ensures .within, c .before .before .before .before .before .before .before .before .before .before .before .before .before .before .before .before .good))
+category-constant-requires t c κs = (omega (arith, c .before .before .before .before .before .before .before .before .before .before .before .before .before .if1 .left), omega (arith, c .before .before .before .before .arguments .ensures .within, c .before .before .before .before .before .before .before .before .before .before .before .before .before .before .before .before .before .before .good))
 
 category-application-requires : (t : ℕ) → category-lts.Need-application-requires (claims-category t) (category-at t) category.Post
 category-application-requires t c κs = (omega arith, (omega arith, omega arith, omega arith))
@@ -437,7 +413,7 @@ category-same-length-4 : (t : ℕ) → category-lts.Need-same-length-4 (claims-c
 category-same-length-4 t c = search needs
 
 category-returns-6 : (t : ℕ) → category-lts.Need-returns-6 (claims-category t) (category-at t) category.Post
-category-returns-6 t c = by-constant (omega (arith, c .before .before .before .before .before .before .before .before .before .before .before .before .before .if2 .left)) (c .before .before .before .before .before .before .before .before .before .before .before .match .keys3) refl (c .before .before .before .before .before .before .arguments .ensures) (c .before .before .constant .ensures)
+category-returns-6 t c = by-constant (omega (arith, c .before .before .before .before .before .before .before .before .before .before .before .before .before .before .before .if2 .left)) (c .before .before .before .before .before .before .before .before .before .before .before .before .before .match .keys3) refl (c .before .before .before .before .before .before .before .arguments .ensures) (c .before .before .constant .ensures)
 
 category-same-length-5 : (t : ℕ) → category-lts.Need-same-length-5 (claims-category t) (category-at t) category.Post
 category-same-length-5 t c = search needs
@@ -454,9 +430,9 @@ category-returns-8 t c = by-abstraction (c .before .before .before .before .matc
 category-returns-9 : (t : ℕ) → category-lts.Need-returns-9 (claims-category t) (category-at t) category.Post
 category-returns-9 t c = by-nothing (c .before .match .rest .0 .0 .0 .0 .1) (c .before .match .rest .0 .0 .0 .1) (c .before .match .rest .0 .0 .1) (c .before .match .rest .0 .1) (c .before .match .rest .1) (c .refused3 .ensures .1) refl
 
-pub +abstraction+application+argument+arguments+category-spec : {M : Type 1} → statement M
-+abstraction+application+argument+arguments+category-spec =
-    close μ-abstraction μ-application μ-argument μ-arguments μ-category (λ t. abstraction-lts.spec (
+pub +abstraction+application+arguments+category-spec : {M : Type 1} → statement M
++abstraction+application+arguments+category-spec =
+    close μ-abstraction μ-application μ-arguments μ-category (λ t. abstraction-lts.spec (
       category-below t,
       category.Post,
       found-type-reads.Asked,
@@ -526,27 +502,6 @@ pub +abstraction+application+argument+arguments+category-spec : {M : Type 1} →
     (application-applied-requires t)
     (application-same-length-2 t)
     (application-returns-2 t))
-    (λ t. argument-lts.spec (
-      variable-fits-reads.Asked,
-      variable-fits-reads.Learnt,
-      category-below t,
-      category.Post,
-      argument-fits-reads.Asked,
-      argument-fits-reads.Learnt,
-    )
-    (argument-at t)
-    argument.Post
-    (argument-returns t)
-    (argument-shared-slice-read-x t)
-    (argument-cast-v t)
-    (argument-variable-fits-requires t)
-    (argument-same-length t)
-    (argument-returns-2 t)
-    (argument-add-category t)
-    (argument-category-requires t)
-    (argument-argument-fits-requires t)
-    (argument-same-length-2 t)
-    (argument-returns-3 t))
     (λ t. arguments-lts.spec (
       field-reads.Asked,
       field-reads.Learnt,
@@ -556,12 +511,20 @@ pub +abstraction+application+argument+arguments+category-spec : {M : Type 1} →
       level-at-reads.Learnt,
       context-variable-reads.Asked,
       context-variable-reads.Learnt,
-      argument-below t,
-      argument.Post,
       unfit-reads.Asked,
       unfit-reads.Learnt,
+      is-stored-reads.Asked,
+      is-stored-reads.Learnt,
+      stored-fits-reads.Asked,
+      stored-fits-reads.Learnt,
+      category-below t,
+      category.Post,
+      argument-fits-reads.Asked,
+      argument-fits-reads.Learnt,
       keep-argument-reads.Asked,
       keep-argument-reads.Learnt,
+      enter-start-reads.Asked,
+      enter-start-reads.Learnt,
     )
     (arguments-at t)
     arguments.Post
@@ -572,28 +535,32 @@ pub +abstraction+application+argument+arguments+category-spec : {M : Type 1} →
     (arguments-level-at-requires t)
     (arguments-loop-holds t)
     (arguments-context-variable-requires t)
-    (arguments-mul-argument t)
-    (arguments-sub-argument t)
-    (arguments-part-argument-start t)
-    (arguments-part-argument-end t)
-    (arguments-argument-requires t)
     (arguments-unfit-requires t)
     (arguments-same-length t)
     (arguments-returns t)
+    (arguments-mul-x t)
+    (arguments-shared-slice-read-x t)
+    (arguments-is-stored-requires t)
+    (arguments-cast-u t)
+    (arguments-stored-fits-requires t)
+    (arguments-mul-category t)
+    (arguments-sub-category t)
+    (arguments-part-category-start t)
+    (arguments-part-category-end t)
+    (arguments-add-category t)
+    (arguments-category-requires t)
+    (arguments-argument-fits-requires t)
+    (arguments-unfit-requires-2 t)
+    (arguments-same-length-2 t)
+    (arguments-returns-2 t)
     (arguments-keep-argument-requires t)
     (arguments-add-at t)
     (arguments-add-i t)
-    (arguments-cast-starts t)
-    (arguments-mul-starts t)
-    (arguments-array-write-starts t)
+    (arguments-enter-start-requires t)
     (arguments-loop-less t)
     (arguments-loop-again t)
-    (arguments-loop-less-2 t)
-    (arguments-loop-again-2 t)
-    (arguments-loop-less-3 t)
-    (arguments-loop-again-3 t)
-    (arguments-same-length-2 t)
-    (arguments-returns-2 t))
+    (arguments-same-length-3 t)
+    (arguments-returns-3 t))
     λ t. category-lts.spec (
       refused-reads.Asked,
       refused-reads.Learnt,

@@ -1,0 +1,85 @@
+use native.Mathlib.Omega.{arith}
+use mathlib.Core.Path.{refl}
+use Prim.Native.Nat.{_+_}
+use Rattle.symbols.specs.Symbols.{fourAt}
+use borrow.Author.Needs.{needs}
+use Rattle.symbols.proofs.four.Statement.{statement}
+use Rattle.symbols.proofs.four.Tie as tie
+
+shared-slice-read-a : tie.Need-shared-slice-read-a
+shared-slice-read-a c = search needs
+
+cast-a : tie.Need-cast-a
+cast-a c = omega (arith, c .shared-slice-known .given (c .before .args .i))
+
+add-b : tie.Need-add-b
+add-b c = search needs
+
+shared-slice-read-b : tie.Need-shared-slice-read-b
+shared-slice-read-b c = search needs
+
+cast-b : tie.Need-cast-b
+cast-b c = omega (arith, c .shared-slice-known2 .given (c .before .before .args .i + 1))
+
+add-c : tie.Need-add-c
+add-c c = search needs
+
+shared-slice-read-c : tie.Need-shared-slice-read-c
+shared-slice-read-c c = search needs
+
+cast-c : tie.Need-cast-c
+cast-c c = omega (arith, c .shared-slice-known3 .given (c .before .before .before .args .i + 2))
+
+add-d : tie.Need-add-d
+add-d c = search needs
+
+shared-slice-read-d : tie.Need-shared-slice-read-d
+shared-slice-read-d c = search needs
+
+cast-d : tie.Need-cast-d
+cast-d c = omega (arith, c .shared-slice-known4 .given (c .before .before .before .before .args .i + 3))
+
+mul-result : tie.Need-mul-result
+mul-result c = omega (arith, c .shared-slice-known4 .given (c .before .before .before .before .args .i + 1))
+
+add-result : tie.Need-add-result
+add-result c = omega (arith, c .shared-slice-known4 .given (c .before .before .before .before .args .i), c .shared-slice-known4 .given (c .before .before .before .before .args .i + 1))
+
+mul-result-2 : tie.Need-mul-result-2
+mul-result-2 c = omega (arith, c .shared-slice-known4 .given (c .before .before .before .before .args .i + 2))
+
+add-result-2 : tie.Need-add-result-2
+add-result-2 c = omega (arith, c .shared-slice-known4 .given (c .before .before .before .before .args .i), c .shared-slice-known4 .given (c .before .before .before .before .args .i + 1), c .shared-slice-known4 .given (c .before .before .before .before .args .i + 2))
+
+mul-result-3 : tie.Need-mul-result-3
+mul-result-3 c = omega (arith, c .shared-slice-known4 .given (c .before .before .before .before .args .i + 3))
+
+add-result-3 : tie.Need-add-result-3
+add-result-3 c = omega (arith, c .shared-slice-known4 .given (c .before .before .before .before .args .i), c .shared-slice-known4 .given (c .before .before .before .before .args .i + 1), c .shared-slice-known4 .given (c .before .before .before .before .args .i + 2), c .shared-slice-known4 .given (c .before .before .before .before .args .i + 3))
+
+returns : tie.Need-returns
+unfolding fourAt
+returns c = refl
+
+pub four-spec : {M : Type 1} → statement M
+four-spec =
+    tie.close
+    (tie.spec
+    shared-slice-read-a
+    cast-a
+    add-b
+    shared-slice-read-b
+    cast-b
+    add-c
+    shared-slice-read-c
+    cast-c
+    add-d
+    shared-slice-read-d
+    cast-d
+    mul-result
+    add-result
+    mul-result-2
+    add-result-2
+    mul-result-3
+    add-result-3
+    returns)
