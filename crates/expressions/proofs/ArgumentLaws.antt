@@ -16,12 +16,11 @@ use Rattle.cells.specs.declared.scope.Scope.{Scope}
 use Rattle.names.specs.Known.{boundNames}
 use Rattle.expressions.specs.declared.parts.Reading.{Reading}
 use Rattle.expressions.specs.Walk.{ReadTo, passed, SameBelow}
-use Rattle.expressions.specs.Posts.{Ready, Refusing, ExpressionRead, Counted, ArgumentsRead}
+use Rattle.expressions.specs.Posts.{goOn, Ready, Refusing, ExpressionRead, Counted, ArgumentsRead}
 use Rattle.expressions.proofs.StoreLaws.{below-same, below-then}
 use Rattle.expressions.proofs.ReadLaws.{then-refused, then-passed, then-done, then-stop, then-give, read-is, comma-read, close-read, neither-read}
 use Rattle.expressions.proofs.WrittenLaws.{no-arguments-written, argument-written}
 use Rattle.expressions.proofs.ExpressionLaws.{ready-on, onward-refused, symbol-read, symbol-missing, symbol-kinds, code-malformed}
-use Rattle.expressions.proofs.PairLaws.{goOn}
 
 -- `count` arguments were read from r on; what is read of the rest, from `at` on, is read of the whole
 pub record ArgumentsSoFar (ks s : Bytes) (scope : Scope) (book tb : List ℕ) (lines indicator : ℕ) (w₀ w : List ℕ) (r : Reading) (at to fault count : ℕ) : Type 0 where
@@ -152,19 +151,3 @@ module _ {ks s : Bytes} {scope : Scope} {book tb : List ℕ} {lines indicator : 
                       (no-arguments-written ls (contextAt ls indicator) (boundNames s scope) wA (a .to) (a .fault));
                 })))));
           }
-
--- only the place, the cell and the fault of r matter
-pub arguments-of : {ks s : Bytes} {scope : Scope} {book tb : List ℕ} {lines indicator : ℕ} {w w′ : List ℕ} {r r′ : Reading}
-    → ArgumentsRead ks s scope book tb lines indicator w w′ (goOn (r .at) (r .to) (r .fault)) r′ → ArgumentsRead ks s scope book tb lines indicator w w′ r r′
-arguments-of h =
-    record {
-      onward =
-          record {
-            below = h .onward .below;
-            up = h .onward .up;
-            from = h .onward .from;
-            inside = h .onward .inside;
-            fewer = h .onward .fewer;
-          };
-      read = h .read;
-    }

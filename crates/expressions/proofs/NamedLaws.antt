@@ -21,12 +21,11 @@ use Rattle.names.specs.declared.names.Meaning.{Meaning}
 use Rattle.names.proofs.PartLaws.{nested-names, bound-start, bound-nowhere}
 use Rattle.expressions.specs.declared.parts.Reading.{Reading}
 use Rattle.expressions.specs.Walk.{ReadTo, passed, CellPut, Written}
-use Rattle.expressions.specs.Posts.{Ready, Refusing, ExpressionRead, Counted, ArgumentsRead, NamePut, CountTested}
+use Rattle.expressions.specs.Posts.{goOn, Ready, Refusing, ExpressionRead, Counted, ArgumentsRead, NamePut, CountTested}
 use Rattle.expressions.proofs.StoreLaws.{below-same, below-then, below-put}
 use Rattle.expressions.proofs.ReadLaws.{then-done, then-stop, then-give-on, then-map, read-is, no-arguments, some-arguments}
 use Rattle.expressions.proofs.WrittenLaws.{no-arguments-written, name-written}
 use Rattle.expressions.proofs.ExpressionLaws.{ready-on, ready-inner, sized-nested, onward-refused, symbol-read, symbol-missing, symbol-kinds, code-malformed}
-use Rattle.expressions.proofs.PairLaws.{goOn}
 
 -- ---- a name's cell
 

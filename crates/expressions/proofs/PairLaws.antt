@@ -17,15 +17,11 @@ use Rattle.cells.specs.Posts.{Nested, Bound}
 use Rattle.names.specs.Known.{boundNames}
 use Rattle.expressions.specs.declared.parts.Reading.{Reading}
 use Rattle.expressions.specs.Walk.{CellPut}
-use Rattle.expressions.specs.Posts.{Ready, Refusing, Onward, ExpressionRead}
+use Rattle.expressions.specs.Posts.{goOn, Ready, Refusing, Onward, ExpressionRead}
 use Rattle.expressions.proofs.StoreLaws.{below-same, below-then, below-put}
 use Rattle.expressions.proofs.ReadLaws.{then-refused, then-passed, then-done, then-stop, then-give}
 use Rattle.expressions.proofs.WrittenLaws.{application-written, abstraction-written}
 use Rattle.expressions.proofs.ExpressionLaws.{ready-on, level-read, body-read, onward-refused, symbol-read, symbol-missing, symbol-kinds, code-malformed}
-
--- where a walk goes on
-abbrev pub goOn : ℕ → ℕ → ℕ → Reading
-goOn at to fault = record { code = 0; at = at; to = to; fault = fault; count = 0 }
 
 -- the steps of a walk, one after the other
 pub onward-then : {s : Bytes} {w w₁ w₂ : List ℕ} {r r₁ r₂ r₃ : Reading} → Onward s w w₁ r r₁ → r₁ .at ≤ r₂ .at → r .to ≤ r₂ .to → Onward s w₁ w₂ r₂ r₃ → Onward s w w₂ r r₃

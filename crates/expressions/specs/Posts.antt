@@ -21,6 +21,10 @@ use Rattle.names.specs.declared.names.Meaning.{Meaning}
 use Rattle.expressions.specs.declared.parts.Reading.{Reading}
 use Rattle.expressions.specs.Walk.{ReadTo, SameBelow, CellPut, Written}
 
+-- a walk that goes on at byte `at` and cell `to`, with the first fault of a name so far
+abbrev pub goOn : ℕ → ℕ → ℕ → Reading
+goOn at to fault = record { code = 0; at = at; to = to; fault = fault; count = 0 }
+
 -- a scope of at most 32 nesting levels, of which no more bind a name
 pub record Sized (scope : Scope) : Type 0 where
   pub starts : length (scope .starts) ≡ 32

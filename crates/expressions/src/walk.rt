@@ -16,9 +16,10 @@ use symbols::symbol;
 ghost use Prim.Native.Nat.{_+_, _-_, _≤_, _<_};
 ghost use lib.ListN.{length};
 ghost use Rattle.aut68.specs.Procedure.Parse.{anExpression, named, application, abstraction};
-ghost use Rattle.expressions.specs.Posts.{ExpressionRead, ArgumentsRead};
+ghost use Rattle.expressions.specs.Posts.{goOn, ExpressionRead, ArgumentsRead};
 
 // The expression that stands next (anExpression, resolve), with the bindings and the nesting levels around it as the scope.
+// It goes on at byte `from` and cell `to`, with the first fault so far; numbers, not a Reading: a struct just built is slow to copy.
 // Falls: 32 - depth.
 pub fn expression(
     line: &[u8],
@@ -28,24 +29,62 @@ pub fn expression(
     lines: usize,
     indicator: usize,
     w: &mut [u16],
-    r: Reading,
+    from: usize,
+    to: usize,
+    fault: u32,
     scope: Scope,
 ) -> Reading
-    requires { ⌜ (r .to ≤ length (now w) + r .at) × (r .at ≤ length (now line)) ⌝ }
-    ensures { λ r′. ⌜ ExpressionRead (anExpression (32 - scope .depth)) (now (kinds .entry)) (now (line .entry)) scope (now (book .entry)) (now (table .entry)) lines indicator (now (w .entry)) (now (w .exit)) r r′ ⌝ }
+    requires { ⌜ (to ≤ length (now w) + from) × (from ≤ length (now line)) ⌝ }
+    ensures { λ r′. ⌜ ExpressionRead (anExpression (32 - scope .depth)) (now (kinds .entry)) (now (line .entry)) scope (now (book .entry)) (now (table .entry)) lines indicator (now (w .entry)) (now (w .exit)) (goOn from to fault) r′ ⌝ }
 {
-    let at = spaces(line, r.at);
+    let at = spaces(line, from);
     let k = kind_at(line, kinds, at);
     if scope.depth >= 32 {
         if opens(k) {
-            return refused(cells::TOO_LARGE, at, r.to);
+            return refused(cells::TOO_LARGE, at, to);
         }
-        return refused(cells::MALFORMED, at, r.to);
+        return refused(cells::MALFORMED, at, to);
     }
     match k {
-        2 => application(line, kinds, book, table, lines, indicator, w, r, scope),
-        3 => abstraction(line, kinds, book, table, lines, indicator, w, r, scope),
-        _ => named(line, kinds, book, table, lines, indicator, w, r, scope),
+        2 => application(
+            line,
+            kinds,
+            book,
+            table,
+            lines,
+            indicator,
+            w,
+            from,
+            to,
+            fault,
+            scope,
+        ),
+        3 => abstraction(
+            line,
+            kinds,
+            book,
+            table,
+            lines,
+            indicator,
+            w,
+            from,
+            to,
+            fault,
+            scope,
+        ),
+        _ => named(
+            line,
+            kinds,
+            book,
+            table,
+            lines,
+            indicator,
+            w,
+            from,
+            to,
+            fault,
+            scope,
+        ),
     }
 }
 
@@ -58,17 +97,19 @@ fn named(
     lines: usize,
     indicator: usize,
     w: &mut [u16],
-    r: Reading,
+    from: usize,
+    to: usize,
+    fault: u32,
     scope: Scope,
 ) -> Reading
-    requires { ⌜ (r .to ≤ length (now w) + r .at) × (r .at ≤ length (now line)) × (scope .depth < 32) ⌝ }
-    ensures { λ r′. ⌜ ExpressionRead (named (anExpression (31 - scope .depth))) (now (kinds .entry)) (now (line .entry)) scope (now (book .entry)) (now (table .entry)) lines indicator (now (w .entry)) (now (w .exit)) r r′ ⌝ }
+    requires { ⌜ (to ≤ length (now w) + from) × (from ≤ length (now line)) × (scope .depth < 32) ⌝ }
+    ensures { λ r′. ⌜ ExpressionRead (named (anExpression (31 - scope .depth))) (now (kinds .entry)) (now (line .entry)) scope (now (book .entry)) (now (table .entry)) lines indicator (now (w .entry)) (now (w .exit)) (goOn from to fault) r′ ⌝ }
 {
-    let n = name_at(line, kinds, r.at);
+    let n = name_at(line, kinds, from);
     let start = n.start;
     let len = n.len;
     if len == 0 {
-        return refused(cells::MALFORMED, r.at, r.to);
+        return refused(cells::MALFORMED, from, to);
     }
     let next = start + len;
     // Only where a name is bound: each call copies the scope.
@@ -83,34 +124,39 @@ fn named(
         lines,
         indicator,
         w,
-        r.to,
-        r.fault,
+        to,
+        fault,
         b,
         start,
         len,
     );
-    let fault = m.fault;
-    let to = r.to + 1;
+    let found = m.fault;
+    let cell = to + 1;
     let open = symbol(line, kinds, next, kinds::OPEN);
     if open > line.len() {
         let alone = Reading {
             code: 0,
             at: next,
-            to: to,
-            fault: fault,
+            to: cell,
+            fault: found,
             count: 0,
         };
         return counted(alone, m);
     }
-    let inside = Reading {
-        code: 0,
-        at: open,
-        to: to,
-        fault: fault,
-        count: 0,
-    };
     let inner = nest(scope);
-    let a = arguments(line, kinds, book, table, lines, indicator, w, inside, inner);
+    let a = arguments(
+        line,
+        kinds,
+        book,
+        table,
+        lines,
+        indicator,
+        w,
+        open,
+        cell,
+        found,
+        inner,
+    );
     counted(a, m)
 }
 
@@ -124,43 +170,50 @@ fn arguments(
     lines: usize,
     indicator: usize,
     w: &mut [u16],
-    r: Reading,
+    from: usize,
+    to: usize,
+    fault: u32,
     inner: Scope,
 ) -> Reading
-    requires { ⌜ (r .to ≤ length (now w) + r .at) × (r .at ≤ length (now line)) ⌝ }
-    ensures { λ r′. ⌜ ArgumentsRead (now (kinds .entry)) (now (line .entry)) inner (now (book .entry)) (now (table .entry)) lines indicator (now (w .entry)) (now (w .exit)) r r′ ⌝ }
+    requires { ⌜ (to ≤ length (now w) + from) × (from ≤ length (now line)) ⌝ }
+    ensures { λ r′. ⌜ ArgumentsRead (now (kinds .entry)) (now (line .entry)) inner (now (book .entry)) (now (table .entry)) lines indicator (now (w .entry)) (now (w .exit)) (goOn from to fault) r′ ⌝ }
 {
-    let mut at = r.at;
-    let mut to = r.to;
-    let mut fault = r.fault;
+    let mut at = from;
+    let mut cell = to;
+    let mut found = fault;
     let mut count = 0;
     loop {
-        let here = Reading {
-            code: 0,
-            at: at,
-            to: to,
-            fault: fault,
-            count: 0,
-        };
-        let a = expression(line, kinds, book, table, lines, indicator, w, here, inner);
+        let a = expression(
+            line,
+            kinds,
+            book,
+            table,
+            lines,
+            indicator,
+            w,
+            at,
+            cell,
+            found,
+            inner,
+        );
         if a.code != 0 {
             return a;
         }
-        to = a.to;
-        fault = a.fault;
+        cell = a.to;
+        found = a.fault;
         count = count + 1;
         let behind = a.at;
         let comma = symbol(line, kinds, behind, kinds::COMMA);
         if comma > line.len() {
             let close = symbol(line, kinds, behind, kinds::CLOSE);
             if close > line.len() {
-                return refused(cells::MALFORMED, behind, to);
+                return refused(cells::MALFORMED, behind, cell);
             }
             return Reading {
                 code: 0,
                 at: close,
-                to: to,
-                fault: fault,
+                to: cell,
+                fault: found,
                 count: count,
             };
         }
@@ -177,41 +230,53 @@ fn application(
     lines: usize,
     indicator: usize,
     w: &mut [u16],
-    r: Reading,
+    from: usize,
+    to: usize,
+    fault: u32,
     scope: Scope,
 ) -> Reading
-    requires { ⌜ (r .to ≤ length (now w) + r .at) × (r .at ≤ length (now line)) × (scope .depth < 32) ⌝ }
-    ensures { λ r′. ⌜ ExpressionRead (application (anExpression (31 - scope .depth))) (now (kinds .entry)) (now (line .entry)) scope (now (book .entry)) (now (table .entry)) lines indicator (now (w .entry)) (now (w .exit)) r r′ ⌝ }
+    requires { ⌜ (to ≤ length (now w) + from) × (from ≤ length (now line)) × (scope .depth < 32) ⌝ }
+    ensures { λ r′. ⌜ ExpressionRead (application (anExpression (31 - scope .depth))) (now (kinds .entry)) (now (line .entry)) scope (now (book .entry)) (now (table .entry)) lines indicator (now (w .entry)) (now (w .exit)) (goOn from to fault) r′ ⌝ }
 {
-    let open = symbol(line, kinds, r.at, kinds::LESS);
+    let open = symbol(line, kinds, from, kinds::LESS);
     if open > line.len() {
-        return refused(cells::MALFORMED, r.at, r.to);
+        return refused(cells::MALFORMED, from, to);
     }
-    put(w, r.to, 4);
-    let here = Reading {
-        code: 0,
-        at: open,
-        to: r.to + 1,
-        fault: r.fault,
-        count: 0,
-    };
+    put(w, to, 4);
     let inner = nest(scope);
-    let a = expression(line, kinds, book, table, lines, indicator, w, here, inner);
+    let a = expression(
+        line,
+        kinds,
+        book,
+        table,
+        lines,
+        indicator,
+        w,
+        open,
+        to + 1,
+        fault,
+        inner,
+    );
     if a.code != 0 {
         return a;
     }
     let close = symbol(line, kinds, a.at, kinds::GREATER);
     if close > line.len() {
-        return refused(cells::MALFORMED, a.at, r.to);
+        return refused(cells::MALFORMED, a.at, to);
     }
-    let next = Reading {
-        code: 0,
-        at: close,
-        to: a.to,
-        fault: a.fault,
-        count: 0,
-    };
-    expression(line, kinds, book, table, lines, indicator, w, next, inner)
+    expression(
+        line,
+        kinds,
+        book,
+        table,
+        lines,
+        indicator,
+        w,
+        close,
+        a.to,
+        a.fault,
+        inner,
+    )
 }
 
 // `[x,A]B` (abstraction): its cell, A, and B with x bound.
@@ -223,50 +288,62 @@ fn abstraction(
     lines: usize,
     indicator: usize,
     w: &mut [u16],
-    r: Reading,
+    from: usize,
+    to: usize,
+    fault: u32,
     scope: Scope,
 ) -> Reading
-    requires { ⌜ (r .to ≤ length (now w) + r .at) × (r .at ≤ length (now line)) × (scope .depth < 32) ⌝ }
-    ensures { λ r′. ⌜ ExpressionRead (abstraction (anExpression (31 - scope .depth))) (now (kinds .entry)) (now (line .entry)) scope (now (book .entry)) (now (table .entry)) lines indicator (now (w .entry)) (now (w .exit)) r r′ ⌝ }
+    requires { ⌜ (to ≤ length (now w) + from) × (from ≤ length (now line)) × (scope .depth < 32) ⌝ }
+    ensures { λ r′. ⌜ ExpressionRead (abstraction (anExpression (31 - scope .depth))) (now (kinds .entry)) (now (line .entry)) scope (now (book .entry)) (now (table .entry)) lines indicator (now (w .entry)) (now (w .exit)) (goOn from to fault) r′ ⌝ }
 {
-    let open = symbol(line, kinds, r.at, kinds::BRACKET);
+    let open = symbol(line, kinds, from, kinds::BRACKET);
     if open > line.len() {
-        return refused(cells::MALFORMED, r.at, r.to);
+        return refused(cells::MALFORMED, from, to);
     }
     let x = name_at(line, kinds, open);
     let start = x.start;
     let len = x.len;
     if len == 0 {
-        return refused(cells::MALFORMED, open, r.to);
+        return refused(cells::MALFORMED, open, to);
     }
     let comma = symbol(line, kinds, start + len, kinds::COMMA);
     if comma > line.len() {
-        return refused(cells::MALFORMED, open, r.to);
+        return refused(cells::MALFORMED, open, to);
     }
-    put(w, r.to, 5);
-    let here = Reading {
-        code: 0,
-        at: comma,
-        to: r.to + 1,
-        fault: r.fault,
-        count: 0,
-    };
+    put(w, to, 5);
     let level = nest(scope);
-    let a = expression(line, kinds, book, table, lines, indicator, w, here, level);
+    let a = expression(
+        line,
+        kinds,
+        book,
+        table,
+        lines,
+        indicator,
+        w,
+        comma,
+        to + 1,
+        fault,
+        level,
+    );
     if a.code != 0 {
         return a;
     }
     let close = symbol(line, kinds, a.at, kinds::UNBRACKET);
     if close > line.len() {
-        return refused(cells::MALFORMED, a.at, r.to);
+        return refused(cells::MALFORMED, a.at, to);
     }
-    let next = Reading {
-        code: 0,
-        at: close,
-        to: a.to,
-        fault: a.fault,
-        count: 0,
-    };
     let inner = bind(scope, start, len);
-    expression(line, kinds, book, table, lines, indicator, w, next, inner)
+    expression(
+        line,
+        kinds,
+        book,
+        table,
+        lines,
+        indicator,
+        w,
+        close,
+        a.to,
+        a.fault,
+        inner,
+    )
 }

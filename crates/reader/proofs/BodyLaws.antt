@@ -28,11 +28,10 @@ use Rattle.names.proofs.PartLaws.{no-names}
 use Rattle.expressions.specs.declared.parts.Reading.{Reading}
 use Rattle.expressions.specs.Walk as Walk
 use Rattle.expressions.specs.Walk.{ReadTo, passed, Faulted, whole, faulty, CellPut}
-use Rattle.expressions.specs.Posts.{Ready, Refusing, ExpressionRead}
+use Rattle.expressions.specs.Posts.{goOn, Ready, Refusing, ExpressionRead}
 use Rattle.expressions.proofs.StoreLaws.{below-same, below-then, below-put, part-put}
 use Rattle.expressions.proofs.ReadLaws.{then-refused, then-passed, then-done, then-stop, then-give, read-is}
 use Rattle.expressions.proofs.ExpressionLaws.{code-malformed}
-use Rattle.expressions.proofs.PairLaws.{goOn}
 use Rattle.reader.specs.ReadLine.{afterHeading}
 use Rattle.reader.specs.Posts.{MiddleKind, middleNumber, Lookup, WrittenMiddle, WrittenCategory, MiddleRead, CategoryRead, BodyRead}
 
@@ -224,10 +223,17 @@ module _ {ks s book tb : List ℕ} {lines indicator : ℕ} {w w′ : List ℕ} {
       }
 
   pub category-expression : {scope : Scope} {r′ : Reading} → t ≡ false → NoEntry scope
-      → ExpressionRead (anExpression (32 - scope .depth)) ks s scope book tb lines indicator w w′ r r′ → CategoryRead ks s book tb lines indicator w w′ r r′
+      → ExpressionRead (anExpression (32 - scope .depth)) ks s scope book tb lines indicator w w′ (goOn (r .at) (r .to) (r .fault)) r′ → CategoryRead ks s book tb lines indicator w w′ r r′
   category-expression f n E =
       record {
-        onward = E .onward;
+        onward =
+            record {
+              below = E .onward .below;
+              up = E .onward .up;
+              from = E .onward .from;
+              inside = E .onward .inside;
+              fewer = E .onward .fewer;
+            };
         read = λ ls k.
             read-is (category-other (drop (r .at) s) (word-test b p q wordType e (k .table) ∙ f))
             (then-give expression (outer-read n E ls k) (λ x X. category-written ls indicator X));

@@ -54,15 +54,20 @@ fn middle(
             count: 0,
         };
     }
-    let r = Reading {
-        code: 0,
-        at: at,
-        to: to,
-        fault: 0,
-        count: 0,
-    };
     let scope = cells::no_bindings();
-    expression(line, kinds, book, table, lines, indicator, w, r, scope)
+    expression(
+        line,
+        kinds,
+        book,
+        table,
+        lines,
+        indicator,
+        w,
+        at,
+        to,
+        0,
+        scope,
+    )
 }
 
 // The written category (aCategory), its cells from r.to on.
@@ -92,7 +97,19 @@ fn category(
         };
     }
     let scope = cells::no_bindings();
-    expression(line, kinds, book, table, lines, indicator, w, r, scope)
+    expression(
+        line,
+        kinds,
+        book,
+        table,
+        lines,
+        indicator,
+        w,
+        r.at,
+        r.to,
+        r.fault,
+        scope,
+    )
 }
 
 // Middle and category: `middle:category` and byte 10, the line's last, from `at` on. The middle's cells from `to` on, the

@@ -6,10 +6,11 @@ use borrow.Author.Needs.{needs}
 use Prim.Native.Nat.{_+_, _*_, _-_}
 use native.Mathlib.Omega.{arith}
 use lib.ListN.{length}
+use Rattle.expressions.specs.Posts.{goOn}
 use Rattle.expressions.proofs.ExpressionLaws.{expression-too-deep, expression-malformed, expression-application, expression-abstraction, expression-named}
-use Rattle.expressions.proofs.PairLaws.{goOn, application-unopened, application-first-refused, application-unclosed, application-read, abstraction-unopened, abstraction-unnamed, abstraction-no-comma, abstraction-first-refused, abstraction-unclosed, abstraction-read}
+use Rattle.expressions.proofs.PairLaws.{application-unopened, application-first-refused, application-unclosed, application-read, abstraction-unopened, abstraction-unnamed, abstraction-no-comma, abstraction-first-refused, abstraction-unclosed, abstraction-read}
 use Rattle.expressions.proofs.NamedLaws.{binding-of, binding-none, named-unnamed, named-alone, named-read}
-use Rattle.expressions.proofs.ArgumentLaws.{ArgumentsSoFar, arguments-start, arguments-refused, arguments-more, arguments-unclosed, arguments-closed, arguments-of}
+use Rattle.expressions.proofs.ArgumentLaws.{ArgumentsSoFar, arguments-start, arguments-refused, arguments-more, arguments-unclosed, arguments-closed}
 use Prim.Native.Nat.{ℕ, _<_}
 use borrow.Fn.Kinds.{In}
 use borrow.Fn.PlainCycle.{Measures, is, falls, and}
@@ -44,19 +45,19 @@ use Rattle.expressions.proofs.walk.+abstraction+application+arguments+e
 use Rattle.expressions.proofs.walk.+abstraction+application+arguments+expression+named.Tie.{close}
 
 abbrev μ-abstraction : Measures 5 abstraction-kinds.ps ℕ
-μ-abstraction κs a = 3 * (33 - a .1 .1 .1 .1 .1 .1 .1 .1 .0 .depth) - 1
+μ-abstraction κs a = 3 * (33 - a .1 .1 .1 .1 .1 .1 .1 .1 .1 .1 .0 .depth) - 1
 
 abbrev μ-application : Measures 5 application-kinds.ps ℕ
-μ-application κs a = 3 * (33 - a .1 .1 .1 .1 .1 .1 .1 .1 .0 .depth) - 1
+μ-application κs a = 3 * (33 - a .1 .1 .1 .1 .1 .1 .1 .1 .1 .1 .0 .depth) - 1
 
 abbrev μ-arguments : Measures 5 arguments-kinds.ps ℕ
-μ-arguments κs a = 3 * (33 - a .1 .1 .1 .1 .1 .1 .1 .1 .0 .depth) + 1
+μ-arguments κs a = 3 * (33 - a .1 .1 .1 .1 .1 .1 .1 .1 .1 .1 .0 .depth) + 1
 
 abbrev μ-expression : Measures 5 expression-kinds.ps ℕ
-μ-expression κs a = 3 * (33 - a .1 .1 .1 .1 .1 .1 .1 .1 .0 .depth)
+μ-expression κs a = 3 * (33 - a .1 .1 .1 .1 .1 .1 .1 .1 .1 .1 .0 .depth)
 
 abbrev μ-named : Measures 5 named-kinds.ps ℕ
-μ-named κs a = 3 * (33 - a .1 .1 .1 .1 .1 .1 .1 .1 .0 .depth) - 1
+μ-named κs a = 3 * (33 - a .1 .1 .1 .1 .1 .1 .1 .1 .1 .1 .0 .depth) - 1
 
 abbrev abstraction-at : ℕ → In 5 abstraction-kinds.ps
 abstraction-at t =
@@ -143,20 +144,20 @@ abstraction-returns-3 t c = abstraction-no-comma (c .before .before .before .bef
 abstraction-put-requires : (t : ℕ) → abstraction-lts.Need-put-requires (claims-abstraction t) (abstraction-at t) abstraction.Post
 abstraction-put-requires t c κs = tt
 
-abstraction-add-if5 : (t : ℕ) → abstraction-lts.Need-add-if5 (claims-abstraction t) (abstraction-at t) abstraction.Post
-abstraction-add-if5 t c = omega (arith, c .before .before .before .before .before .before .before .before .before .before .before .before .before .before .before .pre, c .before .before .before .before .before .before .before .before .before .before .before .before .before .before .before)
+abstraction-add-expression : (t : ℕ) → abstraction-lts.Need-add-expression (claims-abstraction t) (abstraction-at t) abstraction.Post
+abstraction-add-expression t c = omega (arith, c .before .before .before .before .before .before .before .before .before .before .before .before .before .before .before .before .pre, c .before .before .before .before .before .before .before .before .before .before .before .before .before .before .before .before)
 
 abstraction-nest-requires : (t : ℕ) → abstraction-lts.Need-nest-requires (claims-abstraction t) (abstraction-at t) abstraction.Post
 abstraction-nest-requires t c κs = tt
 
 abstraction-expression-requires : (t : ℕ) → abstraction-lts.Need-expression-requires (claims-abstraction t) (abstraction-at t) abstraction.Post
-abstraction-expression-requires t c κs = omega (arith, c .before .before .before .before .before .before .before .before .before .before .before .before .before .before .before .before .before .pre, c .before .before .before .before .before .before .before .if3, c .before .nest .ensures .deeper (c .before .before .before .before .before .before .before .before .before .before .before .before .before .before .before .before .before .pre .1 .2), c .before .before .before .before .before .before .before .before .symbol2 .ensures .from (c .before .before .before .before .before .before .before .before .before .before .name-at .ensures .within (c .before .before .before .before .before .before .before .before .before .before .before .if1 .left)), c .before .before .before .before .before .before .before .before .before .before .name-at .ensures .from, c .before .before .before .before .before .before .before .before .before .before .before .before .symbol .ensures .from (c .before .before .before .before .before .before .before .before .before .before .before .before .before .before .before .before .before .pre .1 .1))
+abstraction-expression-requires t c κs = omega (arith, c .before .before .before .before .before .before .before .before .before .before .before .before .before .before .before .before .pre, c .before .before .before .before .before .before .if3, c .before .nest .ensures .deeper (c .before .before .before .before .before .before .before .before .before .before .before .before .before .before .before .before .pre .1 .2), c .before .before .before .before .before .before .before .symbol2 .ensures .from (c .before .before .before .before .before .before .before .before .before .name-at .ensures .within (c .before .before .before .before .before .before .before .before .before .before .if1 .left)), c .before .before .before .before .before .before .before .before .before .name-at .ensures .from, c .before .before .before .before .before .before .before .before .before .before .before .symbol .ensures .from (c .before .before .before .before .before .before .before .before .before .before .before .before .before .before .before .before .pre .1 .1))
 
 abstraction-same-length : (t : ℕ) → abstraction-lts.Need-same-length (claims-abstraction t) (abstraction-at t) abstraction.Post
 abstraction-same-length t c = search needs
 
 abstraction-returns-4 : (t : ℕ) → abstraction-lts.Need-returns-4 (claims-abstraction t) (abstraction-at t) abstraction.Post
-abstraction-returns-4 t c = abstraction-first-refused (c .before .before .before .before .before .before .before .before .before .before .before .before .before .before .before .before .before .before .before .before .before .before .pre .1 .0) (c .before .before .before .before .before .before .before .before .before .before .before .before .before .before .before .before .before .before .before .before .before .before .pre .1 .1) (c .before .before .before .before .before .before .before .before .before .before .before .before .before .before .before .before .before .before .before .before .before .before .pre .1 .2) (c .before .before .before .before .before .before .before .before .before .before .before .before .before .before .before .before .before .symbol .ensures) (c .before .before .before .before .before .before .before .before .before .before .before .before .before .before .before .before .if1 .left) (c .before .before .before .before .before .before .before .before .before .before .before .before .before .before .before .name-at .ensures) (c .before .before .before .before .before .before .before .before .before .before .before .before .before .before .if2 .left) (c .before .before .before .before .before .before .before .before .before .before .before .before .before .symbol2 .ensures) (c .before .before .before .before .before .before .before .before .before .before .before .before .if3 .left) (c .before .before .before .before .before .before .before .before .before .before .put .ensures) (c .before .before .before .before .before .before .nest .ensures) (c .before .before .before .before .expression .ensures) (c .if4 .taken)
+abstraction-returns-4 t c = abstraction-first-refused (c .before .before .before .before .before .before .before .before .before .before .before .before .before .before .before .before .before .before .before .before .before .pre .1 .0) (c .before .before .before .before .before .before .before .before .before .before .before .before .before .before .before .before .before .before .before .before .before .pre .1 .1) (c .before .before .before .before .before .before .before .before .before .before .before .before .before .before .before .before .before .before .before .before .before .pre .1 .2) (c .before .before .before .before .before .before .before .before .before .before .before .before .before .before .before .before .symbol .ensures) (c .before .before .before .before .before .before .before .before .before .before .before .before .before .before .before .if1 .left) (c .before .before .before .before .before .before .before .before .before .before .before .before .before .before .name-at .ensures) (c .before .before .before .before .before .before .before .before .before .before .before .before .before .if2 .left) (c .before .before .before .before .before .before .before .before .before .before .before .before .symbol2 .ensures) (c .before .before .before .before .before .before .before .before .before .before .before .if3 .left) (c .before .before .before .before .before .before .before .before .before .put .ensures) (c .before .before .before .before .before .before .nest .ensures) (c .before .before .before .before .expression .ensures) (c .if4 .taken)
 
 abstraction-symbol-requires-3 : (t : ℕ) → abstraction-lts.Need-symbol-requires-3 (claims-abstraction t) (abstraction-at t) abstraction.Post
 abstraction-symbol-requires-3 t c κs = tt
@@ -168,20 +169,20 @@ abstraction-same-length-2 : (t : ℕ) → abstraction-lts.Need-same-length-2 (cl
 abstraction-same-length-2 t c = search needs
 
 abstraction-returns-5 : (t : ℕ) → abstraction-lts.Need-returns-5 (claims-abstraction t) (abstraction-at t) abstraction.Post
-abstraction-returns-5 t c = abstraction-unclosed (c .before .before .before .before .before .before .before .before .before .before .before .before .before .before .before .before .before .before .before .before .before .before .before .before .before .pre .1 .0) (c .before .before .before .before .before .before .before .before .before .before .before .before .before .before .before .before .before .before .before .before .before .before .before .before .before .pre .1 .1) (c .before .before .before .before .before .before .before .before .before .before .before .before .before .before .before .before .before .before .before .before .before .before .before .before .before .pre .1 .2) (c .before .before .before .before .before .before .before .before .before .before .before .before .before .before .before .before .before .before .before .before .symbol .ensures) (c .before .before .before .before .before .before .before .before .before .before .before .before .before .before .before .before .before .before .before .if1 .left) (c .before .before .before .before .before .before .before .before .before .before .before .before .before .before .before .before .before .before .name-at .ensures) (c .before .before .before .before .before .before .before .before .before .before .before .before .before .before .before .before .before .if2 .left) (c .before .before .before .before .before .before .before .before .before .before .before .before .before .before .before .before .symbol2 .ensures) (c .before .before .before .before .before .before .before .before .before .before .before .before .before .before .before .if3 .left) (c .before .before .before .before .before .before .before .before .before .before .before .before .before .put .ensures) (c .before .before .before .before .before .before .before .before .before .nest .ensures) (c .before .before .before .before .before .before .before .expression .ensures) (c .before .before .before .if4 .left) (c .before .before .symbol3 .ensures) (c .before .if5 .taken) (c .refused4 .ensures)
+abstraction-returns-5 t c = abstraction-unclosed (c .before .before .before .before .before .before .before .before .before .before .before .before .before .before .before .before .before .before .before .before .before .before .before .before .pre .1 .0) (c .before .before .before .before .before .before .before .before .before .before .before .before .before .before .before .before .before .before .before .before .before .before .before .before .pre .1 .1) (c .before .before .before .before .before .before .before .before .before .before .before .before .before .before .before .before .before .before .before .before .before .before .before .before .pre .1 .2) (c .before .before .before .before .before .before .before .before .before .before .before .before .before .before .before .before .before .before .before .symbol .ensures) (c .before .before .before .before .before .before .before .before .before .before .before .before .before .before .before .before .before .before .if1 .left) (c .before .before .before .before .before .before .before .before .before .before .before .before .before .before .before .before .before .name-at .ensures) (c .before .before .before .before .before .before .before .before .before .before .before .before .before .before .before .before .if2 .left) (c .before .before .before .before .before .before .before .before .before .before .before .before .before .before .before .symbol2 .ensures) (c .before .before .before .before .before .before .before .before .before .before .before .before .before .before .if3 .left) (c .before .before .before .before .before .before .before .before .before .before .before .before .put .ensures) (c .before .before .before .before .before .before .before .before .before .nest .ensures) (c .before .before .before .before .before .before .before .expression .ensures) (c .before .before .before .if4 .left) (c .before .before .symbol3 .ensures) (c .before .if5 .taken) (c .refused4 .ensures)
 
 abstraction-bind-requires : (t : ℕ) → abstraction-lts.Need-bind-requires (claims-abstraction t) (abstraction-at t) abstraction.Post
 abstraction-bind-requires t c κs = tt
 
 abstraction-expression-requires-2 : (t : ℕ) → abstraction-lts.Need-expression-requires-2 (claims-abstraction t) (abstraction-at t) abstraction.Post
-abstraction-expression-requires-2 t c κs = omega (arith, c .before .before .before .before .before .before .before .before .before .before .before .before .before .before .before .before .before .before .before .before .before .before .before .before .before .before .pre, c .before .before .if5, c .before .bind .ensures .deeper (c .before .before .before .before .before .before .before .before .before .before .before .before .before .before .before .before .before .before .before .before .before .before .before .before .before .before .pre .1 .2), c .before .before .before .symbol3 .ensures .from (c .before .before .before .before .before .before .before .before .expression .ensures .onward .inside), c .before .before .before .before .before .before .before .before .expression .ensures .onward)
+abstraction-expression-requires-2 t c κs = omega (arith, c .before .before .before .before .before .before .before .before .before .before .before .before .before .before .before .before .before .before .before .before .before .before .before .before .before .pre, c .before .before .if5, c .before .bind .ensures .deeper (c .before .before .before .before .before .before .before .before .before .before .before .before .before .before .before .before .before .before .before .before .before .before .before .before .before .pre .1 .2), c .before .before .before .symbol3 .ensures .from (c .before .before .before .before .before .before .before .before .expression .ensures .onward .inside), c .before .before .before .before .before .before .before .before .expression .ensures .onward)
 
 abstraction-same-length-3 : (t : ℕ) → abstraction-lts.Need-same-length-3 (claims-abstraction t) (abstraction-at t) abstraction.Post
 abstraction-same-length-3 t c =
-    c .before .before .expression2 .ensures .onward .below .long ∙ c .before .before .before .before .before .before .before .before .before .before .before .expression .ensures .onward .below .long ∙ below-put (c .before .before .before .before .before .before .before .before .before .before .before .before .before .before .before .before .before .put .ensures) .long
+    c .before .before .expression2 .ensures .onward .below .long ∙ c .before .before .before .before .before .before .before .before .before .before .before .expression .ensures .onward .below .long ∙ below-put (c .before .before .before .before .before .before .before .before .before .before .before .before .before .before .before .before .put .ensures) .long
 
 abstraction-returns-6 : (t : ℕ) → abstraction-lts.Need-returns-6 (claims-abstraction t) (abstraction-at t) abstraction.Post
-abstraction-returns-6 t c = abstraction-read (c .before .before .before .before .before .before .before .before .before .before .before .before .before .before .before .before .before .before .before .before .before .before .before .before .before .before .before .before .before .pre .1 .0) (c .before .before .before .before .before .before .before .before .before .before .before .before .before .before .before .before .before .before .before .before .before .before .before .before .before .before .before .before .before .pre .1 .1) (c .before .before .before .before .before .before .before .before .before .before .before .before .before .before .before .before .before .before .before .before .before .before .before .before .before .before .before .before .before .pre .1 .2) (c .before .before .before .before .before .before .before .before .before .before .before .before .before .before .before .before .before .before .before .before .before .before .before .before .symbol .ensures) (c .before .before .before .before .before .before .before .before .before .before .before .before .before .before .before .before .before .before .before .before .before .before .before .if1 .left) (c .before .before .before .before .before .before .before .before .before .before .before .before .before .before .before .before .before .before .before .before .before .before .name-at .ensures) (c .before .before .before .before .before .before .before .before .before .before .before .before .before .before .before .before .before .before .before .before .before .if2 .left) (c .before .before .before .before .before .before .before .before .before .before .before .before .before .before .before .before .before .before .before .before .symbol2 .ensures) (c .before .before .before .before .before .before .before .before .before .before .before .before .before .before .before .before .before .before .before .if3 .left) (c .before .before .before .before .before .before .before .before .before .before .before .before .before .before .before .before .before .put .ensures) (c .before .before .before .before .before .before .before .before .before .before .before .before .before .nest .ensures) (c .before .before .before .before .before .before .before .before .before .before .before .expression .ensures) (c .before .before .before .before .before .before .before .if4 .left) (c .before .before .before .before .before .before .symbol3 .ensures) (c .before .before .before .before .before .if5 .left) (c .before .before .before .before .bind .ensures) (c .before .before .expression2 .ensures)
+abstraction-returns-6 t c = abstraction-read (c .before .before .before .before .before .before .before .before .before .before .before .before .before .before .before .before .before .before .before .before .before .before .before .before .before .before .before .before .pre .1 .0) (c .before .before .before .before .before .before .before .before .before .before .before .before .before .before .before .before .before .before .before .before .before .before .before .before .before .before .before .before .pre .1 .1) (c .before .before .before .before .before .before .before .before .before .before .before .before .before .before .before .before .before .before .before .before .before .before .before .before .before .before .before .before .pre .1 .2) (c .before .before .before .before .before .before .before .before .before .before .before .before .before .before .before .before .before .before .before .before .before .before .before .symbol .ensures) (c .before .before .before .before .before .before .before .before .before .before .before .before .before .before .before .before .before .before .before .before .before .before .if1 .left) (c .before .before .before .before .before .before .before .before .before .before .before .before .before .before .before .before .before .before .before .before .before .name-at .ensures) (c .before .before .before .before .before .before .before .before .before .before .before .before .before .before .before .before .before .before .before .before .if2 .left) (c .before .before .before .before .before .before .before .before .before .before .before .before .before .before .before .before .before .before .before .symbol2 .ensures) (c .before .before .before .before .before .before .before .before .before .before .before .before .before .before .before .before .before .before .if3 .left) (c .before .before .before .before .before .before .before .before .before .before .before .before .before .before .before .before .put .ensures) (c .before .before .before .before .before .before .before .before .before .before .before .before .before .nest .ensures) (c .before .before .before .before .before .before .before .before .before .before .before .expression .ensures) (c .before .before .before .before .before .before .before .if4 .left) (c .before .before .before .before .before .before .symbol3 .ensures) (c .before .before .before .before .before .if5 .left) (c .before .before .before .before .bind .ensures) (c .before .before .expression2 .ensures)
 
 application-symbol-requires : (t : ℕ) → application-lts.Need-symbol-requires (claims-application t) (application-at t) application.Post
 application-symbol-requires t c κs = tt
@@ -195,20 +196,20 @@ application-returns t c = application-unopened (c .before .before .before .befor
 application-put-requires : (t : ℕ) → application-lts.Need-put-requires (claims-application t) (application-at t) application.Post
 application-put-requires t c κs = tt
 
-application-add-if3 : (t : ℕ) → application-lts.Need-add-if3 (claims-application t) (application-at t) application.Post
-application-add-if3 t c = omega (arith, c .before .before .before .before .before .before .before .before .before .before .before .pre, c .before .before .before .before .before .before .before .before .before .before .before)
+application-add-expression : (t : ℕ) → application-lts.Need-add-expression (claims-application t) (application-at t) application.Post
+application-add-expression t c = omega (arith, c .before .before .before .before .before .before .before .before .before .before .before .before .pre, c .before .before .before .before .before .before .before .before .before .before .before .before)
 
 application-nest-requires : (t : ℕ) → application-lts.Need-nest-requires (claims-application t) (application-at t) application.Post
 application-nest-requires t c κs = tt
 
 application-expression-requires : (t : ℕ) → application-lts.Need-expression-requires (claims-application t) (application-at t) application.Post
-application-expression-requires t c κs = omega (arith, c .before .before .before .before .before .before .before .before .before .before .before .before .before .pre, c .before .before .before .before .before .before .before .if1, c .before .nest .ensures .deeper (c .before .before .before .before .before .before .before .before .before .before .before .before .before .pre .1 .2), c .before .before .before .before .before .before .before .before .symbol .ensures .from (c .before .before .before .before .before .before .before .before .before .before .before .before .before .pre .1 .1))
+application-expression-requires t c κs = omega (arith, c .before .before .before .before .before .before .before .before .before .before .before .before .pre, c .before .before .before .before .before .before .if1, c .before .nest .ensures .deeper (c .before .before .before .before .before .before .before .before .before .before .before .before .pre .1 .2), c .before .before .before .before .before .before .before .symbol .ensures .from (c .before .before .before .before .before .before .before .before .before .before .before .before .pre .1 .1))
 
 application-same-length : (t : ℕ) → application-lts.Need-same-length (claims-application t) (application-at t) application.Post
 application-same-length t c = search needs
 
 application-returns-2 : (t : ℕ) → application-lts.Need-returns-2 (claims-application t) (application-at t) application.Post
-application-returns-2 t c = application-first-refused (c .before .before .before .before .before .before .before .before .before .before .before .before .before .before .before .before .before .before .pre .1 .0) (c .before .before .before .before .before .before .before .before .before .before .before .before .before .before .before .before .before .before .pre .1 .1) (c .before .before .before .before .before .before .before .before .before .before .before .before .before .before .before .before .before .before .pre .1 .2) (c .before .before .before .before .before .before .before .before .before .before .before .before .before .symbol .ensures) (c .before .before .before .before .before .before .before .before .before .before .before .before .if1 .left) (c .before .before .before .before .before .before .before .before .before .before .put .ensures) (c .before .before .before .before .before .before .nest .ensures) (c .before .before .before .before .expression .ensures) (c .if2 .taken)
+application-returns-2 t c = application-first-refused (c .before .before .before .before .before .before .before .before .before .before .before .before .before .before .before .before .before .pre .1 .0) (c .before .before .before .before .before .before .before .before .before .before .before .before .before .before .before .before .before .pre .1 .1) (c .before .before .before .before .before .before .before .before .before .before .before .before .before .before .before .before .before .pre .1 .2) (c .before .before .before .before .before .before .before .before .before .before .before .before .symbol .ensures) (c .before .before .before .before .before .before .before .before .before .before .before .if1 .left) (c .before .before .before .before .before .before .before .before .before .put .ensures) (c .before .before .before .before .before .before .nest .ensures) (c .before .before .before .before .expression .ensures) (c .if2 .taken)
 
 application-symbol-requires-2 : (t : ℕ) → application-lts.Need-symbol-requires-2 (claims-application t) (application-at t) application.Post
 application-symbol-requires-2 t c κs = tt
@@ -220,24 +221,24 @@ application-same-length-2 : (t : ℕ) → application-lts.Need-same-length-2 (cl
 application-same-length-2 t c = search needs
 
 application-returns-3 : (t : ℕ) → application-lts.Need-returns-3 (claims-application t) (application-at t) application.Post
-application-returns-3 t c = application-unclosed (c .before .before .before .before .before .before .before .before .before .before .before .before .before .before .before .before .before .before .before .before .before .pre .1 .0) (c .before .before .before .before .before .before .before .before .before .before .before .before .before .before .before .before .before .before .before .before .before .pre .1 .1) (c .before .before .before .before .before .before .before .before .before .before .before .before .before .before .before .before .before .before .before .before .before .pre .1 .2) (c .before .before .before .before .before .before .before .before .before .before .before .before .before .before .before .before .symbol .ensures) (c .before .before .before .before .before .before .before .before .before .before .before .before .before .before .before .if1 .left) (c .before .before .before .before .before .before .before .before .before .before .before .before .before .put .ensures) (c .before .before .before .before .before .before .before .before .before .nest .ensures) (c .before .before .before .before .before .before .before .expression .ensures) (c .before .before .before .if2 .left) (c .before .before .symbol2 .ensures) (c .before .if3 .taken) (c .refused2 .ensures)
+application-returns-3 t c = application-unclosed (c .before .before .before .before .before .before .before .before .before .before .before .before .before .before .before .before .before .before .before .before .pre .1 .0) (c .before .before .before .before .before .before .before .before .before .before .before .before .before .before .before .before .before .before .before .before .pre .1 .1) (c .before .before .before .before .before .before .before .before .before .before .before .before .before .before .before .before .before .before .before .before .pre .1 .2) (c .before .before .before .before .before .before .before .before .before .before .before .before .before .before .before .symbol .ensures) (c .before .before .before .before .before .before .before .before .before .before .before .before .before .before .if1 .left) (c .before .before .before .before .before .before .before .before .before .before .before .before .put .ensures) (c .before .before .before .before .before .before .before .before .before .nest .ensures) (c .before .before .before .before .before .before .before .expression .ensures) (c .before .before .before .if2 .left) (c .before .before .symbol2 .ensures) (c .before .if3 .taken) (c .refused2 .ensures)
 
 application-expression-requires-2 : (t : ℕ) → application-lts.Need-expression-requires-2 (claims-application t) (application-at t) application.Post
-application-expression-requires-2 t c κs = omega (arith, c .before .before .before .before .before .before .before .before .before .before .before .before .before .before .before .before .before .before .before .before .before .pre, c .before .if3, c .before .before .before .before .before .before .before .before .before .nest .ensures .deeper (c .before .before .before .before .before .before .before .before .before .before .before .before .before .before .before .before .before .before .before .before .before .pre .1 .2), c .before .before .symbol2 .ensures .from (c .before .before .before .before .before .before .before .expression .ensures .onward .inside), c .before .before .before .before .before .before .before .expression .ensures .onward)
+application-expression-requires-2 t c κs = omega (arith, c .before .before .before .before .before .before .before .before .before .before .before .before .before .before .before .before .before .before .before .before .pre, c .before .if3, c .before .before .before .before .before .before .before .before .before .nest .ensures .deeper (c .before .before .before .before .before .before .before .before .before .before .before .before .before .before .before .before .before .before .before .before .pre .1 .2), c .before .before .symbol2 .ensures .from (c .before .before .before .before .before .before .before .expression .ensures .onward .inside), c .before .before .before .before .before .before .before .expression .ensures .onward)
 
 application-same-length-3 : (t : ℕ) → application-lts.Need-same-length-3 (claims-application t) (application-at t) application.Post
 application-same-length-3 t c =
-    c .before .before .expression2 .ensures .onward .below .long ∙ c .before .before .before .before .before .before .before .before .before .before .expression .ensures .onward .below .long ∙ below-put (c .before .before .before .before .before .before .before .before .before .before .before .before .before .before .before .before .put .ensures) .long
+    c .before .before .expression2 .ensures .onward .below .long ∙ c .before .before .before .before .before .before .before .before .before .before .expression .ensures .onward .below .long ∙ below-put (c .before .before .before .before .before .before .before .before .before .before .before .before .before .before .before .put .ensures) .long
 
 application-returns-4 : (t : ℕ) → application-lts.Need-returns-4 (claims-application t) (application-at t) application.Post
-application-returns-4 t c = application-read (c .before .before .before .before .before .before .before .before .before .before .before .before .before .before .before .before .before .before .before .before .before .before .before .before .pre .1 .0) (c .before .before .before .before .before .before .before .before .before .before .before .before .before .before .before .before .before .before .before .before .before .before .before .before .pre .1 .1) (c .before .before .before .before .before .before .before .before .before .before .before .before .before .before .before .before .before .before .before .before .before .before .before .before .pre .1 .2) (c .before .before .before .before .before .before .before .before .before .before .before .before .before .before .before .before .before .before .before .symbol .ensures) (c .before .before .before .before .before .before .before .before .before .before .before .before .before .before .before .before .before .before .if1 .left) (c .before .before .before .before .before .before .before .before .before .before .before .before .before .before .before .before .put .ensures) (c .before .before .before .before .before .before .before .before .before .before .before .before .nest .ensures) (c .before .before .before .before .before .before .before .before .before .before .expression .ensures) (c .before .before .before .before .before .before .if2 .left) (c .before .before .before .before .before .symbol2 .ensures) (c .before .before .before .before .if3 .left) (c .before .before .expression2 .ensures)
+application-returns-4 t c = application-read (c .before .before .before .before .before .before .before .before .before .before .before .before .before .before .before .before .before .before .before .before .before .before .before .pre .1 .0) (c .before .before .before .before .before .before .before .before .before .before .before .before .before .before .before .before .before .before .before .before .before .before .before .pre .1 .1) (c .before .before .before .before .before .before .before .before .before .before .before .before .before .before .before .before .before .before .before .before .before .before .before .pre .1 .2) (c .before .before .before .before .before .before .before .before .before .before .before .before .before .before .before .before .before .before .symbol .ensures) (c .before .before .before .before .before .before .before .before .before .before .before .before .before .before .before .before .before .if1 .left) (c .before .before .before .before .before .before .before .before .before .before .before .before .before .before .before .put .ensures) (c .before .before .before .before .before .before .before .before .before .before .before .before .nest .ensures) (c .before .before .before .before .before .before .before .before .before .before .expression .ensures) (c .before .before .before .before .before .before .if2 .left) (c .before .before .before .before .before .symbol2 .ensures) (c .before .before .before .before .if3 .left) (c .before .before .expression2 .ensures)
 
 abbrev arguments-Inv-loop : arguments-lts.InvT-loop
-arguments-Inv-loop line kinds book table lines indicator w₀ inner at₀ to₀ fault₀ count₀ w at to fault count =
-    ArgumentsSoFar kinds line inner book table lines indicator w₀ w (goOn at₀ to₀ fault₀) at to fault count
+arguments-Inv-loop line kinds book table lines indicator w₀ from to fault inner at₀ cell₀ found₀ count₀ w at cell found count =
+    ArgumentsSoFar kinds line inner book table lines indicator w₀ w (goOn from to fault) at cell found count
 
 abbrev arguments-μ-loop : arguments-lts.MeasureT-loop
-arguments-μ-loop line kinds book table lines indicator w₀ inner at₀ to₀ fault₀ count₀ w at to fault count =
+arguments-μ-loop line kinds book table lines indicator w₀ from to fault inner at₀ cell₀ found₀ count₀ w at cell found count =
     length line - at
 
 arguments-loop-holds : (t : ℕ) → arguments-lts.Need-loop-holds (claims-arguments t) (arguments-at t) arguments.Post arguments-Inv-loop arguments-μ-loop
@@ -250,7 +251,7 @@ arguments-same-length : (t : ℕ) → arguments-lts.Need-same-length (claims-arg
 arguments-same-length t c = search needs
 
 arguments-returns : (t : ℕ) → arguments-lts.Need-returns (claims-arguments t) (arguments-at t) arguments.Post arguments-Inv-loop arguments-μ-loop
-arguments-returns t c = arguments-of (arguments-refused (c .before .before .before .before .before .before .loop .inv) (c .before .before .before .before .expression .ensures) (c .if1 .taken))
+arguments-returns t c = arguments-refused (c .before .before .before .before .before .before .loop .inv) (c .before .before .before .before .expression .ensures) (c .if1 .taken)
 
 arguments-add-count : (t : ℕ) → arguments-lts.Need-add-count (claims-arguments t) (arguments-at t) arguments.Post arguments-Inv-loop arguments-μ-loop
 arguments-add-count t c = omega (arith, c .before .before .before .before .before .before .loop .inv, c .before .before .before .before .before .before .before .before .before .before .before)
@@ -268,13 +269,13 @@ arguments-same-length-2 : (t : ℕ) → arguments-lts.Need-same-length-2 (claims
 arguments-same-length-2 t c = search needs
 
 arguments-returns-2 : (t : ℕ) → arguments-lts.Need-returns-2 (claims-arguments t) (arguments-at t) arguments.Post arguments-Inv-loop arguments-μ-loop
-arguments-returns-2 t c = arguments-of (arguments-unclosed (c .before .before .before .before .before .before .before .before .before .before .before .loop .inv) (c .before .before .before .before .before .before .before .before .before .expression .ensures) (c .before .before .before .before .before .if1 .left) (c .before .before .before .before .symbol .ensures) (c .before .before .before .if2 .taken) (c .before .before .symbol2 .ensures) (c .before .if3 .taken) (c .refused .ensures))
+arguments-returns-2 t c = arguments-unclosed (c .before .before .before .before .before .before .before .before .before .before .before .loop .inv) (c .before .before .before .before .before .before .before .before .before .expression .ensures) (c .before .before .before .before .before .if1 .left) (c .before .before .before .before .symbol .ensures) (c .before .before .before .if2 .taken) (c .before .before .symbol2 .ensures) (c .before .if3 .taken) (c .refused .ensures)
 
 arguments-same-length-3 : (t : ℕ) → arguments-lts.Need-same-length-3 (claims-arguments t) (arguments-at t) arguments.Post arguments-Inv-loop arguments-μ-loop
 arguments-same-length-3 t c = search needs
 
 arguments-returns-3 : (t : ℕ) → arguments-lts.Need-returns-3 (claims-arguments t) (arguments-at t) arguments.Post arguments-Inv-loop arguments-μ-loop
-arguments-returns-3 t c = arguments-of (arguments-closed (c .before .before .before .before .before .before .before .before .before .before .loop .inv) (c .before .before .before .before .before .before .before .before .expression .ensures) (c .before .before .before .before .if1 .left) (c .before .before .before .symbol .ensures) (c .before .before .if2 .taken) (c .before .symbol2 .ensures) (c .if3 .left))
+arguments-returns-3 t c = arguments-closed (c .before .before .before .before .before .before .before .before .before .before .loop .inv) (c .before .before .before .before .before .before .before .before .expression .ensures) (c .before .before .before .before .if1 .left) (c .before .before .before .symbol .ensures) (c .before .before .if2 .taken) (c .before .symbol2 .ensures) (c .if3 .left)
 
 arguments-loop-less : (t : ℕ) → arguments-lts.Need-loop-less (claims-arguments t) (arguments-at t) arguments.Post arguments-Inv-loop arguments-μ-loop
 arguments-loop-less t c = omega (arith, c .if2, c .before .symbol .ensures .from (c .before .before .before .before .before .before .expression .ensures .onward .inside), c .before .before .before .before .before .before .expression .ensures .onward .from)
@@ -357,8 +358,8 @@ named-binding-requires t c κs = tt
 named-put-name-requires : (t : ℕ) → named-lts.Need-put-name-requires (claims-named t) (named-at t) named.Post
 named-put-name-requires t c κs = omega (arith, c .before .before .before .before .name-at .ensures .within (c .before .before .before .before .before .before .before .before .before .pre .1 .1))
 
-named-add-to : (t : ℕ) → named-lts.Need-add-to (claims-named t) (named-at t) named.Post
-named-add-to t c = omega (arith, c .before .before .before .before .before .before .before .before .before .before .before .before .before .pre, c .before .before .before .before .before .before .before .before .before .before .before .before .before)
+named-add-cell : (t : ℕ) → named-lts.Need-add-cell (claims-named t) (named-at t) named.Post
+named-add-cell t c = omega (arith, c .before .before .before .before .before .before .before .before .before .before .before .before .pre, c .before .before .before .before .before .before .before .before .before .before .before .before)
 
 named-symbol-requires : (t : ℕ) → named-lts.Need-symbol-requires (claims-named t) (named-at t) named.Post
 named-symbol-requires t c κs = tt
@@ -370,13 +371,13 @@ named-same-length : (t : ℕ) → named-lts.Need-same-length (claims-named t) (n
 named-same-length t c = search needs
 
 named-returns-2 : (t : ℕ) → named-lts.Need-returns-2 (claims-named t) (named-at t) named.Post
-named-returns-2 t c = named-alone (c .before .before .before .before .before .before .before .before .before .before .before .before .before .before .before .before .pre .1 .0) (c .before .before .before .before .before .before .before .before .before .before .before .before .before .before .before .before .pre .1 .1) (c .before .before .before .before .before .before .before .before .before .before .before .before .before .before .before .before .pre .1 .2) (c .before .before .before .before .before .before .before .before .before .before .before .name-at .ensures) (c .before .before .before .before .before .before .before .before .before .before .if1 .left) (⊎-elim (λ w. binding-of (w .3) (part _ (c .before .before .before .before .before .before .before .before .before .before .before .name-at .result .start) (c .before .before .before .before .before .before .before .before .before .before .before .name-at .result .start + c .before .before .before .before .before .before .before .before .before .before .before .name-at .result .len) (omega arith)) (w .2 .ensures)) (λ w. binding-none (w .1) (w .0 .left)) (c .before .before .before .before .before .before .before .before .if2 .came)) (c .before .before .before .before .before .before .put-name .ensures) (c .before .before .symbol .ensures) (c .before .if3 .taken) (c .counted .ensures)
+named-returns-2 t c = named-alone (c .before .before .before .before .before .before .before .before .before .before .before .before .before .before .before .pre .1 .0) (c .before .before .before .before .before .before .before .before .before .before .before .before .before .before .before .pre .1 .1) (c .before .before .before .before .before .before .before .before .before .before .before .before .before .before .before .pre .1 .2) (c .before .before .before .before .before .before .before .before .before .before .name-at .ensures) (c .before .before .before .before .before .before .before .before .before .if1 .left) (⊎-elim (λ w. binding-of (w .3) (part _ (c .before .before .before .before .before .before .before .before .before .before .name-at .result .start) (c .before .before .before .before .before .before .before .before .before .before .name-at .result .start + c .before .before .before .before .before .before .before .before .before .before .name-at .result .len) (omega arith)) (w .2 .ensures)) (λ w. binding-none (w .1) (w .0 .left)) (c .before .before .before .before .before .before .before .if2 .came)) (c .before .before .before .before .before .put-name .ensures) (c .before .before .symbol .ensures) (c .before .if3 .taken) (c .counted .ensures)
 
 named-nest-requires : (t : ℕ) → named-lts.Need-nest-requires (claims-named t) (named-at t) named.Post
 named-nest-requires t c κs = tt
 
 named-arguments-requires : (t : ℕ) → named-lts.Need-arguments-requires (claims-named t) (named-at t) named.Post
-named-arguments-requires t c κs = omega (arith, c .before .before .before .before .before .before .before .before .before .before .before .before .before .before .before .before .before .pre, c .before .before .if3, c .before .nest .ensures .deeper (c .before .before .before .before .before .before .before .before .before .before .before .before .before .before .before .before .before .pre .1 .2), c .before .before .before .symbol .ensures .from (c .before .before .before .before .before .before .before .before .before .before .before .before .name-at .ensures .within (c .before .before .before .before .before .before .before .before .before .before .before .before .before .before .before .before .before .pre .1 .1)), c .before .before .before .before .before .before .before .before .before .before .before .before .name-at .ensures .from)
+named-arguments-requires t c κs = omega (arith, c .before .before .before .before .before .before .before .before .before .before .before .before .before .before .before .before .pre, c .before .before .if3, c .before .nest .ensures .deeper (c .before .before .before .before .before .before .before .before .before .before .before .before .before .before .before .before .pre .1 .2), c .before .before .before .symbol .ensures .from (c .before .before .before .before .before .before .before .before .before .before .before .name-at .ensures .within (c .before .before .before .before .before .before .before .before .before .before .before .before .before .before .before .before .pre .1 .1)), c .before .before .before .before .before .before .before .before .before .before .before .name-at .ensures .from)
 
 named-counted-requires-2 : (t : ℕ) → named-lts.Need-counted-requires-2 (claims-named t) (named-at t) named.Post
 named-counted-requires-2 t c κs = tt
@@ -385,7 +386,7 @@ named-same-length-2 : (t : ℕ) → named-lts.Need-same-length-2 (claims-named t
 named-same-length-2 t c = search needs
 
 named-returns-3 : (t : ℕ) → named-lts.Need-returns-3 (claims-named t) (named-at t) named.Post
-named-returns-3 t c = named-read (c .before .before .before .before .before .before .before .before .before .before .before .before .before .before .before .before .before .before .before .before .before .pre .1 .0) (c .before .before .before .before .before .before .before .before .before .before .before .before .before .before .before .before .before .before .before .before .before .pre .1 .1) (c .before .before .before .before .before .before .before .before .before .before .before .before .before .before .before .before .before .before .before .before .before .pre .1 .2) (c .before .before .before .before .before .before .before .before .before .before .before .before .before .before .before .before .name-at .ensures) (c .before .before .before .before .before .before .before .before .before .before .before .before .before .before .before .if1 .left) (⊎-elim (λ w. binding-of (w .3) (part _ (c .before .before .before .before .before .before .before .before .before .before .before .before .before .before .before .before .name-at .result .start) (c .before .before .before .before .before .before .before .before .before .before .before .before .before .before .before .before .name-at .result .start + c .before .before .before .before .before .before .before .before .before .before .before .before .before .before .before .before .name-at .result .len) (omega arith)) (w .2 .ensures)) (λ w. binding-none (w .1) (w .0 .left)) (c .before .before .before .before .before .before .before .before .before .before .before .before .before .if2 .came)) (c .before .before .before .before .before .before .before .before .before .before .before .put-name .ensures) (c .before .before .before .before .before .before .before .symbol .ensures) (c .before .before .before .before .before .before .if3 .left) (c .before .before .before .before .before .nest .ensures) (c .before .before .before .arguments .ensures) (c .counted2 .ensures)
+named-returns-3 t c = named-read (c .before .before .before .before .before .before .before .before .before .before .before .before .before .before .before .before .before .before .before .before .pre .1 .0) (c .before .before .before .before .before .before .before .before .before .before .before .before .before .before .before .before .before .before .before .before .pre .1 .1) (c .before .before .before .before .before .before .before .before .before .before .before .before .before .before .before .before .before .before .before .before .pre .1 .2) (c .before .before .before .before .before .before .before .before .before .before .before .before .before .before .before .name-at .ensures) (c .before .before .before .before .before .before .before .before .before .before .before .before .before .before .if1 .left) (⊎-elim (λ w. binding-of (w .3) (part _ (c .before .before .before .before .before .before .before .before .before .before .before .before .before .before .before .name-at .result .start) (c .before .before .before .before .before .before .before .before .before .before .before .before .before .before .before .name-at .result .start + c .before .before .before .before .before .before .before .before .before .before .before .before .before .before .before .name-at .result .len) (omega arith)) (w .2 .ensures)) (λ w. binding-none (w .1) (w .0 .left)) (c .before .before .before .before .before .before .before .before .before .before .before .before .if2 .came)) (c .before .before .before .before .before .before .before .before .before .before .put-name .ensures) (c .before .before .before .before .before .before .before .symbol .ensures) (c .before .before .before .before .before .before .if3 .left) (c .before .before .before .before .before .nest .ensures) (c .before .before .before .arguments .ensures) (c .counted2 .ensures)
 
 pub +abstraction+application+arguments+expression+named-spec : {M : Type 1} → statement M
 +abstraction+application+arguments+expression+named-spec =
@@ -418,8 +419,8 @@ pub +abstraction+application+arguments+expression+named-spec : {M : Type 1} → 
     (abstraction-refused-requires-3 t)
     (abstraction-returns-3 t)
     (abstraction-put-requires t)
-    (abstraction-add-if5 t)
     (abstraction-nest-requires t)
+    (abstraction-add-expression t)
     (abstraction-expression-requires t)
     (abstraction-same-length t)
     (abstraction-returns-4 t)
@@ -449,8 +450,8 @@ pub +abstraction+application+arguments+expression+named-spec : {M : Type 1} → 
     (application-refused-requires t)
     (application-returns t)
     (application-put-requires t)
-    (application-add-if3 t)
     (application-nest-requires t)
+    (application-add-expression t)
     (application-expression-requires t)
     (application-same-length t)
     (application-returns-2 t)
@@ -550,7 +551,7 @@ pub +abstraction+application+arguments+expression+named-spec : {M : Type 1} → 
     (named-part-binding-end t)
     (named-binding-requires t)
     (named-put-name-requires t)
-    (named-add-to t)
+    (named-add-cell t)
     (named-symbol-requires t)
     (named-counted-requires t)
     (named-same-length t)
