@@ -127,13 +127,14 @@ module _ {tb w : List ℕ} {last v i : ℕ} (n : last ≢ 0) (ei : i ≡ rowCell
             sym (not-there v (contextAt ls last) (at-numbers k last (omega arith) b) (omega (arith, at-length k last (omega arith) b)));
       }
 
-  pub number-noted : {most x : ℕ} → most ≡ rowCell tb last 3 → i ≤ most → i < length w / 26 → x ≡ getD w (23 * (length w / 26) + i) 0 → InContext tb w last v (eqb x v)
-  number-noted {most} {x} em l u ex =
+  pub number-noted : {most x : ℕ} → most ≡ rowCell tb last 3 → i ≤ most → most < i + 64 → i < length w / 26 → x ≡ getD w (23 * (length w / 26) + i) 0 → InContext tb w last v (eqb x v)
+  number-noted {most} {x} em l near u ex =
       record {
         is = λ ls book lines k c b p.
             let a : i < length (contextAt ls last) = omega (arith, at-length k last (omega arith) b) in
+            let d : length (contextAt ls last) ≤ i + 64 = omega (arith, at-length k last (omega arith) b) in
             by-number v (contextAt ls last) (at-numbers k last (omega arith) b) (omega arith)
-            (ex ∙ c .variable i a u ∙ ap (λ j. getD (contextAt ls last) j 0) ei);
+            (ex ∙ c .variable i a d u ∙ ap (λ j. getD (contextAt ls last) j 0) ei);
       }
 
 pub by-chain : {tb w : List ℕ} {last v : ℕ} {r : Bool} → OnChain tb last v r → InContext tb w last v r
@@ -180,7 +181,7 @@ module _ {tb w₀ w : List ℕ} {last c : ℕ} (h : NotedSoFar tb w₀ w last c)
         kept = h .kept;
         noted = λ ls book lines k b.
             record {
-              variable = λ i a u.
+              variable = λ i a d u.
                   let none : length (contextAt ls c) ≡ 0 = ap (λ n. length (contextAt ls n)) {y = 0} (omega arith) ∙ ap length (zero-context ls) in
                   let q : length w / 26 ≡ length w₀ / 26 = ap (λ n. n / 26) (h .kept .long) in
                   ap (λ n. getD w (23 * n + i) 0) q ∙ h .noted ls book lines k b i (omega arith) a (omega arith);
@@ -195,6 +196,21 @@ module _ {tb w₀ w : List ℕ} {last c : ℕ} (h : NotedSoFar tb w₀ w last c)
           noted = λ ls book lines k b.
               let (x, i) = lineAt k c p (omega (arith, h .within)) in
               absurd (omega (arith, k .behind i, k .rows .row i .indicatorIs));
+        }
+
+    -- the variables from c's on are not the last 64
+    pub noted-enough : {i end : ℕ} → i ≡ rowCell tb c 3 → end ≡ rowCell tb last 3 → i + 64 ≤ end → ContextPost tb w₀ w last
+    noted-enough {i} {end} ei ee far =
+        record {
+          kept = h .kept;
+          noted = λ ls book lines k b.
+              record {
+                variable = λ j a d u.
+                    let q : length w / 26 ≡ length w₀ / 26 = ap (λ n. n / 26) (h .kept .long) in
+                    let m : length (contextAt ls c) ≡ suc (rowCell tb c 3) = at-length k c p (omega (arith, h .within)) in
+                    let n : length (contextAt ls last) ≡ suc (rowCell tb last 3) = at-length k last (omega (arith, h .within)) b in
+                    ap (λ n. getD w (23 * n + j) 0) q ∙ h .noted ls book lines k b j (omega arith) a (omega arith);
+              };
         }
 
     module _ {i : ℕ} {w₁ : List ℕ} (l : next < c) (ei : i ≡ rowCell tb c 3) (q : VariablePut w w₁ i c) where

@@ -8,19 +8,19 @@ use Rattle.aut68.specs.Lines.{Lines}
 use Rattle.aut68.specs.Procedure.Resolve.{contextAt}
 use Rattle.names.specs.HintLaws.{cell-same}
 
--- The variables of the context that ends with line `last`, outermost first, stand in the unit 23 of 26 of the store; as many as
--- it has cells.
+-- The last 64 variables of the context that ends with line `last` stand in the unit 23 of 26 of the store, each at its number, the
+-- outermost being 0; as far as the unit has cells.
 pub record ContextNoted (ls : Lines) (last : ℕ) (w : List ℕ) : Type 0 where
-  pub variable : (i : ℕ) → i < length (contextAt ls last) → i < length w / 26 → getD w (23 * (length w / 26) + i) 0 ≡ getD (contextAt ls last) i 0
+  pub variable : (i : ℕ) → i < length (contextAt ls last) → length (contextAt ls last) ≤ i + 64 → i < length w / 26 → getD w (23 * (length w / 26) + i) 0 ≡ getD (contextAt ls last) i 0
 
 -- it stays where the cells of that unit are as they were
 pub context-noted-same : {ls : Lines} {last : ℕ} {w w′ : List ℕ} (n : ℕ) → 24 * (length w / 26) ≤ n → length w′ ≡ length w → take n w′ ≡ take n w
     → ContextNoted ls last w → ContextNoted ls last w′
 context-noted-same {ls} {last} {w} {w′} n h l e c =
     record {
-      variable = λ i a b.
+      variable = λ i a d b.
           let q : length w′ / 26 ≡ length w / 26 = ap (λ k. k / 26) l in
           ap (λ k. getD w′ (23 * k + i) 0) q
           ∙ cell-same w w′ n (23 * (length w / 26) + i) e (omega arith)
-          ∙ c .variable i a (omega arith);
+          ∙ c .variable i a d (omega arith);
     }

@@ -17,10 +17,12 @@ fn put_variable(w: &mut [u16], i: usize, c: usize)
     w[at] = c as u16;
 }
 
-// Notes the context that ends with line `last`: each variable's number is the length of its own line's context.
+// Notes the context that ends with line `last`, its last 64 variables: so a line costs no more in a long context. Each variable's
+// number is the length of its own line's context.
 pub fn note_context(table: &[u32], w: &mut [u16], last: usize)
     ensures { λ _. ⌜ ContextPost (now (table .entry)) (now (w .entry)) (now (w .exit)) last ⌝ }
 {
+    let end = field(table, last, 3);
     let mut c = last;
     while c > 0 {
         let next = field(table, c, 2);
@@ -28,6 +30,9 @@ pub fn note_context(table: &[u32], w: &mut [u16], last: usize)
             return;
         }
         let i = field(table, c, 3);
+        if i + 64 <= end {
+            return;
+        }
         put_variable(w, i, c);
         c = next;
     }
@@ -52,7 +57,7 @@ fn on_chain(table: &[u32], last: usize, v: usize) -> bool
     false
 }
 
-// The same by what is noted of that context in w; along the chain for a variable past the cells that note it.
+// The same by what is noted of that context in w; along the chain for a variable that is not noted.
 pub fn in_context(table: &[u32], w: &[u16], last: usize, v: usize) -> bool
     ensures { λ r. ⌜ InContext (now (table .entry)) (now (w .entry)) last v r ⌝ }
 {
@@ -63,6 +68,9 @@ pub fn in_context(table: &[u32], w: &[u16], last: usize, v: usize) -> bool
     let most = field(table, last, 3);
     if i > most {
         return false;
+    }
+    if i + 64 <= most {
+        return on_chain(table, last, v);
     }
     let unit = w.len() / 26;
     if i >= unit {

@@ -19,11 +19,20 @@ field-requires-2 c κs = search needs
 returns-2 : tie.Need-returns-2
 returns-2 c = number-too-large (c .before .before .before .if1 .left) (c .before .before .field .ensures .0) (c .before .field2 .ensures .0) (c .if2 .taken)
 
+add-if3 : tie.Need-add-if3
+add-if3 c = omega (arith, c .before .before .field .ensures .1)
+
 on-chain-requires : tie.Need-on-chain-requires
 on-chain-requires c κs = search needs
 
 returns-3 : tie.Need-returns-3
 returns-3 c = by-chain (c .on-chain .ensures)
+
+on-chain-requires-2 : tie.Need-on-chain-requires-2
+on-chain-requires-2 c κs = search needs
+
+returns-4 : tie.Need-returns-4
+returns-4 c = by-chain (c .on-chain2 .ensures)
 
 mul-at : tie.Need-mul-at
 mul-at c = search needs
@@ -38,10 +47,10 @@ shared-slice-read-noted : tie.Need-shared-slice-read-noted
 shared-slice-read-noted c = search needs
 
 cast-noted : tie.Need-cast-noted
-cast-noted c = omega (arith, c .shared-slice-known3 .given (23 * (length (c .before .before .before .before .before .before .before .before .args .w .now) / 26) + c .before .before .before .before .field .result))
+cast-noted c = omega (arith, c .shared-slice-known3 .given (23 * (length (c .before .before .before .before .before .before .before .before .before .args .w .now) / 26) + c .before .before .before .before .before .field .result))
 
-returns-4 : tie.Need-returns-4
-returns-4 c = number-noted (c .before .before .before .before .before .if1 .left) (c .before .before .before .before .field .ensures .0) (c .before .before .before .field2 .ensures .0) (c .before .before .if2 .left) (omega arith) refl
+returns-5 : tie.Need-returns-5
+returns-5 c = number-noted (c .before .before .before .before .before .before .if1 .left) (c .before .before .before .before .before .field .ensures .0) (c .before .before .before .before .field2 .ensures .0) (c .before .before .before .if2 .left) (omega arith) (omega arith) refl
 
 pub in-context-spec : {M : Type 1} → statement M
 in-context-spec =
@@ -51,11 +60,14 @@ in-context-spec =
     field-requires
     field-requires-2
     returns-2
+    add-if3
     on-chain-requires
     returns-3
+    on-chain-requires-2
+    returns-4
     mul-at
     add-at
     mul-noted
     shared-slice-read-noted
     cast-noted
-    returns-4)
+    returns-5)
