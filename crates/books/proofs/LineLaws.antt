@@ -9,6 +9,7 @@ use lib.Dec.{leb, ltb}
 use lib.ListN.{length, take, drop, length-take}
 use lib.Seq.{slice, sets, drop-at, length-slice}
 use borrow.Author.Tests.{not-true, not-false}
+use Rattle.aut68.specs.Language.{aut68}
 use Rattle.aut68.specs.Bytes.{Bytes, lines}
 use Rattle.aut68.specs.Expr.{size, cells}
 use Rattle.aut68.specs.Lines.{kindCells, lineCells, termsOf, tableOf, rowOf}
@@ -17,7 +18,8 @@ use Rattle.aut68.specs.Procedure.CheckLine.{Passed, checkLine, room}
 use Rattle.aut68.specs.Procedure.Run.{Recorded}
 use Rattle.lookup.specs.DerivedBooks.{right-contexts, distinct-names}
 use Rattle.calculus.specs.Resolved.{resolved-known, category-known}
-use Rattle.calculus.specs.MeansResolved.{line-resolved, derived-resolved}
+use Rattle.inclusion.specs.Books.{built-right}
+use Rattle.inclusion.specs.Derivations.{derived-built, line-middle, line-category, category-ends}
 use Rattle.cells.specs.Forests.{size-is-length}
 use Rattle.cells.specs.Results.{Result, passed, refused}
 use Rattle.kinds.specs.Kinds.{KindsTable}
@@ -44,10 +46,10 @@ pub line-as : {book ks : Bytes} {limit at n used budget : ℕ} {tb ts w : List �
 line-as (p, q, r, s, t) h = rw (p, q, r, s, t) h
 
 reached-as : {book : Bytes} {limit : ℕ} {tb₀ ts₀ : List ℕ} {k : Recorded} {n u u′ : ℕ} {tb tb′ ts ts′ : List ℕ} → u′ ≡ u → tb′ ≡ tb → ts′ ≡ ts
-    → Reached book limit tb₀ ts₀ k n u tb ts → Reached book limit tb₀ ts₀ k n u′ tb′ ts′
+    → Reached aut68 book limit tb₀ ts₀ k n u tb ts → Reached aut68 book limit tb₀ ts₀ k n u′ tb′ ts′
 reached-as e f g h = rw (e, f, g) h
 
-module _ {book : Bytes} {limit : ℕ} {tb₀ ts₀ : List ℕ} {k : Recorded} {n used : ℕ} {tb ts : List ℕ} (h : Reached book limit tb₀ ts₀ k n used tb ts) where
+module _ {book : Bytes} {limit : ℕ} {tb₀ ts₀ : List ℕ} {k : Recorded} {n used : ℕ} {tb ts : List ℕ} (h : Reached aut68 book limit tb₀ ts₀ k n used tb ts) where
   table-same : length tb ≡ length tb₀
   table-same =
       let a = h .tableRoom in
@@ -77,13 +79,13 @@ module _ {book : Bytes} {limit : ℕ} {tb₀ ts₀ : List ℕ} {k : Recorded} {n
 
   -- what the reader says of it
   line-result : {bytes ks w w′ : List ℕ} {x : Line} → length bytes ≤ length book → Fitting book limit w → KindsTable ks → HintedIn limit book tb n w
-      → LineReadTo ks bytes book tb n limit w w′ x → (b : ℕ) → Result (Reader.LineRead bytes w′ (24 * limit) x) (x .code) b (readLine (k .recorded) limit bytes b)
+      → LineReadTo ks bytes book tb n limit w w′ x → (b : ℕ) → Result (Reader.LineRead bytes w′ (24 * limit) x) (x .code) b (readLine aut68 (k .recorded) limit bytes b)
   line-result part f ks hints post b =
       post .read (k .recorded) ks known (let s = f .short in omega arith) (f .large) (let e = f .enough in omega arith) hints b
 
   -- ---- stored
 
-  module _ {bytes : Bytes} {p : Passed} (r : LineRead (k .recorded) limit bytes p) (fits : HasRoom (k .recorded) (length tb₀) (length ts₀) (p .line)) (small : limit ≤ 4096) where
+  module _ {bytes : Bytes} {p : Passed} (r : LineRead aut68 (k .recorded) limit bytes p) (fits : HasRoom (k .recorded) (length tb₀) (length ts₀) (p .line)) (small : limit ≤ 4096) where
     book-holds : (s : List ℕ) → s ≡ termsOf (k .recorded) ++ lineCells (p .line) → Book (k .recorded) limit tb s
     book-holds s e =
         let H = reached-holds h s (lineCells (p .line)) e in
@@ -91,7 +93,7 @@ module _ {book : Bytes} {limit : ℕ} {tb₀ ts₀ : List ℕ} {k : Recorded} {n
           few = (let f = h .few in let q = h .linesAre in omega arith);
           rows = held-rows H;
           stored = held-stored H;
-          resolved = derived-resolved (h .derived);
+          resolved = built-right (derived-built (h .derived)) .resolvedLines;
           contexts = λ i. right-contexts (h .derived) _ _ i;
           earlier = λ i. indicators-before (h .derived) _ _ i;
           middleSize = λ i. h .small i .middleSize;
@@ -105,14 +107,14 @@ module _ {book : Bytes} {limit : ℕ} {tb₀ ts₀ : List ℕ} {k : Recorded} {n
     line-cells s middle short e m =
         let l = p .line in
         let a = r .reading in
-        let R = line-resolved (k .recorded) l (a .contextIs) (a .middleIs) (a .categoryIs) in
         record {
           short = short;
           cellsAre = record { is = ap (drop used) e ∙ drop-at (termsOf (k .recorded)) (lineCells l) used (sym (h .usedIs)) };
           ends = ap (λ (x : ℕ). used + x) m;
-          middle = λ d q. resolved-known (k .recorded) (l .context) 0 d (R .middle d q);
+          middle = λ d q. resolved-known (k .recorded) (l .context) 0 d (line-middle (k .recorded) (l .context) (a .form) (a .middleIs) d q);
           middleSmall = λ d q. (let f = r .middleFits in let z = ap (λ x. length (kindCells x)) q in omega (arith, f, z, size-is-length d), middle-shallow r d q);
-          category = category-known (k .recorded) (l .context) (l .category) (R .category);
+          category = category-known (k .recorded) (l .context) (l .category) (line-category (k .recorded) (l .context) (a .form) (a .categoryIs));
+          endsOnly = category-ends aut68 (k .recorded) (l .context) (a .form) (a .categoryIs);
           categorySmall = (let f = r .categoryFits in omega (arith, f, size-is-length (l .category)), category-shallow r);
         }
 
@@ -159,7 +161,7 @@ module _ {book : Bytes} {limit : ℕ} {tb₀ ts₀ : List ℕ} {k : Recorded} {n
     pub ends-unread : x .code ≢ 0 → {used′ : ℕ} {w″ : List ℕ} → LineResult book limit tb₀ ts₀ k at n budget tb ts (x .code) at n used′ budget tb ts w″
     ends-unread c =
         let (r, e, q) = result-stop c (line-result part f table hints post budget) in
-        P.refused cut (not-read (k .recorded) limit (length tb₀) (length ts₀) bytes budget e) q refl refl refl
+        P.refused cut (not-read aut68 (k .recorded) limit (length tb₀) (length ts₀) bytes budget e) q refl refl refl
 
     module _ (read : x .code ≡ 0) where
       abbrev Is : Passed → Type 0
@@ -176,16 +178,16 @@ module _ {book : Bytes} {limit : ℕ} {tb₀ ts₀ : List ℕ} {k : Recorded} {n
       unfolding codeOf
       ends-full {t} flag e =
           let (p, d, a) = result-done read (line-result part f table hints post budget) in
-          P.refused cut (no-room (k .recorded) limit (length tb₀) (length ts₀) bytes budget d (sym (room-same a) ∙ sym e ∙ not-true t flag)) refl refl refl refl
+          P.refused cut (no-room aut68 (k .recorded) limit (length tb₀) (length ts₀) bytes budget d (sym (room-same a) ∙ sym e ∙ not-true t flag)) refl refl refl refl
 
       module _ {t : Bool} (flag : not t ≡ false) (fits : t ≡ (ltb (suc n) 8192 && leb (8 * suc n) (length tb) && leb (used + x .size) (length ts))) where
         has-room : {p : Passed} → Is p → room (k .recorded) (length tb₀) (length ts₀) (p .line) ≡ true
         has-room a = sym (room-same a) ∙ sym fits ∙ not-false t flag
 
-        is-read : {p : Passed} → readLine (k .recorded) limit bytes budget ≡ done p budget → LineRead (k .recorded) limit bytes p
-        is-read d = reads (k .recorded) limit (length tb₀) (length ts₀) bytes budget (right-contexts (h .derived)) d
+        is-read : {p : Passed} → readLine aut68 (k .recorded) limit bytes budget ≡ done p budget → LineRead aut68 (k .recorded) limit bytes p
+        is-read d = reads aut68 (k .recorded) limit (length tb₀) (length ts₀) bytes budget (right-contexts (h .derived)) d
 
-        stores : {p : Passed} → readLine (k .recorded) limit bytes budget ≡ done p budget → Is p → ToStore (k .recorded) (p .line) limit used (x .middle) (x .size) tb ts w′
+        stores : {p : Passed} → readLine aut68 (k .recorded) limit bytes budget ≡ done p budget → Is p → ToStore (k .recorded) (p .line) limit used (x .middle) (x .size) tb ts w′
         stores {p} d a =
             to-store (is-read d) (room-is (k .recorded) (length tb₀) (length ts₀) (p .line) (has-room a)) (f .small)
             (let e = f .enough in let o = post .outside .long in omega arith) a
@@ -203,7 +205,7 @@ module _ {book : Bytes} {limit : ℕ} {tb₀ ts₀ : List ℕ} {k : Recorded} {n
               let s = stores d a in
               let (r, e, q) = result-stop c (checked .means s) in
               let (t, u) = checked .restored s c in
-              P.refused cut (by-categories (k .recorded) limit (length tb₀) (length ts₀) bytes budget d (has-room a) ∙ ap (andThen _) e) q refl t u
+              P.refused cut (by-categories aut68 (k .recorded) limit (length tb₀) (length ts₀) bytes budget d (has-room a) ∙ ap (andThen _) e) q refl t u
 
           row-same : {p : Passed} → Is p → start ≡ at + x .first → row ≡ rowOf (at + p .before) used (p .line)
           unfolding rowOf
@@ -220,7 +222,7 @@ module _ {book : Bytes} {limit : ℕ} {tb₀ ts₀ : List ℕ} {k : Recorded} {n
               let (t, e, z) = result-done c (checked .means s) in
               let R = is-read d in
               let room = room-is (k .recorded) (length tb₀) (length ts₀) (p .line) (has-room a) in
-              let done : checkLine (k .recorded) limit (length tb₀) (length ts₀) bytes budget ≡ done p left = by-categories (k .recorded) limit (length tb₀) (length ts₀) bytes budget d (has-room a) ∙ ap (andThen _) e in
+              let done : checkLine aut68 (k .recorded) limit (length tb₀) (length ts₀) bytes budget ≡ done p left = by-categories aut68 (k .recorded) limit (length tb₀) (length ts₀) bytes budget d (has-room a) ∙ ap (andThen _) e in
               let short : at + length bytes ≤ 16777215 = let s = f .short in omega (arith, s, within, ends-at) in
               let here : start ≡ at + x .first = sum (let i = R .named .within in let j = a .firstIs in omega arith) in
               let is = row-same a here in

@@ -5,6 +5,7 @@ use mathlib.Core.List.{List, _∷_}
 use Prim.Native.Nat.{ℕ, suc, _+_, _-_, _*_, _≤_}
 use native.Mathlib.Omega.{arith}
 use lib.ListN.{length, take, drop, drop-of-length-le}
+use Rattle.aut68.specs.Language.{aut68}
 use Rattle.aut68.specs.Bytes.{Bytes, lines}
 use Rattle.aut68.specs.Procedure.Answer.{done, stop, Refusal}
 use Rattle.aut68.specs.Procedure.CheckLine.{Passed, checkLine}
@@ -17,24 +18,24 @@ use Rattle.books.specs.Progress.{LineResult, passed, refused, Going, Lin
 
 module _ (book : Bytes) (limit N : ℕ) (tb₀ ts₀ : List ℕ) where
   abbrev ending : Ending
-  ending = checkLines N limit (length tb₀) (length ts₀) nothing 0 N (lines book)
+  ending = checkLines aut68 N limit (length tb₀) (length ts₀) nothing 0 N (lines book)
 
   abbrev from : Recorded → ℕ → ℕ → List Bytes → Ending
-  from k at b pieces = checkLines N limit (length tb₀) (length ts₀) k at b pieces
+  from k at b pieces = checkLines aut68 N limit (length tb₀) (length ts₀) k at b pieces
 
-  one-passes : (k : Recorded) (at b : ℕ) (bytes : Bytes) (more : List Bytes) {p : Passed} {b′ : ℕ} → checkLine (k .recorded) limit (length tb₀) (length ts₀) bytes b ≡ done p b′
+  one-passes : (k : Recorded) (at b : ℕ) (bytes : Bytes) (more : List Bytes) {p : Passed} {b′ : ℕ} → checkLine aut68 (k .recorded) limit (length tb₀) (length ts₀) bytes b ≡ done p b′
       → from k at b (bytes ∷ more) ≡ from (oneMore k at p) (at + length bytes) b′ more
   unfolding checkLines oneMore
   one-passes k at b bytes more e = rw (e, checkLines) refl
 
-  one-stops : (k : Recorded) (at b : ℕ) (bytes : Bytes) (more : List Bytes) {r : Refusal} {b′ : ℕ} → checkLine (k .recorded) limit (length tb₀) (length ts₀) bytes b ≡ stop r b′
+  one-stops : (k : Recorded) (at b : ℕ) (bytes : Bytes) (more : List Bytes) {r : Refusal} {b′ : ℕ} → checkLine aut68 (k .recorded) limit (length tb₀) (length ts₀) bytes b ≡ stop r b′
       → from k at b (bytes ∷ more) ≡ refusedAt r (suc (length (k .recorded))) (N - b′) k
   unfolding checkLines
   one-stops k at b bytes more e = rw (e, checkLines) refl
 
   pub going-starts : (w : List ℕ) → Going book limit N tb₀ ts₀ 0 0 0 N tb₀ ts₀ w
   going-starts w =
-      record { recorded = nothing; reached = reached-nothing book limit tb₀ ts₀; hinted = no-line-hinted book tb₀ (take (26 * limit) w); goes = refl }
+      record { recorded = nothing; reached = reached-nothing aut68 book limit tb₀ ts₀; hinted = no-line-hinted book tb₀ (take (26 * limit) w); goes = refl }
 
   module _ {at n used b : ℕ} {tb ts w : List ℕ} (g : Going book limit N tb₀ ts₀ at n used b tb ts w) where
     -- a line that passes
@@ -61,7 +62,7 @@ module _ (book : Bytes) (limit N : ℕ) (tb₀ ts₀ : List ℕ) where
     going-stops z (refused {bytes} {more} {r} cut d c l t u) =
         let R = g .reached in
         let q = g .goes ∙ ap (from (g .recorded) at b) cut ∙ one-stops (g .recorded) at b bytes more d in
-        let low = refusal-code (g .recorded .recorded) (R .derived) limit (length tb₀) (length ts₀) bytes b d in
+        let low = refusal-code aut68 (g .recorded .recorded) (R .derived) limit (length tb₀) (length ts₀) bytes b d in
         record {
           codeIs = c ∙ sym (ap codeAt q);
           acceptedLine = λ x. absurd (z x);

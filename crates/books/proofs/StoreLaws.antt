@@ -6,6 +6,7 @@ use Prim.Native.Nat.{ℕ, _+_, _*_, _≤_, _<_}
 use native.Mathlib.Omega.{arith}
 use lib.ListN.{length, take, drop, length-append, take-append-drop}
 use lib.Seq.{sets, sets-eq, length-sets, take-at, drop-at, take-add, length-take-le}
+use Rattle.aut68.specs.Language.{aut68}
 use Rattle.aut68.specs.Expr.{Expr, size, cells}
 use Rattle.aut68.specs.Lines.{Line, Lines, Kind, variable, primitive, abbreviation, kindCells, lineCells}
 use Rattle.aut68.specs.Procedure.Answer.{Answer, _>>=_}
@@ -143,7 +144,7 @@ module _ {ls : Lines} {l : Line} {limit used middle size : ℕ} {tb ts w : List 
   pub checked : (ts′ w′ w″ : List ℕ) (category budget code left : ℕ) → ts′ ≡ copyCells w to size ts used → w′ ≡ copyCells ts used size w to
       → (used + middle < 4294967296 → category ≡ used + middle)
       → CheckCellsPost tb (take (used + size) ts′) used category w′ limit budget w″ code left
-      → Result (λ _. Unit {0}) code left ((checkWritten ls limit (l .category) >>= λ _. checkMiddle ls limit (l .kind) (l .category)) budget)
+      → Result (λ _. Unit {0}) code left ((checkWritten aut68 ls limit (l .category) >>= λ _. checkMiddle aut68 ls limit (l .kind) (l .category)) budget)
   checked ts′ w′ w″ category budget code left p q r post =
       post .means {ls = ls} {l = l} (rw (cells-stored ts′ p) (s .book)) (let e = s .enough in omega (arith, ap length q, copy-outside ts used size w to .long))
       (rw (cells-stored ts′ p, r category-starts) (s .cells))

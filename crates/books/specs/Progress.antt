@@ -5,6 +5,7 @@ use mathlib.Core.List.{List, _∷_}
 use Prim.Native.Nat.{ℕ, suc, _+_, _-_, _*_, _≤_, _<_}
 use lib.ListN.{length, take, drop}
 use lib.Seq.{sets}
+use Rattle.aut68.specs.Language.{aut68}
 use Rattle.aut68.specs.Bytes.{Bytes, lines}
 use Rattle.aut68.specs.Lines.{Line, Lines, lineCells}
 use Rattle.aut68.specs.Procedure.Answer.{done, stop, _>>=_, Refusal, codeOf}
@@ -42,7 +43,7 @@ pub record StoredPost (limit n used middle size : ℕ) (row : List ℕ) (budget 
   pub long : length w′ ≡ length w
   pub below : limit ≤ 4096 → take (24 * limit) w′ ≡ take (24 * limit) w
   pub means : {ls : Lines} {l : Line} → ToStore ls l limit used middle size tb ts w
-      → Result (λ _. Written l n used row tb ts tb′ ts′) code left ((checkWritten ls limit (l .category) >>= λ _. checkMiddle ls limit (l .kind) (l .category)) budget)
+      → Result (λ _. Written l n used row tb ts tb′ ts′) code left ((checkWritten aut68 ls limit (l .category) >>= λ _. checkMiddle aut68 ls limit (l .kind) (l .category)) budget)
   pub restored : {ls : Lines} {l : Line} → ToStore ls l limit used middle size tb ts w → code ≢ 0 → (tb′ ≡ tb) × (ts′ ≡ ts)
 
 -- ---- a line that is noted
@@ -72,19 +73,19 @@ HintedIn limit book tb n w = Hinted book tb n (take (26 * limit) w)
 pub data LineResult (book : Bytes) (limit : ℕ) (tb₀ ts₀ : List ℕ) (k : Recorded) (at n budget : ℕ) (tb ts : List ℕ) (code next n′ used′ left : ℕ) (tb′ ts′ w′ : List ℕ) : Type 0 where
   passed : {bytes : Bytes} {p : Passed}
       → lines (drop at book) ≡ bytes ∷ lines (drop next book) → next ≡ at + length bytes
-      → checkLine (k .recorded) limit (length tb₀) (length ts₀) bytes budget ≡ done p left
-      → code ≡ 0 → Reached book limit tb₀ ts₀ (oneMore k at p) n′ used′ tb′ ts′ → HintedIn limit book tb′ n′ w′
+      → checkLine aut68 (k .recorded) limit (length tb₀) (length ts₀) bytes budget ≡ done p left
+      → code ≡ 0 → Reached aut68 book limit tb₀ ts₀ (oneMore k at p) n′ used′ tb′ ts′ → HintedIn limit book tb′ n′ w′
       → LineResult book limit tb₀ ts₀ k at n budget tb ts code next n′ used′ left tb′ ts′ w′
   refused : {bytes : Bytes} {more : List Bytes} {r : Refusal}
       → lines (drop at book) ≡ bytes ∷ more
-      → checkLine (k .recorded) limit (length tb₀) (length ts₀) bytes budget ≡ stop r left
+      → checkLine aut68 (k .recorded) limit (length tb₀) (length ts₀) bytes budget ≡ stop r left
       → code ≡ codeOf r → n′ ≡ n → tb′ ≡ tb → ts′ ≡ ts
       → LineResult book limit tb₀ ts₀ k at n budget tb ts code next n′ used′ left tb′ ts′ w′
 
 pub record LinePost (book ks : Bytes) (limit at n used budget : ℕ) (tb ts w : List ℕ) (code next n′ used′ left : ℕ) (tb′ ts′ w′ : List ℕ) : Type 0 where
   -- the next line begins behind this one
   pub onward : code ≡ 0 → (at < next) × (next ≤ length book)
-  pub means : {tb₀ ts₀ : List ℕ} {k : Recorded} → Fitting book limit w → KindsTable ks → Reached book limit tb₀ ts₀ k n used tb ts → HintedIn limit book tb n w
+  pub means : {tb₀ ts₀ : List ℕ} {k : Recorded} → Fitting book limit w → KindsTable ks → Reached aut68 book limit tb₀ ts₀ k n used tb ts → HintedIn limit book tb n w
       → LineResult book limit tb₀ ts₀ k at n budget tb ts code next n′ used′ left tb′ ts′ w′
 
 -- ---- all lines
@@ -92,9 +93,9 @@ pub record LinePost (book ks : Bytes) (limit at n used budget : ℕ) (tb ts w : 
 -- what is recorded when the check has come to the byte `at`, and that the lines from there on decide how the book ends
 pub record Going (book : Bytes) (limit N : ℕ) (tb₀ ts₀ : List ℕ) (at n used budget : ℕ) (tb ts w : List ℕ) : Type 0 where
   pub recorded : Recorded
-  pub reached : Reached book limit tb₀ ts₀ recorded n used tb ts
+  pub reached : Reached aut68 book limit tb₀ ts₀ recorded n used tb ts
   pub hinted : HintedIn limit book tb n w
-  pub goes : checkLines N limit (length tb₀) (length ts₀) nothing 0 N (lines book) ≡ checkLines N limit (length tb₀) (length ts₀) recorded at budget (lines (drop at book))
+  pub goes : checkLines aut68 N limit (length tb₀) (length ts₀) nothing 0 N (lines book) ≡ checkLines aut68 N limit (length tb₀) (length ts₀) recorded at budget (lines (drop at book))
 
 -- The lines of the book end so: with code 0 after n lines, else at line n + 1.
 pub record LinesPost (e : Ending) (N : ℕ) (tb ts : List ℕ) (code n left : ℕ) (tb′ ts′ : List ℕ) : Type 0 where

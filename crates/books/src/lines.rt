@@ -18,6 +18,7 @@ ghost use mathlib.Core.Path.{_≡_};
 ghost use mathlib.Core.List.{[], _∷_};
 ghost use Prim.Native.Nat.{_+_, _<_, _≤_};
 ghost use lib.ListN.{length};
+ghost use Rattle.aut68.specs.Language.{aut68};
 ghost use Rattle.aut68.specs.Bytes.{lines};
 ghost use Rattle.aut68.specs.Procedure.Run.{nothing, checkLines};
 ghost use Rattle.books.specs.Progress.{Fitting, StoredPost, NotedLine, LinePost, LinesPost};
@@ -143,7 +144,7 @@ pub fn check_lines(
     budget: u32,
 ) -> Progress
     requires { ⌜ Fitting (now book) limit (now w) ⌝ }
-    ensures { λ r. ⌜ LinesPost (checkLines budget limit (length (now (table .entry))) (length (now (store .entry))) nothing 0 budget (lines (now (book .entry)))) budget (now (table .entry)) (now (store .entry)) (r .code) (r .lines) (r .budget) (now (table .exit)) (now (store .exit)) ⌝ }
+    ensures { λ r. ⌜ LinesPost (checkLines aut68 budget limit (length (now (table .entry))) (length (now (store .entry))) nothing 0 budget (lines (now (book .entry)))) budget (now (table .entry)) (now (store .entry)) (r .code) (r .lines) (r .budget) (now (table .exit)) (now (store .exit)) ⌝ }
 {
     let kinds = kinds_of_bytes();
     let hints = line_at(limit);

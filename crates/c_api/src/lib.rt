@@ -1,5 +1,6 @@
 // The check of a book for callers from C and Rust: include/aut68.h declares it. Such callers prove nothing, so it requires
 // nothing.
+ghost use Rattle.aut68.specs.Language.{aut68};
 ghost use Rattle.aut68.specs.Demands.{Checks};
 
 // Document 01's numbers of an outcome: code, line, steps.
@@ -20,7 +21,7 @@ pub extern "C" fn aut68_check(
     terms: &mut [u16],
     work: &mut [u16],
 ) -> Aut68Outcome
-    ensures { λ r. ⌜ Checks (now (book .entry)) budget limit (now (table .entry)) (now (terms .entry)) (now (work .entry)) (r .code) (r .line) (r .steps) (now (table .exit)) (now (terms .exit)) (now (work .exit)) ⌝ }
+    ensures { λ r. ⌜ Checks aut68 (now (book .entry)) budget limit (now (table .entry)) (now (terms .entry)) (now (work .entry)) (r .code) (r .line) (r .steps) (now (table .exit)) (now (terms .exit)) (now (work .exit)) ⌝ }
 {
     let o = verifier::check_book(book, budget, limit, table, terms, work);
     let n = verifier::numbers_of(o);

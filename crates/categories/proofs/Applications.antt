@@ -1,10 +1,11 @@
 -- The function that a category reaches, and the category of what is applied to an argument.
 use mathlib.Core.Path.{_≡_, sym, ap, _∙_}
-use mathlib.Core.Logic.{_≢_, inl, inr}
+use mathlib.Core.Logic.{_≢_, inl}
 use mathlib.Core.List.{List}
 use Prim.Native.Nat.{ℕ, suc, _+_, _*_, _-_, _≤_, _<_}
 use native.Mathlib.Omega.{arith}
 use lib.ListN.{length, drop}
+use Rattle.aut68.specs.Language.{aut68}
 use Rattle.aut68.specs.Expr.{Expr, abs, size, cells}
 use Rattle.aut68.specs.Expr as Expr
 use Rattle.aut68.specs.Substitution.{substitute}
@@ -12,7 +13,7 @@ use Rattle.aut68.specs.Lines.{Lines}
 use Rattle.aut68.specs.Procedure.Category.{made}
 use Rattle.aut68.specs.Procedure.Category as Category
 use Rattle.aut68.specs.Procedure.Compare.{compare}
-use Rattle.calculus.specs.Scoped.{Scoped, scoped-substitute}
+use Rattle.calculus.specs.Scoped.{ScopedCategory, scoped-category, category-substitute}
 use Rattle.calculus.specs.Resolved.{VariableLine, ConstantOf, Known, KnownCategory}
 use Rattle.cells.specs.Cells.{At, Outside, copyCells}
 use Rattle.cells.specs.Layout.{unitAt, levelUnit, sideUnit, scratchUnit, resultUnit, unit-below, result-ends}
@@ -21,7 +22,7 @@ use Rattle.cells.specs.Results.{Result, then-refused, then-passed, result-map}
 use Rattle.cells.specs.Stores.{outside-same, at-kept, at-before}
 use Rattle.cells.specs.CopyLaws.{copy-at, copy-outside}
 use Rattle.terms.specs.Made.{Made, SubstitutePost}
-use Rattle.reduction.specs.Book.{Book, known-wf}
+use Rattle.reduction.specs.Book.{Book, known-wf, category-wf}
 use Rattle.reduction.specs.Depths.{substituted-below}
 use Rattle.reduction.specs.Posts.{FunctionAt, FunctionPost}
 use Rattle.reduction.specs.declared.functions.Function.{Function}
@@ -86,10 +87,10 @@ module _ {tb ts w : List ℕ} {limit level domain body : ℕ} where
   module _ {found size budget a compared left₁ : ℕ} {w₁ : List ℕ} (l : level < 35) (z : found ≡ 0) (pa : limit ≤ 4096 → a ≡ unitAt limit (levelUnit (level + 1)))
       (C : Compares tb ts w limit budget a domain 32 w₁ compared left₁) where
     compared-with : {ls : Lines} {k : ℕ} {f : Category.Function} → Book ls limit tb ts → 128 * limit ≤ length w → k ≤ 32 → FunctionKnown ls k w limit level domain body f
-        → (c : Expr) → FoundAt w limit (level + 1) size c × KnownCategory ls k c → Result (λ _. Unit {0}) compared left₁ (compare ls limit c (f .domain) budget)
-    unfolding compare Scoped
+        → (c : Expr) → FoundAt w limit (level + 1) size c × KnownCategory ls k c → Result (λ _. Unit {0}) compared left₁ (compare aut68 ls limit c (f .domain) budget)
+    unfolding compare ScopedCategory
     compared-with {ls} {k} {f} B room kk F c x =
-        C .means ls k c (f .domain) _ _ B (x .1) (inr (F .1 .0)) (omega arith) (omega arith) (x .0 .lies .small) (small F) room
+        C .means ls k c (f .domain) _ _ B (x .1) (scoped-category (VariableLine ls) (ConstantOf ls) k (f .domain) (F .1 .0)) (omega arith) (omega arith) (x .0 .lies .small) (small F) room
         (rw (sym (pa (B .limit))) at (at-before {n = unitAt limit (sideUnit 32)} (omega (arith, level-below limit {level = level + 1} (omega arith), size-is-length c, x .0 .lies .small)) (x .0 .lies .at)))
         (at-before {n = unitAt limit (sideUnit 32)} (omega (arith, level-below limit {level = level} (omega arith), size-is-length (f .domain), F .0 .domainIn)) (F .0 .domainAt))
       where
@@ -108,7 +109,7 @@ module _ {tb ts w : List ℕ} {limit level domain body : ℕ} where
     pub applied-made : {e : List ℕ} {b extent scratch to n code n′ whole left : ℕ} {w₂ w₃ w₄ : List ℕ} → compared ≡ 0 → 1 ≤ b → (limit ≤ 4096 → scratch ≡ unitAt limit scratchUnit)
         → (limit ≤ 4096 → to ≡ unitAt limit resultUnit) → w₂ ≡ copyCells e 1 (b - 1) w₁ scratch → SubstitutePost tb w₂ w₃ body scratch to limit n
         → MadePost w₃ limit left₁ level n (b + extent) w₄ code n′ whole left → AppliedPost tb ts e b extent w limit level domain body found size budget w₄ code n′ whole left
-    unfolding applying Scoped
+    unfolding applying ScopedCategory
     applied-made {e} {b} {extent} {scratch} {to} {n} {code} {n′} {whole} {left} {w₂} {w₃} {w₄} g h ps pt q S M = record {
       spans = M .spans;
       frame = λ small.
@@ -152,11 +153,11 @@ module _ {tb ts w : List ℕ} {limit level domain body : ℕ} where
             let o : Outside Z (Z + length (cells x)) w₁ w₂ = rw c (copy-outside e 1 (length (cells x)) w₁ Z) in
             let b₂ = at-kept o (inl (omega (arith, F .0 .bodyIn, level-scratch limit {level = level} (omega arith)))) b₁ in
             let b₃ = at-before {n = T} (omega (arith, F .0 .bodyIn, level-result limit {level = level} (omega arith))) b₂ in
-            let kq : Known ls (suc k) (f .body) = F .1 .1 in
-            let y : Known ls k (substitute x 0 (f .body)) = scoped-substitute (VariableLine ls) (ConstantOf ls) k x (f .body) ka kq in
+            let kq : KnownCategory ls (suc k) (f .body) = F .1 .1 in
+            let y : KnownCategory ls k (substitute x 0 (f .body)) = category-substitute (VariableLine ls) (ConstantOf ls) k x (f .body) ka kq in
             let v = substituted-below ls (B .few) k x (f .body) y (omega arith) (omega arith) (omega (arith, body-small (f .domain) (f .body) (F .0 .small))) in
             let S₁ : SubstitutePost tb w₂ w₃ body Z T limit n = rw (ps small, pt small) at S in
             let m : Made limit (substitute x 0 (f .body)) n T w₂ w₃ =
-            S₁ .made (f .body) x _ _ (omega (arith, result-ends limit, long₂)) (known-wf (B .rows) (suc k) (f .body) kq) (known-wf (B .rows) k x ka) b₃ a₂ v
+            S₁ .made (f .body) x _ _ (omega (arith, result-ends limit, long₂)) (category-wf (B .rows) (suc k) (f .body) kq) (known-wf (B .rows) k x ka) b₃ a₂ v
             in
             made-held (substitute x 0 (f .body)) (omega (arith, long₂)) small m

@@ -6,22 +6,23 @@ use mathlib.Core.List.{List, _∷_}
 use Prim.Native.Nat.{ℕ, _+_, _*_, _-_, _/_, _%_, _≤_, _<_}
 use native.Mathlib.Omega.{arith}
 use lib.ListN.{length, getD}
+use Rattle.aut68.specs.Language.{aut68}
 use Rattle.aut68.specs.Procedure.Answer.{andThen, ensure, notType}
-use Rattle.aut68.specs.Expr.{Expr, Exprs, type, var, bound, const, app, abs, nil, cons, sizes, cells, firstCell, countExprs, isType}
+use Rattle.aut68.specs.Expr.{Expr, Exprs, type, prop, var, bound, const, app, abs, nil, cons, sizes, cells, firstCell, countExprs, isType, overBinding}
 use Rattle.aut68.specs.Expr as Expr
 use Rattle.aut68.specs.Lines.{Line, Lines}
-use Rattle.aut68.specs.Rules.Names.{IsLine}
-use Rattle.aut68.specs.Procedure.Category.{made, toFunction, overBinding, category}
+use Rattle.aut68.specs.Procedure.Category.{made, toFunction}
 use Rattle.calculus.specs.Scoped.{Scoped}
-use Rattle.calculus.specs.CategoryFound.{found-known}
+use Rattle.calculus.specs.FoundKnown.{found-known}
 use Rattle.cells.specs.Cells.{rowCell}
 use Rattle.cells.specs.Layout.{unitAt, levelUnit, unit-below}
 use Rattle.cells.specs.Forests.{size-is-length, at-first, at-inside, cells-long}
 use Rattle.cells.specs.Posts.{Skipped, Bound}
-use Rattle.cells.specs.Results.{Result, passed, then-refused, then-passed, result-map}
+use Rattle.cells.specs.Results.{Result, then-refused, then-passed, result-map}
 use Rattle.cells.specs.Stores.{outside-same}
 use Rattle.cells.specs.declared.scope.Scope.{Scope}
 use Rattle.reduction.specs.Book.{Book, known-wf}
+use Rattle.categories.specs.AnyDepth.{category68}
 use Rattle.categories.specs.Places.{Awaits, Expression}
 use Rattle.categories.specs.Posts.{Finds, FindsKnown, Passes, FunctionKnown, StoredPost, BoundPost, ConstantPost, FunctionOfPost, AppliedPost, FoundTypePost, OverBindingPost, IsStoredPost, StoredFitsPost, ArgumentFitsPost, wantedFits, Categorises, CategoryPost, ApplicationPost, AbstractionPost, ArgumentsPost}
 use Rattle.categories.proofs.Clauses.{result-and, came, passed-holds, passes-with, constant-clause, variable-is, alone-is, application-clause, abstraction-clause}
@@ -32,10 +33,10 @@ use Rattle.categories.proofs.Within.{part, part-length, nesting-positiv
 
 -- what is found is known
 pub finds-known : {ls : Lines} {tb ts e : List ℕ} {scope : Scope} {limit level : ℕ} {w′ : List ℕ} {level′ code n left : ℕ} {sc : List Expr} (x : Expr) (budget : ℕ)
-    → Book ls limit tb ts → Expression ls ts e scope limit level sc x → Finds w′ limit level′ code n left (category ls limit sc x budget)
-    → FindsKnown ls (length sc) w′ limit level′ code n left (category ls limit sc x budget)
+    → Book ls limit tb ts → Expression ls ts e scope limit level sc x → Finds w′ limit level′ code n left (category68 ls limit sc x budget)
+    → FindsKnown ls (length sc) w′ limit level′ code n left (category68 ls limit sc x budget)
 finds-known {ls} {limit = limit} {left = left} {sc = sc} x budget B E h =
-    result-and h (λ c q. found-known ls (B .resolved) limit sc (E .knownScope) x c budget left (E .known) q)
+    result-and h (λ c q. found-known aut68 ls (B .resolved) limit 1 sc (E .knownScope) x c budget left (E .known) q)
 
 -- a string of no expression has no cell
 no-sizes : (xs : Exprs) → countExprs xs ≡ 0 → sizes xs ≡ 0
@@ -80,6 +81,10 @@ module _ {tb ts e : List ℕ} {scope : Scope} {w : List ℕ} {limit budget level
     unfolding Scoped
     no-type = record { finds = λ B room E. absurd (E .known); spans = λ B room E. absurd (E .known) }
 
+    no-prop : Categorises tb ts e scope w limit budget level w′ code n extent left prop
+    unfolding Scoped
+    no-prop = record { finds = λ B room E. absurd (E .known); spans = λ B room E. absurd (E .known) }
+
     by-var : (v′ v : ℕ) → v ≡ getD e 0 0 / 8 → StoredPost tb ts w limit budget level v w′ code n extent left
         → Categorises tb ts e scope w limit budget level w′ code n extent left (var v′)
     unfolding Scoped firstCell Expr.size
@@ -98,6 +103,7 @@ module _ {tb ts e : List ℕ} {scope : Scope} {w : List ℕ} {limit budget level
       where
         go : (x : Expr) → Categorises tb ts e scope w limit budget level w′ code n extent left x
         go type = no-type
+        go prop = no-prop
         go (var v′) = by-var v′ v q P
         go (bound i) = other-kind (bound i) (λ z. omega arith)
         go (const u xs) = other-kind (const u xs) (λ z. omega arith)
@@ -122,6 +128,7 @@ module _ {tb ts e : List ℕ} {scope : Scope} {w : List ℕ} {limit budget level
       where
         go : (x : Expr) → Categorises tb ts e scope w limit budget level w′ code n extent left x
         go type = no-type
+        go prop = no-prop
         go (var v′) = other-kind (var v′) (λ z. omega arith)
         go (bound i) = by-index i v q P
         go (const u xs) = other-kind (const u xs) (λ z. omega arith)
@@ -135,6 +142,7 @@ module _ {tb ts e : List ℕ} {scope : Scope} {w : List ℕ} {limit budget level
       where
         go : (x : Expr) → Categorises tb ts e scope w limit budget level w′ code n extent left x
         go type = no-type
+        go prop = no-prop
         go (var v′) = other-kind (var v′) (λ z. omega arith)
         go (bound i) = other-kind (bound i) (λ z. omega arith)
         go (const u xs) = other-kind (const u xs) (λ z. omega arith)
@@ -148,6 +156,7 @@ module _ {tb ts e : List ℕ} {scope : Scope} {w : List ℕ} {limit budget level
       where
         go : (x : Expr) → Categorises tb ts e scope w limit budget level w′ code n extent left x
         go type = no-type
+        go prop = no-prop
         go (var v′) = other-kind (var v′) (λ z. omega arith)
         go (bound i) = other-kind (bound i) (λ z. omega arith)
         go (const u xs) = other-kind (const u xs) (λ z. omega arith)
@@ -159,6 +168,7 @@ module _ {tb ts e : List ℕ} {scope : Scope} {w : List ℕ} {limit budget level
         → Categorises tb ts e scope w limit budget level w′ code n extent left x
     unfolding firstCell
     by-const h f type = no-type
+    by-const h f prop = no-prop
     by-const h f (var v′) = other-kind (var v′) (λ z. omega arith)
     by-const h f (bound i) = other-kind (bound i) (λ z. omega arith)
     by-const h f (const u xs) = f u xs
@@ -231,6 +241,7 @@ module _ {tb ts e : List ℕ} {scope : Scope} {w : List ℕ} {limit budget level
       where
         go : (x : Expr) → Categorises tb ts e scope w limit budget level w′ code n extent left x
         go type = no-type
+        go prop = no-prop
         go (var v′) = other-kind (var v′) (λ z. h₁ (omega arith))
         go (bound i) = other-kind (bound i) (λ z. h₂ (omega arith))
         go (const u xs) = other-kind (const u xs) (λ z. h₃ (omega arith))
@@ -250,7 +261,7 @@ module _ {tb ts e : List ℕ} {scope : Scope} {w : List ℕ} {limit budget level
   module _ {u : ℕ} {w′ : List ℕ} {code left : ℕ} (F : StoredFitsPost tb ts w limit budget level u wanted base count starts w′ code left) where
     fits-variable : {ls : Lines} {sc : List Expr} {v : ℕ} {l : Line} {earlier : Exprs} (v′ : ℕ) → v′ ≡ u → Book ls limit tb ts → 128 * limit ≤ length w
         → Awaits ls w limit level (length sc) base count starts wanted v l earlier → Expression ls ts e scope limit (level + 1) sc (var v′)
-        → Result (λ _. 1 ≡ Expr.size (var v′)) code left (andThen (wantedFits ls limit (l .context) earlier wanted) (category ls limit sc (var v′) budget))
+        → Result (λ _. 1 ≡ Expr.size (var v′)) code left (andThen (wantedFits ls limit (l .context) earlier wanted) (category68 ls limit sc (var v′) budget))
     unfolding Scoped Expr.size
     fits-variable {ls} {sc} v′ k B room A E =
         let i = E .known .isLine in
@@ -258,7 +269,7 @@ module _ {tb ts e : List ℕ} {scope : Scope} {w : List ℕ} {limit budget level
 
     fits-alone : {ls : Lines} {sc : List Expr} {v : ℕ} {l : Line} {earlier : Exprs} (v′ : ℕ) (xs : Exprs) → v′ ≡ u → rowCell tb u 3 ≡ 0 → Book ls limit tb ts
         → 128 * limit ≤ length w → Awaits ls w limit level (length sc) base count starts wanted v l earlier → Expression ls ts e scope limit (level + 1) sc (const v′ xs)
-        → Result (λ _. 1 ≡ Expr.size (const v′ xs)) code left (andThen (wantedFits ls limit (l .context) earlier wanted) (category ls limit sc (const v′ xs) budget))
+        → Result (λ _. 1 ≡ Expr.size (const v′ xs)) code left (andThen (wantedFits ls limit (l .context) earlier wanted) (category68 ls limit sc (const v′ xs) budget))
     unfolding Scoped Expr.size
     fits-alone {ls} {sc} v′ xs k z B room A E =
         let i = E .known .0 .isLine in
@@ -278,11 +289,12 @@ module _ {tb ts e : List ℕ} {scope : Scope} {w : List ℕ} {limit budget level
 
         go : {ls : Lines} {sc : List Expr} {v : ℕ} {l : Line} {earlier : Exprs} (y : Expr) → (x % 8 ≡ 1) ⊎ ((x % 8 ≡ 3) × (rowCell tb (x / 8) 3 ≡ 0)) → Book ls limit tb ts
             → 128 * limit ≤ length w → Awaits ls w limit level (length sc) base count starts wanted v l earlier → Expression ls ts e scope limit (level + 1) sc y
-            → Result (λ _. 1 ≡ Expr.size y) code left (andThen (wantedFits ls limit (l .context) earlier wanted) (category ls limit sc y budget))
+            → Result (λ _. 1 ≡ Expr.size y) code left (andThen (wantedFits ls limit (l .context) earlier wanted) (category68 ls limit sc y budget))
         go (var v′) h B room A E = fits-variable v′ (omega (arith, at-first (var v′) (E .at))) B room A E
         go (const v′ xs) (inl h) B room A E = absurd (omega (arith, at-first (const v′ xs) (E .at)))
         go (const v′ xs) (inr h) B room A E = fits-alone v′ xs (omega (arith, at-first (const v′ xs) (E .at))) (rw q (h .1)) B room A E
         go type h B room A E = absurd (omega (arith, at-first type (E .at), odd h))
+        go prop h B room A E = absurd (omega (arith, at-first prop (E .at), odd h))
         go (bound i) h B room A E = absurd (omega (arith, at-first (bound i) (E .at), odd h))
         go (app a b) h B room A E = absurd (omega (arith, at-first (app a b) (E .at), odd h))
         go (abs a b) h B room A E = absurd (omega (arith, at-first (abs a b) (E .at), odd h))
@@ -311,7 +323,7 @@ module _ {tb ts e : List ℕ} {scope : Scope} {w : List ℕ} {limit budget level
   function-start {sc = sc} x y B E = skip-one x S (known-wf (B .rows) (length sc) x (E .known .0)) (application-argument x y (E .at))
 
   function-found : {ls : Lines} {sc : List Expr} (x y : Expr) → Book ls limit tb ts → 128 * limit ≤ length w → Expression ls ts e scope limit level sc (app x y)
-      → Result (FunctionKnown ls (length sc) w₂ limit level domain body) code₂ left₂ (andThen (toFunction ls limit) (category ls limit sc y budget))
+      → Result (FunctionKnown ls (length sc) w₂ limit level domain body) code₂ left₂ (andThen (toFunction ls limit) (category68 ls limit sc y budget))
   function-found x y B room E =
       let Y = function-in x y (function-start x y B E) E in
       F .means B (omega (arith, C .frame (B .limit) .long)) (E .holds .few) (finds-known y budget B Y (C .means y .finds B room Y))
@@ -328,7 +340,7 @@ module _ {tb ts e : List ℕ} {scope : Scope} {w : List ℕ} {limit budget level
     within = omega arith;
     means = λ x y. record {
       finds = λ {ls} {sc} B room E.
-          let r : Finds w₂ limit level code₂ n left₂ (category ls limit sc (app x y) budget) = rw (application-clause ls limit sc budget x y) (then-refused _ g (function-found x y B room E)) in
+          let r : Finds w₂ limit level code₂ n left₂ (category68 ls limit sc (app x y) budget) = rw (application-clause ls limit sc budget x y) (then-refused _ g (function-found x y B room E)) in
           rw (p, q) r;
       spans = λ B room E z. absurd (g (sym p ∙ z));
     };
@@ -365,7 +377,7 @@ module _ {tb ts e : List ℕ} {scope : Scope} {w : List ℕ} {limit budget level
 module _ {tb ts e : List ℕ} {scope : Scope} {w : List ℕ} {limit budget level : ℕ} {w₁ : List ℕ} {found size extent left₁ code₂ left₂ : ℕ}
     (C : CategoryPost tb ts (part e 1) scope w limit budget level w₁ found size extent left₁) (T : FoundTypePost w₁ limit level found size left₁ code₂ left₂) where
   domain-type : {ls : Lines} {sc : List Expr} (p t : Expr) → Book ls limit tb ts → 128 * limit ≤ length w → Expression ls ts e scope limit level sc (abs p t)
-      → Passes code₂ left₂ (andThen (λ k. ensure (isType k) notType) (category ls limit sc p budget))
+      → Passes code₂ left₂ (andThen (λ k. ensure (isType k) notType) (category68 ls limit sc p budget))
   domain-type p t B room E = T .means (B .limit) (C .means p .finds B room (domain-in p t E))
 
   domain-extent : {ls : Lines} {sc : List Expr} (p t : Expr) → Book ls limit tb ts → 128 * limit ≤ length w → Expression ls ts e scope limit level sc (abs p t)
@@ -380,7 +392,7 @@ module _ {tb ts e : List ℕ} {scope : Scope} {w : List ℕ} {limit budget level
     within = omega arith;
     means = λ p t. record {
       finds = λ {ls} {sc} B room E.
-          let r : Finds w₁ limit level code₂ n left₂ (category ls limit sc (abs p t) budget) = rw (abstraction-clause ls limit sc budget p t) (then-refused _ g (domain-type p t B room E)) in
+          let r : Finds w₁ limit level code₂ n left₂ (category68 ls limit sc (abs p t) budget) = rw (abstraction-clause ls limit sc budget p t) (then-refused _ g (domain-type p t B room E)) in
           rw (u, q) r;
       spans = λ B room E z. absurd (g (sym u ∙ z));
     };
@@ -426,7 +438,7 @@ module _ {tb ts e : List ℕ} {scope : Scope} {w : List ℕ} {limit budget level
           body-in p t (B .limit) (omega (arith, size-is-length p)) s x Y E
 
       over : {ls : Lines} {sc : List Expr} (p t : Expr) → Book ls limit tb ts → 128 * limit ≤ length w → Expression ls ts e scope limit level sc (abs p t)
-          → Finds w₃ limit level code n left (andThen (λ c. made limit (overBinding p c)) (category ls limit (p ∷ sc) t left₂))
+          → Finds w₃ limit level code n left (andThen (λ c. made limit (overBinding aut68 p c)) (category68 ls limit (p ∷ sc) t left₂))
       over p t B room E =
           let r₂ = D .frame (B .limit) .long in
           O .means p (B .limit) (omega (arith, long₁ B room)) (abstraction-front p t (E .at)) (omega (arith, domain-extent p t B room E z))

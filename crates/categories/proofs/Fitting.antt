@@ -6,14 +6,15 @@ use mathlib.Core.List.{List, [], _++_}
 use Prim.Native.Nat.{ℕ, _+_, _*_, _-_, _≤_, _<_}
 use native.Mathlib.Omega.{arith}
 use lib.ListN.{length, take, drop}
-use Rattle.aut68.specs.Expr.{Expr, Exprs, nil, size, cells, countExprs}
+use Rattle.aut68.specs.Language.{aut68}
+use Rattle.aut68.specs.Expr.{Expr, Exprs, nil, size, cells}
 use Rattle.aut68.specs.Substitution.{instantiate}
 use Rattle.aut68.specs.Lines.{Line, Lines}
 use Rattle.aut68.specs.Rules.Names.{IsLine}
 use Rattle.aut68.specs.Procedure.Compare.{compare}
 use Rattle.calculus.specs.Scoped.{Scoped}
 use Rattle.calculus.specs.Resolved.{VariableOf, KnownCategory}
-use Rattle.calculus.specs.CategoryScoped.{known-wanted}
+use Rattle.calculus.specs.Known.{known-wanted}
 use Rattle.cells.specs.Cells.{rowCell, At, AnyVariable, Outside}
 use Rattle.cells.specs.Layout.{unitAt, levelUnit, unit-below}
 use Rattle.cells.specs.Forests.{size-is-length, cells-unique}
@@ -127,7 +128,7 @@ unfolding wantedFits
 fits-same {ls} {limit} context earlier {wanted} {budget} {y} c j e h =
     at-line _ budget j (then-passed _ refl
     (made-passed {R = λ a. c ≡ a} (instantiate context earlier 0 (y .category)) (rw (sym e) h) refl refl e)
-    (λ a q. subst (λ z. Passes 0 budget (compare ls limit c z budget)) q (rw (compare-self ls limit c budget) (passed refl tt))))
+    (λ a q. subst (λ z. Passes 0 budget (compare aut68 ls limit c z budget)) q (rw (compare-self ls limit c budget) (passed refl tt))))
 
 -- ---- the category is stored
 

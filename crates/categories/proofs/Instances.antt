@@ -1,9 +1,9 @@
 -- A constant's arguments kept, and what is made of them: its category, and the wanted category of an argument.
-use mathlib.Core.Path.{_≡_, refl, sym, ap, subst, _∙_}
-use mathlib.Core.Logic.{_≢_, inl, inr}
+use mathlib.Core.Path.{_≡_, sym, _∙_}
+use mathlib.Core.Logic.{_≢_}
 use mathlib.Core.Bool.{Bool, true, false}
-use mathlib.Core.List.{List, []}
-use Prim.Native.Nat.{ℕ, _+_, _*_, _≤_, _<_}
+use mathlib.Core.List.{List}
+use Prim.Native.Nat.{ℕ, _+_, _≤_, _<_}
 use native.Mathlib.Omega.{arith}
 use lib.Dec.{leb}
 use lib.ListN.{length, take, drop}
@@ -14,8 +14,8 @@ use Rattle.aut68.specs.Lines.{Line, Lines}
 use Rattle.aut68.specs.Rules.Names.{IsLine}
 use Rattle.aut68.specs.Procedure.Category.{made}
 use Rattle.calculus.specs.Resolved.{AllKnown, KnownCategory}
-use Rattle.calculus.specs.CategoryScoped.{known-wanted}
-use Rattle.cells.specs.Cells.{rowCell, Formed, RightCount, Wfs, Below, Outside, copyCells}
+use Rattle.calculus.specs.Known.{known-wanted}
+use Rattle.cells.specs.Cells.{rowCell, Formed, RightCount, Wfs, Below, copyCells}
 use Rattle.cells.specs.Layout.{unitAt, levelUnit, resultUnit, result-ends}
 use Rattle.cells.specs.Forests.{sizes-is-length}
 use Rattle.cells.specs.Results.{then-refused, then-passed}
@@ -67,9 +67,7 @@ made-is L e b a b′ h = go (leb (size e) L) h
 
 instance-below : (ls : Lines) (few : length ls < 8192) (k : ℕ) (vs : List ℕ) (xs : Exprs) (c : Expr) → KnownCategory ls k (instantiate vs xs 0 c) → k ≤ 32 → sizes xs ≤ 4096 → size c ≤ 4096
     → Below 65536 (cells (instantiate vs xs 0 c))
-unfolding cells Below
-instance-below ls few k vs xs c (inl e) h x y = subst (λ z. Below 65536 (cells z)) (sym e) (omega arith, tt)
-instance-below ls few k vs xs c (inr w) h x y = instantiated-below ls few k vs xs c w (omega arith) x y
+instance-below ls few k vs xs c w h x y = instantiated-below ls few k vs xs c w (omega arith) x y
 
 -- the category of the line u with the arguments put in
 pub instance-made : {tb ts w w₁ : List ℕ} {limit level from base count : ℕ} {starts : List ℕ} {to n : ℕ} → InstantiatePost tb ts w w₁ from base count starts to limit n

@@ -13,8 +13,7 @@ use Rattle.aut68.specs.Expr.{Expr, bound, size, cells}
 use Rattle.aut68.specs.Substitution.{lift}
 use Rattle.aut68.specs.Lines.{Lines}
 use Rattle.aut68.specs.Rules.Categories.{DomainAt, innermost, outside}
-use Rattle.aut68.specs.Procedure.Category.{category}
-use Rattle.calculus.specs.Scoped.{ScopedScope, scoped-lift}
+use Rattle.calculus.specs.Scoped.{ScopedScope, scoped-lift, scoped-category}
 use Rattle.calculus.specs.Resolved.{VariableLine, ConstantOf, Known, KnownScope}
 use Rattle.cells.specs.Cells.{rowCell, At, Outside, copyCells}
 use Rattle.cells.specs.Layout.{unitAt, levelUnit, scratchUnit, resultUnit, unit-below, unit-inside, result-ends}
@@ -25,6 +24,7 @@ use Rattle.cells.specs.declared.scope.Scope.{Scope}
 use Rattle.terms.specs.Made.{Made, RaisePost}
 use Rattle.reduction.specs.Book.{Book, known-wf}
 use Rattle.reduction.specs.Depths.{lifted-below}
+use Rattle.categories.specs.AnyDepth.{category68}
 use Rattle.categories.specs.Places.{ScopeHolds}
 use Rattle.categories.specs.Posts.{Finds, MadePost, StoredPost, BoundPost, IsStoredPost}
 use Rattle.categories.proofs.Clauses.{made-passed, domain-of, bound-clause}
@@ -98,7 +98,7 @@ module _ {tb ts : List ℕ} {scope : Scope} {w : List ℕ} {limit budget level v
   }
     where
       there : {ls : Lines} {sc : List Expr} → Book ls limit tb ts → 128 * limit ≤ length w → ScopeHolds ts limit scope sc → KnownScope ls sc → (p : Expr) → DomainAt p sc v
-          → Finds w₃ limit level code size′ left (category ls limit sc (bound v) budget)
+          → Finds w₃ limit level code size′ left (category68 ls limit sc (bound v) budget)
       there {ls} {sc} B room H K p d =
           let D = H .domain d in
           let j : length sc - suc v ≡ i = omega (arith, H .counted) in
@@ -114,7 +114,7 @@ module _ {tb ts : List ℕ} {scope : Scope} {w : List ℕ} {limit budget level v
           in
           let (k, x, m) = known-domain ls d K in
           let y : Known ls (k + suc v) (lift (suc v) 0 p) = scoped-lift (VariableLine ls) (ConstantOf ls) (suc v) 0 k p x in
-          let b = lifted-below ls (B .few) (k + suc v) (suc v) p y (omega (arith, H .few)) (omega (arith, D .small, B .limit)) in
+          let b = lifted-below ls (B .few) (k + suc v) (suc v) p (scoped-category (VariableLine ls) (ConstantOf ls) (k + suc v) (lift (suc v) 0 p) y) (omega (arith, H .few)) (omega (arith, D .small, B .limit)) in
           let T = unitAt limit resultUnit in
           let a₂ : At (take T w₁) S (cells p) (drop (S + length (cells p)) (take T w₁)) =
           at-before {n = T} (omega (arith, unit-below limit {j = scratchUnit} {k = resultUnit} (omega arith), D .small, size-is-length p)) a₁

@@ -1,21 +1,22 @@
 -- The checks of the line at hand.
 use mathlib.Core.Path.{_≡_, refl, sym, ap, subst, _∙_}
-use mathlib.Core.Logic.{_≢_, inl, inr}
+use mathlib.Core.Logic.{_≢_, _⊎_, inl, inr}
 use mathlib.Core.Bool.{true, false, true≢false}
 use mathlib.Core.List.{List, [], append-nil}
 use Prim.Native.Nat.{ℕ, suc, _+_, _*_, _-_, _≤_, _<_}
 use native.Mathlib.Omega.{arith}
 use lib.ListN.{length, getD, drop, replicate}
 use borrow.Author.Tests.{eq-eqb, ne-eqb}
+use Rattle.aut68.specs.Language.{aut68}
 use Rattle.aut68.specs.Procedure.Answer.{andThen}
-use Rattle.aut68.specs.Expr.{Expr, size, cells, firstCell, isType}
+use Rattle.aut68.specs.Expr.{Expr, type, size, cells, firstCell, isType}
 use Rattle.aut68.specs.Lines.{Line, Lines, Kind, variable, primitive, abbreviation, kindCells}
+use Rattle.aut68.specs.Rules.Serving.{Supertype, IsType, theType, aSupertype}
 use Rattle.aut68.specs.Rules.Categories.{DomainAt}
-use Rattle.aut68.specs.Procedure.Category.{category}
 use Rattle.aut68.specs.Procedure.Compare.{compare}
 use Rattle.aut68.specs.Procedure.CheckLine.{checkWritten, checkMiddle}
-use Rattle.calculus.specs.Scoped.{ScopedScope}
-use Rattle.calculus.specs.Resolved.{Known, KnownCategory}
+use Rattle.calculus.specs.Scoped.{ScopedScope, category-cases}
+use Rattle.calculus.specs.Resolved.{VariableLine, ConstantOf, Known, KnownCategory}
 use Rattle.cells.specs.Cells.{At, Outside, copyCells}
 use Rattle.cells.specs.Layout.{unitAt, levelUnit, unit-below}
 use Rattle.cells.specs.Forests.{size-is-length, cells-long, at-first, at-inside, at-behind}
@@ -24,6 +25,7 @@ use Rattle.cells.specs.Stores.{outside-same}
 use Rattle.cells.specs.CopyLaws.{copy-outside}
 use Rattle.cells.specs.declared.scope.Scope.{Scope}
 use Rattle.reduction.specs.Book.{Book}
+use Rattle.categories.specs.AnyDepth.{category68}
 use Rattle.categories.specs.Nesting.{nesting}
 use Rattle.categories.specs.Places.{FoundAt, DomainCells, ScopeHolds, Expression, LineCells}
 use Rattle.categories.specs.Posts.{Passes, FindsKnown, FoundTypePost, ComparePost, CategoryPost, CheckWrittenPost, CheckMiddlePost, CheckCellsPost}
@@ -80,26 +82,33 @@ type-there c a z = is-type-cell c ∙ eq-eqb (firstCell c) 0 (sym (at-first c a)
 no-type-there : {ts : List ℕ} {at : ℕ} (c : Expr) {rest : List ℕ} → At ts at (cells c) rest → getD ts at 0 ≢ 0 → isType c ≡ false
 no-type-there c a n = is-type-cell c ∙ ne-eqb (firstCell c) 0 (λ z. n (at-first c a ∙ z))
 
-known-other : (ls : Lines) (k : ℕ) (c : Expr) → isType c ≡ false → KnownCategory ls k c → Known ls k c
+type-68 : {c : Expr} → IsType aut68 c → c ≡ type
+type-68 theType = refl
+type-68 (aSupertype x y) = elim x [ ]
+
+known-other : (ls : Lines) (k : ℕ) (c : Expr) → isType c ≡ false → (Supertype c → IsType aut68 c) → KnownCategory ls k c → Known ls k c
 unfolding isType
-known-other ls k c e (inl q) = absurd (true≢false (sym (ap isType q) ∙ e))
-known-other ls k c e (inr w) = w
+known-other ls k c e ends w = go (category-cases (VariableLine ls) (ConstantOf ls) k c w)
+  where
+    go : Supertype c ⊎ Known ls k c → Known ls k c
+    go (inl y) = absurd (true≢false (sym (ap isType (type-68 (ends y))) ∙ e))
+    go (inr x) = x
 
 module _ {tb ts : List ℕ} {at : ℕ} {w : List ℕ} {limit budget : ℕ} where
   pub written-past : {code left : ℕ} → length ts ≤ at → CheckWrittenPost tb ts at w limit budget w code left
-  written-past h = record { frame = λ small. outside-same; means = λ {ls} {c} B room t a k s n. absurd (omega (arith, at-inside c a, cells-long c)) }
+  written-past h = record { frame = λ small. outside-same; means = λ {ls} {c} B room t a k d s n. absurd (omega (arith, at-inside c a, cells-long c)) }
 
   pub written-is-type : getD ts at 0 ≡ 0 → CheckWrittenPost tb ts at w limit budget w 0 budget
-  written-is-type z = record { frame = λ small. outside-same; means = λ {ls} {c} B room t a k s n. written-type ls limit c (type-there c a z) refl refl }
+  written-is-type z = record { frame = λ small. outside-same; means = λ {ls} {c} B room t a k d s n. written-type ls limit c (type-there c a z) refl refl }
 
   pub written-found : {scope : Scope} {w₁ : List ℕ} {found size extent left₁ code left : ℕ} → getD ts at 0 ≢ 0 → NoBindings scope
       → CategoryPost tb ts (part ts at) scope w limit budget 0 w₁ found size extent left₁ → FoundTypePost w₁ limit 0 found size left₁ code left
       → CheckWrittenPost tb ts at w limit budget w₁ code left
   written-found n o C T = record {
     frame = C .frame;
-    means = λ {ls} {c} B room t a k s m.
+    means = λ {ls} {c} B room t a k d s m.
         let e = no-type-there c a n in
-        written-other ls limit budget c e (T .means (B .limit) (C .means c .finds B room (top-expression c t o a (known-other ls 0 c e k) s m)));
+        written-other ls limit budget c e (T .means (B .limit) (C .means c .finds B room (top-expression c t o a (known-other ls 0 c e d k) s m)));
   }
 
 -- ---- the middle
@@ -111,7 +120,7 @@ module _ {ls : Lines} {ts : List ℕ} {limit start at : ℕ} {l : Line} (X : Lin
       record { is = ap (λ (i : ℕ). drop i ts) (X .ends) ∙ b .is ∙ sym (append-nil (cells (l .category))) }
 
 -- a line with a middle, or one without
-middle-less : (ls : Lines) (L : ℕ) (k : Kind) (c : Expr) (n : ℕ) → length (kindCells k) ≡ 0 → Passes 0 n (checkMiddle ls L k c n)
+middle-less : (ls : Lines) (L : ℕ) (k : Kind) (c : Expr) (n : ℕ) → length (kindCells k) ≡ 0 → Passes 0 n (checkMiddle aut68 ls L k c n)
 unfolding checkMiddle kindCells
 middle-less ls L variable c n h = passed refl tt
 middle-less ls L primitive c n h = passed refl tt
@@ -145,7 +154,7 @@ module _ {tb ts : List ℕ} {start at : ℕ} {w : List ℕ} {limit budget : ℕ}
       (C : CategoryPost tb ts (part ts start) scope w limit budget 0 w₁ found size extent left₁) where
     -- the category of the middle
     middle-found : {ls : Lines} {l : Line} → Book ls limit tb ts → 128 * limit ≤ length w → LineCells ls ts limit start at l → (M : Middle (l .kind))
-        → FindsKnown ls 0 w₁ limit 0 found size left₁ (category ls limit [] (M .middle) budget)
+        → FindsKnown ls 0 w₁ limit 0 found size left₁ (category68 ls limit [] (M .middle) budget)
     unfolding kindCells
     middle-found {ls} {l} B room X M =
         let m = M .middle in
@@ -158,9 +167,9 @@ module _ {tb ts : List ℕ} {start at : ℕ} {w : List ℕ} {limit budget : ℕ}
     has-middle {l = l} X = middle-of (l .kind) (omega (arith, X .ends))
 
     middle-clause : (ls : Lines) (l : Line) {code left : ℕ} → (M : Middle (l .kind))
-        → Passes code left (andThen (λ k. compare ls limit k (l .category)) (category ls limit [] (M .middle) budget)) → Passes code left (checkMiddle ls limit (l .kind) (l .category) budget)
+        → Passes code left (andThen (λ k. compare aut68 ls limit k (l .category)) (category68 ls limit [] (M .middle) budget)) → Passes code left (checkMiddle aut68 ls limit (l .kind) (l .category) budget)
     unfolding checkMiddle
-    middle-clause ls l {code} {left} M p = subst (λ (k : Kind). Passes code left (checkMiddle ls limit k (l .category) budget)) (sym (M .is)) p
+    middle-clause ls l {code} {left} M p = subst (λ (k : Kind). Passes code left (checkMiddle aut68 ls limit k (l .category) budget)) (sym (M .is)) p
 
     pub middle-refused : found ≢ 0 → CheckMiddlePost tb ts start at w limit budget w₁ found left₁
     middle-refused n = record {
@@ -195,8 +204,8 @@ module _ {tb ts : List ℕ} {start at : ℕ} {w : List ℕ} {limit budget : ℕ}
 -- ---- both
 
 module _ {tb ts : List ℕ} {start at : ℕ} {w w₁ : List ℕ} {limit budget code₁ left₁ : ℕ} (W : CheckWrittenPost tb ts at w limit budget w₁ code₁ left₁) where
-  written-passes : {ls : Lines} {l : Line} → Book ls limit tb ts → 128 * limit ≤ length w → LineCells ls ts limit start at l → Passes code₁ left₁ (checkWritten ls limit (l .category) budget)
-  written-passes B room X = W .means B room (X .short) (category-at X) (X .category) (X .categorySmall .0) (X .categorySmall .1)
+  written-passes : {ls : Lines} {l : Line} → Book ls limit tb ts → 128 * limit ≤ length w → LineCells ls ts limit start at l → Passes code₁ left₁ (checkWritten aut68 ls limit (l .category) budget)
+  written-passes B room X = W .means B room (X .short) (category-at X) (X .category) (X .endsOnly) (X .categorySmall .0) (X .categorySmall .1)
 
   pub cells-refused : code₁ ≢ 0 → CheckCellsPost tb ts start at w limit budget w₁ code₁ left₁
   cells-refused n = record { frame = W .frame; means = λ B room X. then-refused _ n (written-passes B room X) }

@@ -10,7 +10,7 @@ use lib.Dec.{eqb}
 use lib.ListN.{length, getD, drop, List·getD-eq-default}
 use lib.Seq.{sets, take-all}
 use borrow.Author.Tests.{ne-eqb}
-use Rattle.aut68.specs.Expr.{Expr, Exprs, type, var, bound, const, app, abs, size, cells, firstCell, isType}
+use Rattle.aut68.specs.Expr.{Expr, Exprs, type, prop, var, bound, const, app, abs, size, cells, firstCell, isType}
 use Rattle.aut68.specs.Procedure.Category.{Function, made}
 use Rattle.cells.specs.Cells.{At, Outside, copyCells, moveCells}
 use Rattle.cells.specs.Layout.{unitAt, levelUnit, sideUnit, scratchUnit, resultUnit, unit-below, unit-inside, result-ends}
@@ -185,6 +185,7 @@ module _ {w : List ℕ} {limit budget level n whole code left : ℕ} where
 pub is-type-cell : (c : Expr) → isType c ≡ eqb (firstCell c) 0
 unfolding isType firstCell
 is-type-cell type = refl
+is-type-cell prop = refl
 is-type-cell (var v) = sym (ne-eqb (8 * v + 1) 0 (λ e. omega arith))
 is-type-cell (bound i) = sym (ne-eqb (8 * i + 2) 0 (λ e. omega arith))
 is-type-cell (const v xs) = sym (ne-eqb (8 * v + 3) 0 (λ e. omega arith))

@@ -13,10 +13,9 @@ use Rattle.aut68.specs.Procedure.Answer.{Answer, done, andThen}
 use Rattle.aut68.specs.Expr.{Expr, Exprs, nil, cons, snoc, size, sizes, cells, cellss, countExprs}
 use Rattle.aut68.specs.Lines.{Line, Lines}
 use Rattle.aut68.specs.Rules.Names.{IsLine, Member, here, there}
-use Rattle.aut68.specs.Procedure.Category.{category, arguments}
 use Rattle.calculus.specs.Scoped.{Scoped}
 use Rattle.calculus.specs.Resolved.{AllKnown}
-use Rattle.cells.specs.Cells.{rowCell, At, Outside, copyCells}
+use Rattle.cells.specs.Cells.{rowCell, At, copyCells}
 use Rattle.cells.specs.Layout.{unitAt, levelUnit}
 use Rattle.cells.specs.Forests.{join, cells-join, count-join, size-is-length, sizes-is-length, at-front, at-second, at-inside}
 use Rattle.cells.specs.Results.{Result, passed, refused, then-refused, code-nonzero}
@@ -26,6 +25,7 @@ use Rattle.cells.specs.declared.scope.Scope.{Scope}
 use Rattle.terms.specs.Made.{startOf, StartedTo, Started}
 use Rattle.terms.specs.Starts.{start-first, start-join, started-none, started-more, started-past}
 use Rattle.reduction.specs.Book.{Book}
+use Rattle.categories.specs.AnyDepth.{category68, arguments68}
 use Rattle.categories.specs.Nesting.{nestings}
 use Rattle.categories.specs.Places.{LieAll, Awaits, Expression, Arguments}
 use Rattle.categories.specs.Posts.{Frame, wantedFits, KeptArgument, NextStart, ContextOf, ContextVariable, ArgumentsPost}
@@ -43,7 +43,7 @@ pub record ArgumentPost (tb ts e : List ℕ) (scope : Scope) (w : List ℕ) (lim
   pub within : extent ≤ length e
   pub means : {ls : Lines} {sc : List Expr} {v : ℕ} {l : Line} {earlier : Exprs} (x : Expr) → Book ls limit tb ts → 128 * limit ≤ length w
       → Awaits ls w limit level (length sc) base count starts wanted v l earlier → Expression ls ts e scope limit (level + 1) sc x
-      → Result (λ _. extent ≡ size x) code left (andThen (wantedFits ls limit (l .context) earlier wanted) (category ls limit sc x budget))
+      → Result (λ _. extent ≡ size x) code left (andThen (wantedFits ls limit (l .context) earlier wanted) (category68 ls limit sc x budget))
 
 known-front : (ls : Lines) (k : ℕ) (es fs : Exprs) → AllKnown ls k (join es fs) → AllKnown ls k es × AllKnown ls k fs
 unfolding Scoped join
@@ -139,7 +139,7 @@ pub record Going (ls : Lines) (limit : ℕ) (sc : List Expr) (context : List ℕ
   pub whole : xs ≡ join earlier rest
   pub counted : countExprs earlier ≡ i
   pub ends : at ≡ length (cellss earlier)
-  pub goes : arguments ls limit sc xs context context nil budget ≡ arguments ls limit sc rest (drop i context) context earlier left
+  pub goes : arguments68 ls limit sc xs context context nil budget ≡ arguments68 ls limit sc rest (drop i context) context earlier left
   pub started : StartedTo i xs starts
   pub behind : List ℕ
   pub lies : At w (unitAt limit (levelUnit level)) (cellss earlier) behind
@@ -241,23 +241,23 @@ module _ {tb ts s : List ℕ} {scope : Scope} {w₀ : List ℕ} {limit budget le
     turn-expression : Expression ls ts (part s at) scope limit (level + 1) sc (M .argument)
     turn-expression = argument-in (G .earlier) (M .argument) (M .more) (G .ends) (rw whole-string at X)
 
-    turn-answer : Result (λ _. n ≡ size (M .argument)) code left₁ (andThen (wantedFits ls limit (l .context) (G .earlier) (getD (l .context) i 0)) (category ls limit sc (M .argument) left))
+    turn-answer : Result (λ _. n ≡ size (M .argument)) code left₁ (andThen (wantedFits ls limit (l .context) (G .earlier) (getD (l .context) i 0)) (category68 ls limit sc (M .argument) left))
     turn-answer =
         let o = T .frame (B .limit) .long in
-        subst (λ (u : ℕ). Result (λ _. n ≡ size (M .argument)) code left₁ (andThen (wantedFits ls limit (l .context) (G .earlier) u) (category ls limit sc (M .argument) left))) wanted-is
+        subst (λ (u : ℕ). Result (λ _. n ≡ size (M .argument)) code left₁ (andThen (wantedFits ls limit (l .context) (G .earlier) u) (category68 ls limit sc (M .argument) left))) wanted-is
         (F .means (M .argument) B (omega arith) turn-awaits turn-expression)
 
     -- this argument, and then the others
-    turn-clause : arguments ls limit sc xs (l .context) (l .context) nil budget
-        ≡ andThen (λ _. arguments ls limit sc (M .more) (drop (i + 1) (l .context)) (l .context) (snoc (G .earlier) (M .argument)))
-        (andThen (wantedFits ls limit (l .context) (G .earlier) (getD (l .context) i 0)) (category ls limit sc (M .argument) left))
+    turn-clause : arguments68 ls limit sc xs (l .context) (l .context) nil budget
+        ≡ andThen (λ _. arguments68 ls limit sc (M .more) (drop (i + 1) (l .context)) (l .context) (snoc (G .earlier) (M .argument)))
+        (andThen (wantedFits ls limit (l .context) (G .earlier) (getD (l .context) i 0)) (category68 ls limit sc (M .argument) left))
     turn-clause =
         let d : drop i (l .context) ≡ getD (l .context) i 0 ∷ drop (i + 1) (l .context) =
         drop-cons (l .context) i 0 (ahead B j) ∙ ap (λ (k : ℕ). getD (l .context) i 0 ∷ drop k (l .context)) (sym (add-one i))
         in
         G .goes
-        ∙ ap (λ (ys : Exprs). arguments ls limit sc ys (drop i (l .context)) (l .context) (G .earlier) left) (M .is)
-        ∙ ap (λ (us : List ℕ). arguments ls limit sc (cons (M .argument) (M .more)) us (l .context) (G .earlier) left) d
+        ∙ ap (λ (ys : Exprs). arguments68 ls limit sc ys (drop i (l .context)) (l .context) (G .earlier) left) (M .is)
+        ∙ ap (λ (us : List ℕ). arguments68 ls limit sc (cons (M .argument) (M .more)) us (l .context) (G .earlier) left) d
         ∙ argument-clause ls limit sc left (M .argument) (M .more) (getD (l .context) i 0) (drop (i + 1) (l .context)) (l .context) (G .earlier)
 
     turn-more : {w₂ starts′ : List ℕ} → code ≡ 0 → KeptArgument s at n w₁ base w₂ → NextStart starts (i + 1) (at + n) starts′
@@ -296,13 +296,13 @@ module _ {tb ts s : List ℕ} {scope : Scope} {w₀ : List ℕ} {limit budget le
           whole = whole;
           counted = counted;
           ends = ends;
-          goes = turn-clause ∙ ap (andThen (λ _. arguments ls limit sc (M .more) (drop (i + 1) (l .context)) (l .context) (snoc (G .earlier) a))) (passes-done z turn-answer);
+          goes = turn-clause ∙ ap (andThen (λ _. arguments68 ls limit sc (M .more) (drop (i + 1) (l .context)) (l .context) (snoc (G .earlier) a))) (passes-done z turn-answer);
           started = started-next (T .long) (G .started) Q place (omega arith);
           behind = drop (U + at + length (cells a)) w₁;
           lies = rw (cells-snoc (G .earlier) a) (at-join (omega (arith, G .ends)) old new);
         }
 
-    turn-stops : {P : Type 0} → code ≢ 0 → Result (λ _. P) code left₁ (arguments ls limit sc xs (l .context) (l .context) nil budget)
+    turn-stops : {P : Type 0} → code ≢ 0 → Result (λ _. P) code left₁ (arguments68 ls limit sc xs (l .context) (l .context) nil budget)
     turn-stops g = rw turn-clause (then-refused _ g turn-answer)
 
   pub turns-more : {w₂ starts′ : List ℕ} → code ≡ 0 → KeptArgument s at n w₁ base w₂ → NextStart starts (i + 1) (at + n) starts′
@@ -337,7 +337,7 @@ turns-end {w₀ = w₀} {limit} {budget} {level} {v} {i} {at} {left} {starts = s
       let n : i ≡ length (l .context) = omega (arith, pc, B .rows .row j .contextIs) in
       let none : countExprs (G .rest) ≡ 0 = omega (arith, ap countExprs (G .whole), count-join (G .earlier) (G .rest), G .counted) in
       let all : xs ≡ G .earlier = G .whole ∙ join-none (G .earlier) (G .rest) none in
-      let e : arguments ls limit sc xs (l .context) (l .context) nil budget ≡ done tt left =
+      let e : arguments68 ls limit sc xs (l .context) (l .context) nil budget ≡ done tt left =
       G .goes ∙ none-left ls limit sc (G .rest) (drop i (l .context)) (l .context) (G .earlier) left none (length-drop i (l .context) ∙ omega arith)
       in
       rw e (passed refl (subst (LieAll w limit level starts) (sym all) (going-lie X G), G .ends ∙ sym (sizes-is-length (G .earlier)) ∙ ap sizes (sym all)));

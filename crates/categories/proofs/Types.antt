@@ -6,12 +6,12 @@ use mathlib.Core.List.{List, _∷_, _++_, append-assoc}
 use Prim.Native.Nat.{ℕ, _+_, _*_, _-_, _≤_, _<_}
 use native.Mathlib.Omega.{arith}
 use lib.ListN.{length, drop}
+use Rattle.aut68.specs.Language.{aut68}
 use Rattle.aut68.specs.Procedure.Answer.{ensure, codeOf, notType}
-use Rattle.aut68.specs.Expr.{Expr, type, abs, size, cells, isType}
+use Rattle.aut68.specs.Expr.{Expr, type, abs, size, cells, isType, overBinding}
 use Rattle.aut68.specs.Expr as Expr
-use Rattle.aut68.specs.Procedure.Category.{overBinding}
 use Rattle.aut68.specs.Procedure.Compare.{compare}
-use Rattle.calculus.specs.Functions.{isType-true}
+use Rattle.calculus.specs.Actions.{isType-true}
 use Rattle.cells.specs.Cells.{At, Outside, copyCells, moveCells}
 use Rattle.cells.specs.Layout.{unitAt, levelUnit, sideUnit, resultUnit, result-ends}
 use Rattle.cells.specs.Forests.{size-is-length}
@@ -68,7 +68,7 @@ units-compared {w = w} {limit} l36 r36 pa pb c = record {
 
 -- ---- over a binding
 
-over-type : (p c : Expr) → isType c ≡ true → overBinding p c ≡ c
+over-type : (p c : Expr) → isType c ≡ true → overBinding aut68 p c ≡ c
 unfolding overBinding
 over-type p c e = go (isType c) e ∙ sym (isType-true c e)
   where
@@ -76,7 +76,7 @@ over-type p c e = go (isType c) e ∙ sym (isType-true c e)
     go true q = refl
     go false q = absurd (false≢true q)
 
-over-other : (p c : Expr) → isType c ≡ false → overBinding p c ≡ abs p c
+over-other : (p c : Expr) → isType c ≡ false → overBinding aut68 p c ≡ abs p c
 unfolding overBinding
 over-other p c e = go (isType c) e
   where
@@ -105,7 +105,7 @@ module _ {e : List ℕ} {t : ℕ} {w : List ℕ} {limit level found size extent 
     means = λ p small room a k x. then-passed _ z x (λ c f.
         let h : isType c ≡ true = sym (y .means small (f .lies)) ∙ g in
         let o = over-type p c h in
-        made-passed (overBinding p c) (rw o (f .lies .small)) refl refl (rw o f));
+        made-passed (overBinding aut68 p c) (rw o (f .lies .small)) refl refl (rw o f));
   }
 
   pub over-large : {r : Bool} {code n whole left : ℕ} → found ≡ 0 → IsTypePost w limit level r → r ≡ false → (limit < t + size) → code ≡ 10 → whole ≡ 0 → left ≡ budget
@@ -116,7 +116,7 @@ module _ {e : List ℕ} {t : ℕ} {w : List ℕ} {limit level found size extent 
     spans = spans-none (λ x. omega arith) s;
     means = λ p small room a k x. then-passed _ z x (λ c f.
         let o = over-other p c (sym (y .means small (f .lies)) ∙ g) in
-        made-refused (overBinding p c) (rw o (omega (arith, f .sized))) u v);
+        made-refused (overBinding aut68 p c) (rw o (omega (arith, f .sized))) u v);
   }
 
 -- `[x,P]` and what was found behind it

@@ -6,12 +6,12 @@ use native.Mathlib.Omega.{arith}
 use native.Mathlib.Nat.{add-zero}
 use lib.ListN.{length, getD, take, drop, set, length-drop, length-set}
 use lib.Seq.{take-all, drop-drop, getD-drop, getD-set-same, getD-set-other}
-use Rattle.aut68.specs.Expr.{Expr, Exprs, type, var, bound, const, app, abs, nil, cons, size, cells, cellss, parts, countExprs}
+use Rattle.aut68.specs.Expr.{Expr, Exprs, type, prop, var, bound, const, app, abs, nil, cons, size, cells, cellss, parts, countExprs}
 use Rattle.aut68.specs.Lines.{Lines}
 use Rattle.aut68.specs.Rules.Categories.{DomainAt, innermost, outside}
 use Rattle.calculus.specs.Scoped.{Scoped, ScopedScope}
 use Rattle.cells.specs.Cells.{At, Formed, Wf}
-use Rattle.cells.specs.Forests.{size-is-length, at-inside, at-parts, at-front, at-second, at-one, cells-one, cells-long}
+use Rattle.cells.specs.Forests.{at-inside, at-parts, at-front, at-second, at-one, cells-one, cells-long}
 use Rattle.cells.specs.Posts.{Skipped, Bindable, Bound}
 use Rattle.cells.specs.declared.scope.Scope.{Scope}
 use Rattle.categories.specs.Nesting.{nesting}
@@ -51,6 +51,7 @@ at-store {ts} {e} {a} p h = record { is = sym (drop-drop a (length ts - length e
 pub nesting-positive : (x : Expr) → 1 ≤ nesting x
 unfolding nesting
 nesting-positive type = omega arith
+nesting-positive prop = omega arith
 nesting-positive (var v) = omega arith
 nesting-positive (bound i) = omega arith
 nesting-positive (const v xs) = omega arith

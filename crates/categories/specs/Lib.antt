@@ -1,4 +1,5 @@
 -- What the code of categories says.
+pub mod AnyDepth
 pub mod Nesting
 pub mod Places
 pub mod Posts

@@ -1,11 +1,12 @@
 -- How deep an expression is nested.
 use Prim.Native.Nat.{ℕ, suc, max}
-use Rattle.aut68.specs.Expr.{Expr, Exprs, type, var, bound, const, app, abs, nil, cons}
+use Rattle.aut68.specs.Expr.{Expr, Exprs, type, prop, var, bound, const, app, abs, nil, cons}
 
 -- "a lone name being 1 ..; each argument, domain, body, A and B is one deeper than its expression"
 unfoldable mutual
   pub nesting : Expr → ℕ
   nesting type = 1
+  nesting prop = 1
   nesting (var v) = 1
   nesting (bound i) = 1
   nesting (const v xs) = suc (nestings xs)

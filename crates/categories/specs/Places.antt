@@ -3,8 +3,10 @@ use mathlib.Core.Path.{_≡_}
 use mathlib.Core.List.{List}
 use Prim.Native.Nat.{ℕ, suc, _+_, _-_, _≤_, _<_}
 use lib.ListN.{length, getD, drop}
+use Rattle.aut68.specs.Language.{aut68}
 use Rattle.aut68.specs.Expr.{Expr, Exprs, abs, size, sizes, cells, cellss, countExprs}
 use Rattle.aut68.specs.Lines.{Line, Lines, abbreviation, kindCells}
+use Rattle.aut68.specs.Rules.Serving.{Supertype, IsType}
 use Rattle.aut68.specs.Rules.Categories.{DomainAt}
 use Rattle.aut68.specs.Rules.Names.{IsLine, Member}
 use Rattle.aut68.specs.Procedure.Category.{Function}
@@ -114,4 +116,6 @@ pub record LineCells (ls : Lines) (ts : List ℕ) (limit start at : ℕ) (l : Li
   pub middle : (m : Expr) → l .kind ≡ abbreviation m → Known ls 0 m
   pub middleSmall : (m : Expr) → l .kind ≡ abbreviation m → (size m ≤ limit) × (nesting m ≤ 32)
   pub category : KnownCategory ls 0 (l .category)
+  -- only `type` ends in `type`: so a line is written in AUT-68
+  pub endsOnly : Supertype (l .category) → IsType aut68 (l .category)
   pub categorySmall : (size (l .category) ≤ limit) × (nesting (l .category) ≤ 32)

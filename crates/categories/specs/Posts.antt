@@ -7,14 +7,16 @@ use mathlib.Core.Bool.{Bool, true}
 use mathlib.Core.List.{List, _∷_}
 use Prim.Native.Nat.{ℕ, _+_, _*_, _/_, _%_, _≤_, _<_}
 use lib.ListN.{length, getD, set}
+use Rattle.aut68.specs.Language.{aut68}
 use Rattle.aut68.specs.Procedure.Answer.{Act, Answer, andThen, _>>=_, ensure, notType}
-use Rattle.aut68.specs.Expr.{Expr, Exprs, bound, app, abs, nil, size, sizes, cells, countExprs, isType}
+use Rattle.aut68.specs.Expr.{Expr, Exprs, bound, app, abs, nil, size, sizes, cells, countExprs, isType, overBinding}
+use Rattle.aut68.specs.Rules.Serving.{Supertype, IsType}
 use Rattle.aut68.specs.Substitution.{substitute, instantiate}
 use Rattle.aut68.specs.Expr as Expr
 use Rattle.aut68.specs.Lines.{Line, Lines}
 use Rattle.aut68.specs.Rules.Names.{IsLine}
 use Rattle.aut68.specs.Procedure.Compare.{compare}
-use Rattle.aut68.specs.Procedure.Category.{Function, theLine, made, toFunction, overBinding, category, arguments}
+use Rattle.aut68.specs.Procedure.Category.{Function, theLine, made, toFunction}
 use Rattle.aut68.specs.Procedure.CheckLine.{checkWritten, checkMiddle}
 use Rattle.calculus.specs.Resolved.{Known, AllKnown, KnownScope, KnownCategory}
 use Rattle.cells.specs.Cells.{rowCell, At, Outside, copyCells}
@@ -22,6 +24,7 @@ use Rattle.cells.specs.Layout.{unitAt, levelUnit, sideUnit}
 use Rattle.cells.specs.Results.{Result}
 use Rattle.cells.specs.declared.scope.Scope.{Scope}
 use Rattle.reduction.specs.Book.{Book}
+use Rattle.categories.specs.AnyDepth.{category68, arguments68}
 use Rattle.categories.specs.Nesting.{nesting}
 use Rattle.categories.specs.Places.{Lies, FoundAt, LieAll, Awaits, FunctionIn, Held, ScopeHolds, Expression, Arguments, LineCells}
 
@@ -42,7 +45,7 @@ FindsKnown ls k w limit level code n left m = Result (λ c. FoundAt w limit leve
 
 -- the function f that a category reaches, known under k bindings, in a level's unit
 abbrev pub FunctionKnown : Lines → ℕ → List ℕ → ℕ → ℕ → ℕ → ℕ → Function → Type 0
-FunctionKnown ls k w limit level domain body f = FunctionIn w limit level domain body f × Known ls k (abs (f .domain) (f .body))
+FunctionKnown ls k w limit level domain body f = FunctionIn w limit level domain body f × KnownCategory ls k (abs (f .domain) (f .body))
 
 -- code 0 comes with the count of cells that the expression has; every other code with no more
 pub record Spans (code extent whole : ℕ) : Type 0 where
@@ -71,7 +74,7 @@ pub record FoundTypePost (w : List ℕ) (limit level found size budget code left
 pub record ComparePost (tb ts w : List ℕ) (limit budget l r : ℕ) (w′ : List ℕ) (code left : ℕ) : Type 0 where
   pub frame : limit ≤ 4096 → Outside (unitAt limit (sideUnit 32)) (length w) w w′
   pub means : {ls : Lines} {k : ℕ} {x y : Expr} → Book ls limit tb ts → 128 * limit ≤ length w → k ≤ 32 → KnownCategory ls k x → KnownCategory ls k y
-      → Lies w limit l x → Lies w limit r y → Passes code left (compare ls limit x y budget)
+      → Lies w limit l x → Lies w limit r y → Passes code left (compare aut68 ls limit x y budget)
 
 -- the category on line v
 pub record StoredPost (tb ts w : List ℕ) (limit budget level v : ℕ) (w′ : List ℕ) (code size extent left : ℕ) : Type 0 where
@@ -85,7 +88,7 @@ pub record BoundPost (tb ts : List ℕ) (scope : Scope) (w : List ℕ) (limit bu
   pub frame : Frame limit level w w′
   pub spans : Spans code extent 1
   pub means : {ls : Lines} {sc : List Expr} → Book ls limit tb ts → 128 * limit ≤ length w → ScopeHolds ts limit scope sc → KnownScope ls sc → i < length sc
-      → Finds w′ limit level code size left (category ls limit sc (bound i) budget)
+      → Finds w′ limit level code size left (category68 ls limit sc (bound i) budget)
 
 -- a copy of the n cells of s from `at` on, as far behind `base`
 pub record KeptArgument (s : List ℕ) (at n : ℕ) (w : List ℕ) (base : ℕ) (w′ : List ℕ) : Type 0 where
@@ -133,7 +136,7 @@ unfoldable pub wantedFits : Lines → ℕ → List ℕ → Exprs → ℕ → Exp
 wantedFits ls L context earlier v found = do
   l ← theLine ls v
   wanted ← made L (instantiate context earlier 0 (l .category))
-  compare ls L found wanted
+  compare aut68 ls L found wanted
 
 -- what was found for it, one level deeper, against the wanted category
 pub record WantedPost (tb ts w : List ℕ) (limit budget level wanted base count : ℕ) (starts w′ : List ℕ) (code left : ℕ) : Type 0 where
@@ -171,7 +174,7 @@ pub record FunctionOfPost (tb ts w : List ℕ) (limit found size budget level : 
 
 -- what is left to do for `<A>B`, once A's category was found: its comparison with the domain, and A put into the body
 unfoldable pub applying : Lines → ℕ → Expr → Function → Expr → Act ℕ Expr
-applying ls L a f found = compare ls L found (f .domain) >>= λ _. made L (substitute a 0 (f .body))
+applying ls L a f found = compare aut68 ls L found (f .domain) >>= λ _. made L (substitute a 0 (f .body))
 
 -- `<A>B` at the start of e, with B, of `extent` cells, at index b: the function lies at this level, what was found for A one
 -- level deeper
@@ -188,14 +191,14 @@ pub record OverBindingPost (e : List ℕ) (t : ℕ) (w : List ℕ) (limit level 
   pub frame : Frame limit level w w′
   pub spans : Spans code whole (t + extent)
   pub means : (p : Expr) {m : Answer ℕ Expr} {behind : List ℕ} → limit ≤ 4096 → 128 * limit ≤ length w → At e 0 (5 ∷ cells p) behind → t ≡ 1 + Expr.size p
-      → Finds w limit level found size budget m → Finds w′ limit level code n left (andThen (λ c. made limit (overBinding p c)) m)
+      → Finds w limit level found size budget m → Finds w′ limit level code n left (andThen (λ c. made limit (overBinding aut68 p c)) m)
 
 -- ---- categories and argument strings
 
 -- the answer is the category of x, and how many cells x has
 pub record Categorises (tb ts e : List ℕ) (scope : Scope) (w : List ℕ) (limit budget level : ℕ) (w′ : List ℕ) (code size extent left : ℕ) (x : Expr) : Type 0 where
   pub finds : {ls : Lines} {sc : List Expr} → Book ls limit tb ts → 128 * limit ≤ length w → Expression ls ts e scope limit level sc x
-      → Finds w′ limit level code size left (category ls limit sc x budget)
+      → Finds w′ limit level code size left (category68 ls limit sc x budget)
   pub spans : {ls : Lines} {sc : List Expr} → Book ls limit tb ts → 128 * limit ≤ length w → Expression ls ts e scope limit level sc x
       → code ≡ 0 → extent ≡ Expr.size x
 
@@ -223,7 +226,7 @@ pub record ArgumentsPost (tb ts s : List ℕ) (scope : Scope) (w : List ℕ) (li
   pub within : extent ≤ length s
   pub means : {ls : Lines} {l : Line} {sc : List Expr} {xs : Exprs} → Book ls limit tb ts → 128 * limit ≤ length w → IsLine ls v l
       → countExprs xs ≡ length (l .context) → Arguments ls ts s scope limit level sc xs
-      → Result (λ _. Kept w′ limit level extent starts xs) code left (arguments ls limit sc xs (l .context) (l .context) nil budget)
+      → Result (λ _. Kept w′ limit level extent starts xs) code left (arguments68 ls limit sc xs (l .context) (l .context) nil budget)
 
 -- ---- the line at hand
 
@@ -231,16 +234,16 @@ pub record ArgumentsPost (tb ts s : List ℕ) (scope : Scope) (w : List ℕ) (li
 pub record CheckWrittenPost (tb ts : List ℕ) (at : ℕ) (w : List ℕ) (limit budget : ℕ) (w′ : List ℕ) (code left : ℕ) : Type 0 where
   pub frame : Frame limit 0 w w′
   pub means : {ls : Lines} {c : Expr} {behind : List ℕ} → Book ls limit tb ts → 128 * limit ≤ length w → length ts < 4294967296 → At ts at (cells c) behind
-      → KnownCategory ls 0 c → size c ≤ limit → nesting c ≤ 32 → Passes code left (checkWritten ls limit c budget)
+      → KnownCategory ls 0 c → (Supertype c → IsType aut68 c) → size c ≤ limit → nesting c ≤ 32 → Passes code left (checkWritten aut68 ls limit c budget)
 
 -- the middle, in the cells start..at, against the category behind it
 pub record CheckMiddlePost (tb ts : List ℕ) (start at : ℕ) (w : List ℕ) (limit budget : ℕ) (w′ : List ℕ) (code left : ℕ) : Type 0 where
   pub frame : Frame limit 0 w w′
   pub means : {ls : Lines} {l : Line} → Book ls limit tb ts → 128 * limit ≤ length w → LineCells ls ts limit start at l
-      → Passes code left (checkMiddle ls limit (l .kind) (l .category) budget)
+      → Passes code left (checkMiddle aut68 ls limit (l .kind) (l .category) budget)
 
 -- both, for the line whose cells are the last of the term store
 pub record CheckCellsPost (tb ts : List ℕ) (start at : ℕ) (w : List ℕ) (limit budget : ℕ) (w′ : List ℕ) (code left : ℕ) : Type 0 where
   pub frame : Frame limit 0 w w′
   pub means : {ls : Lines} {l : Line} → Book ls limit tb ts → 128 * limit ≤ length w → LineCells ls ts limit start at l
-      → Passes code left ((checkWritten ls limit (l .category) >>= λ _. checkMiddle ls limit (l .kind) (l .category)) budget)
+      → Passes code left ((checkWritten aut68 ls limit (l .category) >>= λ _. checkMiddle aut68 ls limit (l .kind) (l .category)) budget)

@@ -1,15 +1,14 @@
 -- Expressions in a store of cells: where one lies, what a function leaves of the store.
 use mathlib.Core.Path.{_≡_}
 use mathlib.Core.Logic.{_⊎_}
-use mathlib.Core.Option.{Option, none, some}
 use mathlib.Core.Bool.{Bool, true, false, _&&_, _||_}
 use mathlib.Core.List.{List, [], _∷_, _++_}
-use Prim.Native.Nat.{ℕ, zero, suc, _+_, _-_, _*_, _/_, _%_, _≤_, _<_}
+use Prim.Native.Nat.{ℕ, _+_, _-_, _*_, _/_, _%_, _≤_, _<_}
 use lib.Dec.{eqb, leb}
 use lib.ListN.{length, getD, take, drop}
 use lib.Seq.{sets}
 use Rattle.aut68.specs.Bytes.{sameBytes}
-use Rattle.aut68.specs.Expr.{Expr, Exprs, type, var, bound, const, app, abs, nil, cons, size, cells, cellss, countExprs}
+use Rattle.aut68.specs.Expr.{Expr, Exprs, type, prop, var, bound, const, app, abs, nil, cons, countExprs}
 
 -- ---- rows and parts
 
@@ -29,6 +28,7 @@ partsAfter tb x =
 unfoldable mutual
   pub Formed : (ℕ → Type 0) → (ℕ → ℕ → Type 0) → Expr → Type 0
   Formed X C type = Unit {0}
+  Formed X C prop = Unit {0}
   Formed X C (var v) = X v
   Formed X C (bound i) = Unit {0}
   Formed X C (const v xs) = C v (countExprs xs) × AllFormed X C xs

@@ -9,7 +9,7 @@ use native.Mathlib.Omega.{arith}
 use lib.Dec.{eqb}
 use lib.ListN.{length, getD, drop, length-append, length-drop}
 use lib.Seq.{getD-drop, drop-drop}
-use Rattle.aut68.specs.Expr.{Expr, Exprs, type, var, bound, const, app, abs, nil, cons, size, sizes, firstCell, parts, cells, cellss, countExprs}
+use Rattle.aut68.specs.Expr.{Expr, Exprs, type, prop, var, bound, const, app, abs, nil, cons, size, sizes, firstCell, parts, cells, cellss, countExprs}
 use Rattle.cells.specs.Cells.{rowCell, partsAfter, Formed, AllFormed, RightCount, At}
 
 -- ---- a cell and its parts
@@ -24,6 +24,7 @@ number-of v k h = omega arith
 pub cells-split : (e : Expr) → cells e ≡ firstCell e ∷ cellss (parts e)
 unfolding cells cellss firstCell parts
 cells-split type = refl
+cells-split prop = refl
 cells-split (var v) = refl
 cells-split (bound i) = refl
 cells-split (const v xs) = refl
@@ -35,6 +36,7 @@ mutual
 
   pub size-is-length : (e : Expr) → size e ≡ length (cells e)
   size-is-length type = refl
+  size-is-length prop = refl
   size-is-length (var v) = refl
   size-is-length (bound i) = refl
   size-is-length (const v xs) = ap suc (sizes-is-length xs)
@@ -48,6 +50,7 @@ mutual
 pub size-positive : (e : Expr) → 1 ≤ size e
 unfolding size
 size-positive type = omega arith
+size-positive prop = omega arith
 size-positive (var v) = omega arith
 size-positive (bound i) = omega arith
 size-positive (const v xs) = omega arith
@@ -93,6 +96,7 @@ module _ (X : ℕ → Type 0) (C : ℕ → ℕ → Type 0) where
   pub formed-parts : (e : Expr) → Formed X C e → AllFormed X C (parts e)
   unfolding parts Formed AllFormed
   formed-parts type w = tt
+  formed-parts prop w = tt
   formed-parts (var v) w = tt
   formed-parts (bound i) w = tt
   formed-parts (const v xs) w = w .1
@@ -111,6 +115,7 @@ parts-of-kind tb v k h = ap₂ (partsOfKind tb) (kind-of v k h) (number-of v k h
 pub parts-count : (X : ℕ → Type 0) (tb : List ℕ) (e : Expr) → Formed X (RightCount tb) e → partsAfter tb (firstCell e) ≡ countExprs (parts e)
 unfolding partsOfKind partsAfter firstCell parts countExprs Formed
 parts-count X tb type w = refl
+parts-count X tb prop w = refl
 parts-count X tb (var v) w = parts-of-kind tb v 1 (omega arith)
 parts-count X tb (bound i) w = parts-of-kind tb i 2 (omega arith)
 parts-count X tb (const v xs) w = parts-of-kind tb v 3 (omega arith) ∙ sym (w .0)
@@ -232,7 +237,7 @@ rebuild k v ps =
                         | false ↦
                             elim (eqb k 4) [
                               | true ↦ app (firstOf ps) (firstOf (restOf ps))
-                              | false ↦ abs (firstOf ps) (firstOf (restOf ps))
+                              | false ↦ elim (eqb k 5) [ true ↦ abs (firstOf ps) (firstOf (restOf ps)) | false ↦ prop ]
                             ]
                       ]
                 ]
@@ -242,6 +247,7 @@ rebuild k v ps =
 rebuilt : (e : Expr) → rebuild (firstCell e % 8) (firstCell e / 8) (parts e) ≡ e
 unfolding rebuild firstCell parts firstOf restOf
 rebuilt type = refl
+rebuilt prop = refl
 rebuilt (var v) = ap₂ (λ (k n : ℕ). rebuild k n nil) (kind-of v 1 (omega arith)) (number-of v 1 (omega arith))
 rebuilt (bound i) = ap₂ (λ (k n : ℕ). rebuild k n nil) (kind-of i 2 (omega arith)) (number-of i 2 (omega arith))
 rebuilt (const v xs) = ap₂ (λ (k n : ℕ). rebuild k n xs) (kind-of v 3 (omega arith)) (number-of v 3 (omega arith))

@@ -4,6 +4,7 @@ use mathlib.Core.List.{List}
 use Prim.Native.Nat.{ℕ, zero, suc, _+_, _*_, _-_, _≤_, _<_}
 use native.Mathlib.Omega.{arith}
 use lib.ListN.{length, take}
+use Rattle.aut68.specs.Language.{aut68}
 use Rattle.aut68.specs.Expr.{Expr, size, cells}
 use Rattle.aut68.specs.Lines.{Lines}
 use Rattle.aut68.specs.Procedure.Answer.{Answer, codeOf, tooLarge}
@@ -19,7 +20,7 @@ use Rattle.comparison.specs.Posts.{Compares, ComparesParts, Pair, Placed
 
 -- ---- no level is left, or there are no such levels or units
 
-compareAt-none : (ls : Lines) (L : ℕ) {levels : ℕ} → levels ≡ 0 → (e f : Expr) (b : ℕ) → Result (λ _. Unit {0}) 10 b (compareAt ls L levels e f b)
+compareAt-none : (ls : Lines) (L : ℕ) {levels : ℕ} → levels ≡ 0 → (e f : Expr) (b : ℕ) → Result (λ _. Unit {0}) 10 b (compareAt aut68 ls L levels e f b)
 unfolding compareAt codeOf
 compareAt-none ls L z e f b = rw z (refused {r = tooLarge} refl)
 
@@ -39,10 +40,10 @@ module _ {tb ts w : List ℕ} {limit budget a b levels : ℕ} where
 -- ---- a pair that is opened
 
 compareAt-more : (ls : Lines) (L levels : ℕ) → (levels ≡ 0 → ⊥) → (e f : Expr) (b : ℕ)
-    → compareAt ls L levels e f b ≡ sides ls L (compareAt ls L (levels - 1)) e f b
+    → compareAt aut68 ls L levels e f b ≡ sides aut68 ls L (compareAt aut68 ls L (levels - 1)) e f b
 unfolding compareAt
 compareAt-more ls L zero n e f b = absurd (n refl)
-compareAt-more ls L (suc d) n e f b = let q : d ≡ suc d - 1 = omega arith in ap (λ (x : ℕ). sides ls L (compareAt ls L x) e f b) q
+compareAt-more ls L (suc d) n e f b = let q : d ≡ suc d - 1 = omega arith in ap (λ (x : ℕ). sides aut68 ls L (compareAt aut68 ls L x) e f b) q
 
 pub result-is : {code left : ℕ} {m m′ : Answer ℕ (Unit {0})} → m ≡ m′ → Result (λ _. Unit {0}) code left m′ → Result (λ _. Unit {0}) code left m
 result-is {code} {left} q h = subst (Result (λ _. Unit {0}) code left) (sym q) h
@@ -105,12 +106,12 @@ module _ {limit levels l r : ℕ} (O : Opened limit levels l r) where
     }
       where
         go : (ls : Lines) (k : ℕ) (e f : Expr) → Goes ls limit k w₁ l r e f budget state 0 0 left
-            → Result (λ _. Unit {0}) state left (sides ls limit (compareAt ls limit (levels - 1)) e f budget)
-        go ls k e f (identically z p) = result-is (p (compareAt ls limit (levels - 1))) (passed z tt)
+            → Result (λ _. Unit {0}) state left (sides aut68 ls limit (compareAt aut68 ls limit (levels - 1)) e f budget)
+        go ls k e f (identically z p) = result-is (p (compareAt aut68 ls limit (levels - 1))) (passed z tt)
         go ls k e f (toParts g h z P p) = absurd (n z)
         go ls k e f (onward g h z P x y p) = absurd (S .ends z)
-        go ls k e f (tooFar z p) = result-is (p (compareAt ls limit (levels - 1))) (refused z)
-        go ls k e f (spent z p) = result-is (p (compareAt ls limit (levels - 1))) (refused z)
+        go ls k e f (tooFar z p) = result-is (p (compareAt aut68 ls limit (levels - 1))) (refused z)
+        go ls k e f (spent z p) = result-is (p (compareAt aut68 ls limit (levels - 1))) (refused z)
 
     -- the parts, one level deeper
     module _ {w₂ : List ℕ} {code left₂ : ℕ} (one : state ≡ 1) (C : ComparesParts tb ts w₁ limit left l r (levels - 1) w₂ code left₂) where
@@ -141,10 +142,10 @@ module _ {limit levels l r : ℕ} (O : Opened limit levels l r) where
         where
           go : (ls : Lines) (k : ℕ) (e f : Expr) → Book ls limit tb ts → k + levels ≤ 64 → 128 * limit ≤ length w
               → Goes ls limit k w₁ l r e f budget state 0 0 left
-              → Result (λ _. Unit {0}) code left₂ (sides ls limit (compareAt ls limit (levels - 1)) e f budget)
+              → Result (λ _. Unit {0}) code left₂ (sides aut68 ls limit (compareAt aut68 ls limit (levels - 1)) e f budget)
           go ls k e f B d h (identically z p) = absurd (omega arith)
           go ls k e f B d h (toParts g i z P p) =
-              result-is (p (compareAt ls limit (levels - 1)))
+              result-is (p (compareAt aut68 ls limit (levels - 1)))
               (C .means ls k g i B (omega (arith, O .some)) (omega (arith, O .few)) (omega (arith, frame₁ .long)) (below-deeper ls k g i P))
           go ls k e f B d h (onward g i z P x y p) = absurd (omega arith)
           go ls k e f B d h (tooFar z p) = absurd (omega arith)

@@ -1,15 +1,14 @@
 -- Laws of known expressions and their head steps.
 use mathlib.Core.Path.{_≡_, refl, ap, subst}
-use mathlib.Core.Logic.{inl, inr}
 use mathlib.Core.Option.{some}
 use mathlib.Core.List.{List}
 use Prim.Native.Nat.{ℕ, suc, _≤_, _<_}
 use native.Mathlib.Decide.{decLt}
 use native.Mathlib.Omega.{arith}
-use Rattle.aut68.specs.Expr.{Expr, Exprs, type, var, bound, const, app, abs, nil, cons, size, parts}
+use Rattle.aut68.specs.Expr.{Expr, Exprs, type, prop, var, bound, const, app, abs, nil, cons, size, parts}
 use Rattle.aut68.specs.Lines.{Lines}
 use Rattle.aut68.specs.Procedure.HeadStep.{headStep, left}
-use Rattle.calculus.specs.Scoped.{Scoped, scoped-under}
+use Rattle.calculus.specs.Scoped.{Scoped, ScopedCategory, scoped-category, scoped-under}
 use Rattle.calculus.specs.Resolved.{VariableLine, ConstantOf, Known, AllKnown, KnownCategory}
 use Rattle.terms.specs.Made.{noRoom}
 use Rattle.reduction.specs.Frames.{Lies}
@@ -19,21 +18,26 @@ use Rattle.comparison.proofs.Turns.{Numbered, none, contracts, unfolds}
 
 -- ---- known expressions
 
--- the parts of a known expression are known under one binding more
-pub known-parts : (ls : Lines) (k : ℕ) (e : Expr) → KnownCategory ls k e → AllKnown ls (suc k) (parts e)
-unfolding Scoped parts
-known-parts ls k e (inl q) = rw q tt
-known-parts ls k e (inr w) = go e w
-  where
-    up : (x : Expr) → Known ls k x → Known ls (suc k) x
-    up x h = scoped-under (VariableLine ls) (ConstantOf ls) (omega arith) x h
+-- each of them is a known category
+unfoldable pub EachKnown : Lines → ℕ → Exprs → Type 0
+EachKnown ls k nil = Unit {0}
+EachKnown ls k (cons e es) = KnownCategory ls k e × EachKnown ls k es
 
-    ups : (xs : Exprs) → AllKnown ls k xs → AllKnown ls (suc k) xs
+-- the parts of a known category are known under one binding more
+pub known-parts : (ls : Lines) (k : ℕ) (e : Expr) → KnownCategory ls k e → EachKnown ls (suc k) (parts e)
+unfolding Scoped ScopedCategory parts EachKnown
+known-parts ls k e w = go e w
+  where
+    up : (x : Expr) → Known ls k x → KnownCategory ls (suc k) x
+    up x h = scoped-category (VariableLine ls) (ConstantOf ls) (suc k) x (scoped-under (VariableLine ls) (ConstantOf ls) (omega arith) x h)
+
+    ups : (xs : Exprs) → AllKnown ls k xs → EachKnown ls (suc k) xs
     ups nil h = tt
     ups (cons x xs) h = (up x (h .0), ups xs (h .1))
 
-    go : (e : Expr) → Known ls k e → AllKnown ls (suc k) (parts e)
-    go type h = absurd h
+    go : (e : Expr) → KnownCategory ls k e → EachKnown ls (suc k) (parts e)
+    go type h = tt
+    go prop h = tt
     go (var v) h = tt
     go (bound i) h = tt
     go (const v xs) h = ups xs (h .1)

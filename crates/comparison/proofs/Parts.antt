@@ -1,27 +1,26 @@
 -- Laws: the parts of two sides, from left to right.
 use mathlib.Core.Path.{_≡_, refl, sym, ap, subst, _∙_}
-use mathlib.Core.Logic.{inr}
 use mathlib.Core.Bool.{Bool, true, false}
 use mathlib.Core.List.{List, _++_}
 use Prim.Native.Nat.{ℕ, suc, _+_, _*_, _-_, _≤_, _<_}
 use native.Mathlib.Omega.{arith}
 use lib.ListN.{length, getD, take}
 use borrow.Author.Tests.{eq-eqb, ne-eqb}
+use Rattle.aut68.specs.Language.{aut68}
 use Rattle.aut68.specs.Expr.{Expr, Exprs, nil, cons, size, sizes, cells, cellss, countExprs, firstCell, parts}
 use Rattle.aut68.specs.Lines.{Lines}
 use Rattle.aut68.specs.Procedure.Answer.{Act, Answer, done, stop, andThen, refuse, codeOf, mismatch}
-use Rattle.aut68.specs.Procedure.Compare.{Comparison, each, compareParts, compareAt}
-use Rattle.calculus.specs.Scoped.{Scoped}
-use Rattle.calculus.specs.Resolved.{Known, AllKnown}
+use Rattle.aut68.specs.Procedure.Compare.{Comparison, each, hasSurplus, compareParts, compareAt}
+use Rattle.calculus.specs.Resolved.{KnownCategory}
 use Rattle.cells.specs.Cells.{At, Outside, AnyVariable, partsAfter, AllFormed}
 use Rattle.cells.specs.Forests.{size-is-length, sizes-is-length, cells-split, parts-count, at-inside, at-first, at-parts, at-front, at-second, at-one, cells-one, cells-long}
 use Rattle.cells.specs.Layout.{unitAt, sideUnit}
 use Rattle.cells.specs.Posts.{Skipped}
 use Rattle.cells.specs.Results.{Result, passed, refused, code-nonzero, then-refused}
 use Rattle.cells.specs.Stores.{outside-same, outside-then, outside-more, outside-below}
-use Rattle.reduction.specs.Book.{Book, category-wf, known-wf}
+use Rattle.reduction.specs.Book.{Book, category-wf}
 use Rattle.comparison.specs.Posts.{Compares, ComparesParts, Pair}
-use Rattle.comparison.proofs.Heads.{known-parts}
+use Rattle.comparison.proofs.Heads.{EachKnown, known-parts}
 use Rattle.comparison.proofs.Depths.{result-is}
 use Rattle.comparison.proofs.Places.{at-whole}
 
@@ -36,12 +35,12 @@ module _ (deeper : Comparison) (e f : Expr) (b : ℕ) where
   matched : Bool → Answer ℕ (Unit {0})
   matched t = (elim t as (λ _. Act ℕ (Unit {0})) [ true ↦ each deeper (parts e) (parts f) | false ↦ refuse mismatch ]) b
 
-  parts-matched : firstCell e ≡ firstCell f → compareParts deeper e f b ≡ each deeper (parts e) (parts f) b
-  unfolding compareParts matched
+  parts-matched : firstCell e ≡ firstCell f → compareParts aut68 deeper e f b ≡ each deeper (parts e) (parts f) b
+  unfolding compareParts hasSurplus matched
   parts-matched q = ap matched (eq-eqb _ _ q)
 
-  parts-differ : (firstCell e ≡ firstCell f → ⊥) → compareParts deeper e f b ≡ stop mismatch b
-  unfolding compareParts matched
+  parts-differ : (firstCell e ≡ firstCell f → ⊥) → compareParts aut68 deeper e f b ≡ stop mismatch b
+  unfolding compareParts hasSurplus matched
   parts-differ q = ap matched (ne-eqb _ _ q)
 
 count-cons : (e : Expr) (es : Exprs) → countExprs (cons e es) ≡ suc (countExprs es)
@@ -54,8 +53,8 @@ count-cons e es = refl
 pub record Strings (ls : Lines) (limit k : ℕ) (s : List ℕ) (count i j : ℕ) (es fs : Exprs) : Type 0 where
   pub countLeft : countExprs es ≡ count
   pub countRight : countExprs fs ≡ count
-  pub knownLeft : AllKnown ls k es
-  pub knownRight : AllKnown ls k fs
+  pub knownLeft : EachKnown ls k es
+  pub knownRight : EachKnown ls k fs
   pub smallLeft : sizes es ≤ limit
   pub smallRight : sizes fs ≤ limit
   pub restLeft : List ℕ
@@ -68,7 +67,7 @@ pub record PartsLeft (ls : Lines) (limit k levels : ℕ) (s : List ℕ) (e f : E
   pub es : Exprs
   pub fs : Exprs
   pub lie : Strings ls limit (suc k) s count i j es fs
-  pub goes : compareParts (compareAt ls limit levels) e f budget ≡ each (compareAt ls limit levels) es fs left
+  pub goes : compareParts aut68 (compareAt aut68 ls limit levels) e f budget ≡ each (compareAt aut68 ls limit levels) es fs left
 
 -- the same for every two sides that lie at l and r below the deeper frame
 pub record PartsInvariant (tb ts w₀ : List ℕ) (limit budget l r levels : ℕ) (w : List ℕ) (count i j left : ℕ) : Type 0 where
@@ -111,7 +110,7 @@ module _ {tb ts w : List ℕ} {limit budget l r levels : ℕ} where
     frame = λ _ _. outside-same;
     means = λ ls k e f B d d′ h P.
         result-is
-        (parts-differ (compareAt ls limit levels) e f budget λ q. n (first-left w (below limit levels) P ∙ q ∙ sym (first-right w (below limit levels) P)))
+        (parts-differ (compareAt aut68 ls limit levels) e f budget λ q. n (first-left w (below limit levels) P ∙ q ∙ sym (first-right w (below limit levels) P)))
         (refused {r = mismatch} refl);
   }
 
@@ -143,7 +142,7 @@ module _ {tb ts w : List ℕ} {limit budget l r levels : ℕ} where
         atRight = at-parts f (P .atRight);
       };
       goes =
-          parts-matched (compareAt ls limit levels) e f budget
+          parts-matched (compareAt aut68 ls limit levels) e f budget
           (sym (first-left w (below limit levels) P) ∙ q ∙ first-right w (below limit levels) P);
     };
   }
@@ -167,8 +166,8 @@ module _ {tb ts w₀ w : List ℕ} {limit budget l r levels count i j left : ℕ
       none-left deeper (cons x xs) fs p q = absurd (omega (arith, count-cons x xs))
 
       go : {ls : Lines} {k : ℕ} {e f : Expr} {s : List ℕ} → PartsLeft ls limit k levels s e f budget count i j left
-          → Result (λ _. Unit {0}) 0 left (compareParts (compareAt ls limit levels) e f budget)
-      go {ls} L = result-is (L .goes) (none-left (compareAt ls limit levels) (L .es) (L .fs) (L .lie .countLeft ∙ z) (L .lie .countRight ∙ z))
+          → Result (λ _. Unit {0}) 0 left (compareParts aut68 (compareAt aut68 ls limit levels) e f budget)
+      go {ls} L = result-is (L .goes) (none-left (compareAt aut68 ls limit levels) (L .es) (L .fs) (L .lie .countLeft ∙ z) (L .lie .countRight ∙ z))
 
   -- the next one is compared
   module _ {w₁ : List ℕ} {code left₁ : ℕ} (more : 0 < count) (C : Compares tb ts w limit left i j levels w₁ code left₁)
@@ -181,20 +180,20 @@ module _ {tb ts w₀ w : List ℕ} {limit budget l r levels count i j left : ℕ
       kept = outside-below {n = below limit levels} (omega arith) (I .frame (B .limit) d′)
 
       compared : (x y : Expr) (es fs : Exprs) → Strings ls limit (suc k) (take (below limit levels) w₀) count i j (cons x es) (cons y fs)
-          → Result (λ _. Unit {0}) code left₁ (compareAt ls limit levels x y left)
-      unfolding Scoped sizes cellss
+          → Result (λ _. Unit {0}) code left₁ (compareAt aut68 ls limit levels x y left)
+      unfolding EachKnown sizes cellss
       compared x y es fs S =
-          C .means ls (suc k) x y _ _ B (inr (S .knownLeft .0)) (inr (S .knownRight .0)) (omega arith) d′ (omega (arith, S .smallLeft))
+          C .means ls (suc k) x y _ _ B (S .knownLeft .0) (S .knownRight .0) (omega arith) d′ (omega (arith, S .smallLeft))
           (omega (arith, S .smallRight)) (omega (arith, I .long))
           (subst (λ (z : List ℕ). At z i (cells x) (cellss es ++ S .restLeft)) (sym kept) (at-front (cells x) (cellss es) (S .atLeft)))
           (subst (λ (z : List ℕ). At z j (cells y) (cellss fs ++ S .restRight)) (sym kept) (at-front (cells y) (cellss fs) (S .atRight)))
 
       stopped : (es fs : Exprs) → (code ≡ 0 → ⊥) → Strings ls limit (suc k) (take (below limit levels) w₀) count i j es fs
-          → Result (λ _. Unit {0}) code left₁ (each (compareAt ls limit levels) es fs left)
+          → Result (λ _. Unit {0}) code left₁ (each (compareAt aut68 ls limit levels) es fs left)
       unfolding each countExprs
       stopped nil fs n S = absurd (omega (arith, S .countLeft))
       stopped (cons x es) nil n S = absurd (omega (arith, S .countRight))
-      stopped (cons x es) (cons y fs) n S = then-refused (λ _. each (compareAt ls limit levels) es fs) n (compared x y es fs S)
+      stopped (cons x es) (cons y fs) n S = then-refused (λ _. each (compareAt aut68 ls limit levels) es fs) n (compared x y es fs S)
 
     -- it is refused
     pub parts-stopped : (code ≡ 0 → ⊥) → ComparesParts tb ts w₀ limit budget l r levels w₁ code left₁
@@ -202,14 +201,14 @@ module _ {tb ts w₀ w : List ℕ} {limit budget l r levels count i j left : ℕ
       where
         go : (ls : Lines) (k : ℕ) {e f : Expr} → Book ls limit tb ts → k + levels < 64 → levels ≤ 32 → 128 * limit ≤ length w₀
             → PartsLeft ls limit k levels (take (below limit levels) w₀) e f budget count i j left
-            → Result (λ _. Unit {0}) code left₁ (compareParts (compareAt ls limit levels) e f budget)
+            → Result (λ _. Unit {0}) code left₁ (compareParts aut68 (compareAt aut68 ls limit levels) e f budget)
         go ls k B d d′ h L = result-is (L .goes) (stopped ls k B d d′ h (L .es) (L .fs) n (L .lie))
 
     -- it is equal: the next ones lie behind it
     module _ {i₁ j₁ : ℕ} (z : code ≡ 0) (first : Skipped tb w₁ i 1 i₁) (second : Skipped tb w₁ j 1 j₁) where
       module _ (ls : Lines) (k : ℕ) (B : Book ls limit tb ts) (d : k + levels < 64) (d′ : levels ≤ 32) (h : 128 * limit ≤ length w₀) where
         -- past one expression
-        behind : {at end : ℕ} → Skipped tb w₁ at 1 end → (x : Expr) {rest : List ℕ} → Known ls (suc k) x
+        behind : {at end : ℕ} → Skipped tb w₁ at 1 end → (x : Expr) {rest : List ℕ} → KnownCategory ls (suc k) x
             → At (take (below limit levels) w₀) at (cells x) rest → end ≡ at + length (cells x)
         unfolding countExprs AllFormed
         behind {at} {end} s x {rest} u p =
@@ -217,11 +216,11 @@ module _ {tb ts w₀ w : List ℕ} {limit budget l r levels count i j left : ℕ
             outside-below {n = below limit levels} (omega arith) (frame₁ (B .limit) d′)
             in
             let a = at-whole w₁ (below limit levels) x (subst (λ (y : List ℕ). At y at (cells x) rest) (sym q) p) in
-            s .ends (cons x nil) _ refl (known-wf (B .rows) (suc k) x u, tt) (at-one x a) ∙ ap (λ (c : List ℕ). at + length c) (cells-one x)
+            s .ends (cons x nil) _ refl (category-wf (B .rows) (suc k) x u, tt) (at-one x a) ∙ ap (λ (c : List ℕ). at + length c) (cells-one x)
 
         rest-lies : (x y : Expr) (es fs : Exprs) → Strings ls limit (suc k) (take (below limit levels) w₀) count i j (cons x es) (cons y fs)
             → Strings ls limit (suc k) (take (below limit levels) w₀) (count - 1) i₁ j₁ es fs
-        unfolding Scoped countExprs sizes cellss
+        unfolding EachKnown countExprs sizes cellss
         rest-lies x y es fs S = record {
           countLeft = omega (arith, S .countLeft);
           countRight = omega (arith, S .countRight);
@@ -240,7 +239,7 @@ module _ {tb ts w₀ w : List ℕ} {limit budget l r levels count i j left : ℕ
         }
 
         goes-on : {e f : Expr} (es fs : Exprs) → Strings ls limit (suc k) (take (below limit levels) w₀) count i j es fs
-            → compareParts (compareAt ls limit levels) e f budget ≡ each (compareAt ls limit levels) es fs left
+            → compareParts aut68 (compareAt aut68 ls limit levels) e f budget ≡ each (compareAt aut68 ls limit levels) es fs left
             → PartsLeft ls limit k levels (take (below limit levels) w₀) e f budget (count - 1) i₁ j₁ left₁
         unfolding each countExprs andThen
         goes-on nil fs S g = absurd (omega (arith, S .countLeft))
@@ -249,7 +248,7 @@ module _ {tb ts w₀ w : List ℕ} {limit budget l r levels count i j left : ℕ
           es = es;
           fs = fs;
           lie = rest-lies x y es fs S;
-          goes = g ∙ ap (andThen (λ _. each (compareAt ls limit levels) es fs)) (passed-is z (compared ls k B d d′ h x y es fs S));
+          goes = g ∙ ap (andThen (λ _. each (compareAt aut68 ls limit levels) es fs)) (passed-is z (compared ls k B d d′ h x y es fs S));
         }
 
       pub parts-next : PartsInvariant tb ts w₀ limit budget l r levels w₁ (count - 1) i₁ j₁ left₁

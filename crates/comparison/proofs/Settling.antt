@@ -6,6 +6,7 @@ use mathlib.Core.List.{List}
 use Prim.Native.Nat.{ℕ, _+_, _≤_}
 use native.Mathlib.Omega.{arith}
 use lib.ListN.{length, take, drop}
+use Rattle.aut68.specs.Language.{aut68}
 use Rattle.aut68.specs.Expr.{Expr, size, cells, identical}
 use Rattle.aut68.specs.Lines.{Lines}
 use Rattle.aut68.specs.Procedure.Compare.{Comparison, sides}
@@ -28,7 +29,7 @@ proceed-none = record { frame = λ _ _. outside-same; means = λ ls k e f B h p 
 
 -- the same procedure from an earlier pair of sides
 goes-from : {ls : Lines} {limit k : ℕ} {w : List ℕ} {l r : ℕ} {e f g h : Expr} {b c state n m b′ : ℕ}
-    → ((deeper : Comparison) → sides ls limit deeper e f b ≡ sides ls limit deeper g h c)
+    → ((deeper : Comparison) → sides aut68 ls limit deeper e f b ≡ sides aut68 ls limit deeper g h c)
     → Goes ls limit k w l r g h c state n m b′ → Goes ls limit k w l r e f b state n m b′
 goes-from q (identically z p) = identically z λ d. q d ∙ p d
 goes-from q (toParts e f z P p) = toParts e f z P λ d. q d ∙ p d

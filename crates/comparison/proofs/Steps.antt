@@ -15,9 +15,10 @@ use Rattle.cells.specs.Cells.{At, Outside}
 use Rattle.cells.specs.Forests.{size-is-length}
 use Rattle.cells.specs.Layout.{unitAt, scratchUnit}
 use Rattle.cells.specs.Stores.{outside-same}
+use Rattle.calculus.specs.Known.{known-category-head}
 use Rattle.reduction.specs.Book.{Book, category-wf}
 use Rattle.reduction.specs.Frames.{at-framed}
-use Rattle.reduction.specs.Heads.{HeadIs, known-after}
+use Rattle.reduction.specs.Heads.{HeadIs}
 use Rattle.reduction.specs.Posts.{HeadPost, StepPost}
 use Rattle.reduction.specs.declared.heads.Head.{Head}
 use Rattle.comparison.specs.Posts.{Pair, Placed, SaysIdentical, Chooses, Goes, identically, toParts, onward, tooFar, spent, Proceeds}
@@ -137,7 +138,7 @@ module _ (ts : List ℕ) (limit budget : ℕ) {tb w : List ℕ} {l n r m : ℕ} 
               of (made s v at′) =
                   onward (L .g) f refl
                   (record {
-                    knownLeft = inr (known-after ls (B .resolved) k e (L .g) (L .leaves) (P .knownLeft));
+                    knownLeft = known-category-head ls (B .resolved) k e (L .g) (L .leaves) (P .knownLeft);
                     knownRight = P .knownRight;
                     smallLeft = s;
                     smallRight = P .smallRight;
@@ -215,7 +216,7 @@ module _ (ts : List ℕ) (limit budget : ℕ) {tb w : List ℕ} {l n r m : ℕ} 
                   onward e (R .g) refl
                   (record {
                     knownLeft = P .knownLeft;
-                    knownRight = inr (known-after ls (B .resolved) k f (R .g) (R .leaves) (P .knownRight));
+                    knownRight = known-category-head ls (B .resolved) k f (R .g) (R .leaves) (P .knownRight);
                     smallLeft = P .smallLeft;
                     smallRight = s;
                     restLeft = _;

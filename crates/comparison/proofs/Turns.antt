@@ -6,6 +6,7 @@ use Prim.Native.Nat.{ℕ, zero, suc, _+_, _≤_, _<_}
 use native.Mathlib.Omega.{arith}
 use lib.Dec.{leb}
 use borrow.Author.Tests.{le-leb, lt-leb, leb-true, leb-false}
+use Rattle.aut68.specs.Language.{aut68}
 use Rattle.aut68.specs.Expr.{Expr, size, identical}
 use Rattle.aut68.specs.Lines.{Lines}
 use Rattle.aut68.specs.Procedure.Answer.{done, stop, tooLarge, outOfBudget}
@@ -16,48 +17,48 @@ use Rattle.comparison.specs.Posts.{Chooses}
 -- ---- by what comes next
 
 module _ (ls : Lines) (L : ℕ) (e f : Expr) where
-  pub sides-same : (b : ℕ) (deeper : Comparison) → next ls e f ≡ same → sides ls L deeper e f b ≡ done tt b
+  pub sides-same : (b : ℕ) (deeper : Comparison) → next ls e f ≡ same → sides aut68 ls L deeper e f b ≡ done tt b
   unfolding sides
   sides-same zero deeper q = rw (q, sides)
   sides-same (suc b) deeper q = rw (q, sides)
 
-  pub sides-parts : (b : ℕ) (deeper : Comparison) → next ls e f ≡ byParts → sides ls L deeper e f b ≡ compareParts deeper e f b
+  pub sides-parts : (b : ℕ) (deeper : Comparison) → next ls e f ≡ byParts → sides aut68 ls L deeper e f b ≡ compareParts aut68 deeper e f b
   unfolding sides
   sides-parts zero deeper q = rw (q, sides)
   sides-parts (suc b) deeper q = rw (q, sides)
 
   -- a step past the budget
-  pub sides-spent : (b : ℕ) (deeper : Comparison) (g : Expr) → b ≡ 0 → next ls e f ≡ stepLeft g → sides ls L deeper e f b ≡ stop outOfBudget b
+  pub sides-spent : (b : ℕ) (deeper : Comparison) (g : Expr) → b ≡ 0 → next ls e f ≡ stepLeft g → sides aut68 ls L deeper e f b ≡ stop outOfBudget b
   unfolding sides
   sides-spent zero deeper g z q = rw (q, sides)
   sides-spent (suc b) deeper g z q = absurd (omega arith)
 
-  pub sides-spent-right : (b : ℕ) (deeper : Comparison) (g : Expr) → b ≡ 0 → next ls e f ≡ stepRight g → sides ls L deeper e f b ≡ stop outOfBudget b
+  pub sides-spent-right : (b : ℕ) (deeper : Comparison) (g : Expr) → b ≡ 0 → next ls e f ≡ stepRight g → sides aut68 ls L deeper e f b ≡ stop outOfBudget b
   unfolding sides
   sides-spent-right zero deeper g z q = rw (q, sides)
   sides-spent-right (suc b) deeper g z q = absurd (omega arith)
 
   -- a step within it
   pub sides-left : (b b′ : ℕ) (deeper : Comparison) (g : Expr) → b′ + 1 ≡ b → next ls e f ≡ stepLeft g → size g ≤ L
-      → sides ls L deeper e f b ≡ sides ls L deeper g f b′
+      → sides aut68 ls L deeper e f b ≡ sides aut68 ls L deeper g f b′
   unfolding sides
   sides-left zero b′ deeper g z q h = absurd (omega arith)
   sides-left (suc b) b′ deeper g z q h = let y : b ≡ b′ = omega arith in rw (q, sides, le-leb _ _ h, y)
 
   pub sides-left-large : (b : ℕ) (deeper : Comparison) (g : Expr) → 0 < b → next ls e f ≡ stepLeft g → L < size g
-      → sides ls L deeper e f b ≡ stop tooLarge b
+      → sides aut68 ls L deeper e f b ≡ stop tooLarge b
   unfolding sides
   sides-left-large zero deeper g z q h = absurd (omega arith)
   sides-left-large (suc b) deeper g z q h = rw (q, sides, lt-leb _ _ h)
 
   pub sides-right : (b b′ : ℕ) (deeper : Comparison) (g : Expr) → b′ + 1 ≡ b → next ls e f ≡ stepRight g → size g ≤ L
-      → sides ls L deeper e f b ≡ sides ls L deeper e g b′
+      → sides aut68 ls L deeper e f b ≡ sides aut68 ls L deeper e g b′
   unfolding sides
   sides-right zero b′ deeper g z q h = absurd (omega arith)
   sides-right (suc b) b′ deeper g z q h = let y : b ≡ b′ = omega arith in rw (q, sides, le-leb _ _ h, y)
 
   pub sides-right-large : (b : ℕ) (deeper : Comparison) (g : Expr) → 0 < b → next ls e f ≡ stepRight g → L < size g
-      → sides ls L deeper e f b ≡ stop tooLarge b
+      → sides aut68 ls L deeper e f b ≡ stop tooLarge b
   unfolding sides
   sides-right-large zero deeper g z q h = absurd (omega arith)
   sides-right-large (suc b) deeper g z q h = rw (q, sides, lt-leb _ _ h)

@@ -4,6 +4,7 @@ use mathlib.Core.Bool.{Bool}
 use mathlib.Core.List.{List}
 use Prim.Native.Nat.{ℕ, _+_, _*_, _≤_, _<_}
 use lib.ListN.{length, take}
+use Rattle.aut68.specs.Language.{aut68}
 use Rattle.aut68.specs.Expr.{Expr, size, cells, identical}
 use Rattle.aut68.specs.Lines.{Lines}
 use Rattle.aut68.specs.Procedure.Answer.{done, stop, tooLarge, outOfBudget}
@@ -25,7 +26,7 @@ pub record Compares (tb ts w : List ℕ) (limit budget a b levels : ℕ) (w′ :
   pub means : (ls : Lines) (k : ℕ) (l r : Expr) (rl rr : List ℕ) → Book ls limit tb ts → KnownCategory ls k l → KnownCategory ls k r
       → k + levels ≤ 64 → levels ≤ 32 → size l ≤ limit → size r ≤ limit → 128 * limit ≤ length w
       → At (take (unitAt limit (sideUnit levels)) w) a (cells l) rl → At (take (unitAt limit (sideUnit levels)) w) b (cells r) rr
-      → Result (λ _. Unit {0}) code left (compareAt ls limit levels l r budget)
+      → Result (λ _. Unit {0}) code left (compareAt aut68 ls limit levels l r budget)
 
 -- ---- two expressions in one store
 
@@ -51,7 +52,7 @@ pub record ComparesParts (tb ts w : List ℕ) (limit budget l r levels : ℕ) (w
   pub frame : limit ≤ 4096 → levels ≤ 32 → Outside (unitAt limit (sideUnit levels)) (length w) w w′
   pub means : (ls : Lines) (k : ℕ) (e f : Expr) → Book ls limit tb ts → k + levels < 64 → levels ≤ 32 → 128 * limit ≤ length w
       → Pair ls limit k (take (unitAt limit (sideUnit levels)) w) l r e f
-      → Result (λ _. Unit {0}) code left (compareParts (compareAt ls limit levels) e f budget)
+      → Result (λ _. Unit {0}) code left (compareParts aut68 (compareAt aut68 ls limit levels) e f budget)
 
 -- ---- identical sides, and the choice of a side
 
@@ -82,13 +83,13 @@ pub record Chooses (kind line kind′ line′ side : ℕ) : Type 0 where
 -- sides are identical. 1: no side has a head step. 2: steps were taken, and there may be more; n and m are the sizes now. Else
 -- a refusal.
 pub data Goes (ls : Lines) (limit k : ℕ) (w′ : List ℕ) (l r : ℕ) (e f : Expr) (b state n m b′ : ℕ) : Type 0 where
-  identically : state ≡ 0 → ((deeper : Comparison) → sides ls limit deeper e f b ≡ done tt b′) → Goes ls limit k w′ l r e f b state n m b′
+  identically : state ≡ 0 → ((deeper : Comparison) → sides aut68 ls limit deeper e f b ≡ done tt b′) → Goes ls limit k w′ l r e f b state n m b′
   toParts : (e′ f′ : Expr) → state ≡ 1 → Pair ls limit k w′ l r e′ f′
-      → ((deeper : Comparison) → sides ls limit deeper e f b ≡ compareParts deeper e′ f′ b′) → Goes ls limit k w′ l r e f b state n m b′
+      → ((deeper : Comparison) → sides aut68 ls limit deeper e f b ≡ compareParts aut68 deeper e′ f′ b′) → Goes ls limit k w′ l r e f b state n m b′
   onward : (e′ f′ : Expr) → state ≡ 2 → Pair ls limit k w′ l r e′ f′ → n ≡ size e′ → m ≡ size f′
-      → ((deeper : Comparison) → sides ls limit deeper e f b ≡ sides ls limit deeper e′ f′ b′) → Goes ls limit k w′ l r e f b state n m b′
-  tooFar : state ≡ 10 → ((deeper : Comparison) → sides ls limit deeper e f b ≡ stop tooLarge b′) → Goes ls limit k w′ l r e f b state n m b′
-  spent : state ≡ 11 → ((deeper : Comparison) → sides ls limit deeper e f b ≡ stop outOfBudget b′) → Goes ls limit k w′ l r e f b state n m b′
+      → ((deeper : Comparison) → sides aut68 ls limit deeper e f b ≡ sides aut68 ls limit deeper e′ f′ b′) → Goes ls limit k w′ l r e f b state n m b′
+  tooFar : state ≡ 10 → ((deeper : Comparison) → sides aut68 ls limit deeper e f b ≡ stop tooLarge b′) → Goes ls limit k w′ l r e f b state n m b′
+  spent : state ≡ 11 → ((deeper : Comparison) → sides aut68 ls limit deeper e f b ≡ stop outOfBudget b′) → Goes ls limit k w′ l r e f b state n m b′
 
 -- the sides of n and m cells at l and r, after head steps
 pub record Proceeds (tb ts w : List ℕ) (limit budget l n r m : ℕ) (w′ : List ℕ) (state n′ m′ left : ℕ) : Type 0 where

@@ -5,6 +5,8 @@ use mathlib.Core.List.{List}
 use Prim.Native.Nat.{ℕ, suc, _+_, _-_, _≤_, _<_}
 use native.Mathlib.Omega.{arith}
 use lib.ListN.{length, drop}
+use Rattle.aut68.specs.Language.{aut68}
+use Rattle.aut68.specs.Rules.Grammar.{inner}
 use Rattle.aut68.specs.Bytes.{Bytes}
 use Rattle.aut68.specs.Source.{cons, countSrcs}
 use Rattle.aut68.specs.Lines.{Lines}
@@ -32,8 +34,8 @@ pub record ArgumentsSoFar (ks s : Bytes) (scope : Scope) (book tb : List ℕ) (l
   pub few : count ≤ at
   pub left : (ls : Lines) → Ready ls ks s book tb lines indicator scope w₀ (r .to) → (n : ℕ) → length s - r .at < n
       → (m : ℕ) × (length s - at < m) × ((w′ : List ℕ) (r′ : Reading) → SameBelow to w w′
-      → ReadTo s (Counted ls s indicator scope w w′ to fault count r′) (r′ .code) (r′ .at) (arguments (anExpression (32 - scope .depth)) m (drop at s))
-      → ReadTo s (Counted ls s indicator scope w₀ w′ (r .to) (r .fault) 0 r′) (r′ .code) (r′ .at) (arguments (anExpression (32 - scope .depth)) n (drop (r .at) s)))
+      → ReadTo s (Counted ls s indicator scope w w′ to fault count r′) (r′ .code) (r′ .at) (arguments (anExpression aut68 (32 - scope .depth) inner) m (drop at s))
+      → ReadTo s (Counted ls s indicator scope w₀ w′ (r .to) (r .fault) 0 r′) (r′ .code) (r′ .at) (arguments (anExpression aut68 (32 - scope .depth) inner) n (drop (r .at) s)))
 
 pub arguments-start : {ks s : Bytes} {scope : Scope} {book tb : List ℕ} {lines indicator : ℕ} {w : List ℕ} {r : Reading} → r .to ≤ length w + r .at → r .at ≤ length s
     → ArgumentsSoFar ks s scope book tb lines indicator w w r (r .at) (r .to) (r .fault) 0
@@ -50,7 +52,7 @@ arguments-start {w = w} {r} f i =
 
 module _ {ks s : Bytes} {scope : Scope} {book tb : List ℕ} {lines indicator : ℕ} {w₀ w wA : List ℕ} {r a : Reading} {at to fault count : ℕ}
     (h : ArgumentsSoFar ks s scope book tb lines indicator w₀ w r at to fault count)
-    (A : ExpressionRead (anExpression (32 - scope .depth)) ks s scope book tb lines indicator w wA (goOn at to fault) a) where
+    (A : ExpressionRead (anExpression aut68 (32 - scope .depth) inner) ks s scope book tb lines indicator w wA (goOn at to fault) a) where
   pub arguments-refused : a .code ≢ 0 → ArgumentsRead ks s scope book tb lines indicator w₀ wA r a
   unfolding arguments
   arguments-refused n =
@@ -67,7 +69,7 @@ module _ {ks s : Bytes} {scope : Scope} {book tb : List ℕ} {lines indicator : 
             let (m, b, f) = h .left ls ready k l in
             let e : m ≡ suc (m - 1) = omega arith in
             f wA a (A .onward .below)
-            (read-is (ap (λ i. arguments (anExpression (32 - scope .depth)) i (drop at s)) e) (then-refused _ n (A .read ls (ready-on (h .below) (h .up) ready))));
+            (read-is (ap (λ i. arguments (anExpression aut68 (32 - scope .depth) inner) i (drop at s)) e) (then-refused _ n (A .read ls (ready-on (h .below) (h .up) ready))));
       }
 
   module _ (z : a .code ≡ 0) {comma : ℕ} (p : PastSymbol ks s (a .at) 7 comma) where
@@ -89,7 +91,7 @@ module _ {ks s : Bytes} {scope : Scope} {book tb : List ℕ} {lines indicator : 
                 omega (arith, A .onward .from),
                 λ w′ r′ below rest.
                     f w′ r′ (below-then (A .onward .below) (A .onward .up) below)
-                    (read-is (ap (λ i. arguments (anExpression (32 - scope .depth)) i (drop at s)) e)
+                    (read-is (ap (λ i. arguments (anExpression aut68 (32 - scope .depth) inner) i (drop at s)) e)
                     (then-passed _ z (A .read ls (ready-on (h .below) (h .up) ready)) (λ x X.
                     then-done _ (comma-read (drop (a .at) s) (symbol-read 44 p (symbol-kinds .2) (omega arith) i (ready .table)))
                     (then-give (cons x) rest (λ xs Y.
@@ -112,7 +114,7 @@ module _ {ks s : Bytes} {scope : Scope} {book tb : List ℕ} {lines indicator : 
                 let (m, b, f) = h .left ls ready k l in
                 let e : m ≡ suc (m - 1) = omega arith in
                 f wA r′ (A .onward .below)
-                (read-is (ap (λ i. arguments (anExpression (32 - scope .depth)) i (drop at s)) e)
+                (read-is (ap (λ i. arguments (anExpression aut68 (32 - scope .depth) inner) i (drop at s)) e)
                 (then-passed _ z (A .read ls (ready-on (h .below) (h .up) ready)) (λ x X.
                 then-stop _
                 (neither-read (drop (a .at) s) (symbol-missing 44 p (symbol-kinds .2) (omega arith) u (ready .table))
@@ -138,7 +140,7 @@ module _ {ks s : Bytes} {scope : Scope} {book tb : List ℕ} {lines indicator : 
                 let (m, b, f) = h .left ls ready k l in
                 let e : m ≡ suc (m - 1) = omega arith in
                 f wA (record { code = 0; at = close; to = a .to; fault = a .fault; count = count + 1 }) (A .onward .below)
-                (read-is (ap (λ i. arguments (anExpression (32 - scope .depth)) i (drop at s)) e)
+                (read-is (ap (λ i. arguments (anExpression aut68 (32 - scope .depth) inner) i (drop at s)) e)
                 (then-passed _ z (A .read ls (ready-on (h .below) (h .up) ready)) (λ x X.
                 then-done _
                 (close-read (drop (a .at) s) (symbol-missing 44 p (symbol-kinds .2) (omega arith) u (ready .table))

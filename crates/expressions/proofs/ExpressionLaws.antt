@@ -7,8 +7,10 @@ use Prim.Native.Nat.{ℕ, suc, _+_, _-_, _≤_, _<_}
 use native.Mathlib.Omega.{arith}
 use lib.ListN.{length, drop, length-set}
 use lib.Seq.{slice}
+use Rattle.aut68.specs.Language.{aut68}
+use Rattle.aut68.specs.Rules.Grammar.{inner}
 use Rattle.aut68.specs.Bytes.{Bytes, nameByte}
-use Rattle.aut68.specs.Source.{Src, name, cellsOfSrc}
+use Rattle.aut68.specs.Source.{Src, cellsOfSrc}
 use Rattle.aut68.specs.Expr.{cells}
 use Rattle.aut68.specs.Lines.{Lines}
 use Rattle.aut68.specs.Procedure.Answer.{done, stop, codeOf, malformed, tooLarge}
@@ -48,8 +50,8 @@ ready-on {to = to} b l h =
 
 -- ---- one level deeper
 
-pub ready-inner : {ls : Lines} {ks s book tb : List ℕ} {lines indicator : ℕ} {scope inner : Scope} {w : List ℕ} {to : ℕ} → Sized inner
-    → Ready ls ks s book tb lines indicator scope w to → Ready ls ks s book tb lines indicator inner w to
+pub ready-inner : {ls : Lines} {ks s book tb : List ℕ} {lines indicator : ℕ} {scope next : Scope} {w : List ℕ} {to : ℕ} → Sized next
+    → Ready ls ks s book tb lines indicator scope w to → Ready ls ks s book tb lines indicator next w to
 ready-inner z h =
     record {
       table = h .table;
@@ -63,7 +65,7 @@ ready-inner z h =
       sized = z;
     }
 
-pub sized-nested : {scope inner : Scope} → Nested scope inner → scope .depth < 32 → Sized scope → Sized inner
+pub sized-nested : {scope next : Scope} → Nested scope next → scope .depth < 32 → Sized scope → Sized next
 sized-nested b l z =
     record {
       starts = ap length (b .startsAre) ∙ z .starts;
@@ -72,8 +74,8 @@ sized-nested b l z =
       few = omega (arith, b .deeper l, b .boundIs, z .few);
     }
 
-sized-bound : {scope inner : Scope} {start len : ℕ} → Bound scope start len inner → Bindable scope start len → Sized scope → Sized inner
-sized-bound {scope} {inner} {start} {len} b f z =
+sized-bound : {scope next : Scope} {start len : ℕ} → Bound scope start len next → Bindable scope start len → Sized scope → Sized next
+sized-bound {scope} {next} {start} {len} b f z =
     record {
       starts = ap length (b .startsAre f) ∙ length-set (scope .starts) (scope .bound) start ∙ z .starts;
       lens = ap length (b .lensAre f) ∙ length-set (scope .lens) (scope .bound) len ∙ z .lens;
@@ -86,28 +88,28 @@ bindable : {ls : Lines} {ks s book tb : List ℕ} {lines indicator : ℕ} {scope
     → Ready ls ks s book tb lines indicator scope w to → scope .depth < 32 → start + len ≤ length s → Bindable scope start len
 bindable h l e = record { shallow = l; few = omega (arith, h .sized .few); startFits = omega (arith, h .short); lenFits = omega (arith, h .short) }
 
-module _ {ks s book tb : List ℕ} {lines indicator : ℕ} {inner : Scope} {w w′ : List ℕ} {r r′ : Reading}
-    (h : ExpressionRead (anExpression (32 - inner .depth)) ks s inner book tb lines indicator w w′ r r′) where
+module _ {ks s book tb : List ℕ} {lines indicator : ℕ} {next : Scope} {w w′ : List ℕ} {r r′ : Reading}
+    (h : ExpressionRead (anExpression aut68 (32 - next .depth) inner) ks s next book tb lines indicator w w′ r r′) where
   -- the part one level deeper than d, under the names that are bound there
-  deeper-read : (d : ℕ) → inner .depth ≡ d + 1 → (ls : Lines) → Ready ls ks s book tb lines indicator inner w (r .to) → (bs : List Bytes) → boundNames s inner ≡ bs
+  deeper-read : (d : ℕ) → next .depth ≡ d + 1 → (ls : Lines) → Ready ls ks s book tb lines indicator next w (r .to) → (bs : List Bytes) → boundNames s next ≡ bs
       → ReadTo s (Written cellsOfSrc cells (resolve ls (contextAt ls indicator) bs) w w′ (r .to) (r′ .to) (r .fault) (r′ .fault)) (r′ .code) (r′ .at)
-      (anExpression (31 - d) (drop (r .at) s))
+      (anExpression aut68 (31 - d) inner (drop (r .at) s))
   deeper-read d q ls ready bs names =
-      let level : 31 - d ≡ 32 - inner .depth = omega arith in
-      read-is (ap (λ d. anExpression d (drop (r .at) s)) level)
+      let level : 31 - d ≡ 32 - next .depth = omega arith in
+      read-is (ap (λ d. anExpression aut68 d inner (drop (r .at) s)) level)
       (subst (λ bs. ReadTo s (Written cellsOfSrc cells (resolve ls (contextAt ls indicator) bs) w w′ (r .to) (r′ .to) (r .fault) (r′ .fault)) (r′ .code) (r′ .at)
-      (anExpression (32 - inner .depth) (drop (r .at) s))) names
+      (anExpression aut68 (32 - next .depth) inner (drop (r .at) s))) names
       (h .read ls ready))
 
   -- a level that binds nothing
-  pub level-read : {scope : Scope} → Nested scope inner → scope .depth < 32 → (ls : Lines) → Ready ls ks s book tb lines indicator scope w (r .to)
-      → ReadTo s (WrittenOne ls s indicator scope w w′ (r .to) (r′ .to) (r .fault) (r′ .fault)) (r′ .code) (r′ .at) (anExpression (31 - scope .depth) (drop (r .at) s))
+  pub level-read : {scope : Scope} → Nested scope next → scope .depth < 32 → (ls : Lines) → Ready ls ks s book tb lines indicator scope w (r .to)
+      → ReadTo s (WrittenOne ls s indicator scope w w′ (r .to) (r′ .to) (r .fault) (r′ .fault)) (r′ .code) (r′ .at) (anExpression aut68 (31 - scope .depth) inner (drop (r .at) s))
   level-read {scope} b l ls ready = deeper-read (scope .depth) (b .deeper l) ls (ready-inner (sized-nested b l (ready .sized)) ready) (boundNames s scope) (nested-names s b)
 
   -- a level that binds a name of the line
-  pub body-read : {scope : Scope} {start len : ℕ} → Bound scope start len inner → scope .depth < 32 → start + len ≤ length s → (ls : Lines) → Ready ls ks s book tb lines indicator scope w (r .to)
+  pub body-read : {scope : Scope} {start len : ℕ} → Bound scope start len next → scope .depth < 32 → start + len ≤ length s → (ls : Lines) → Ready ls ks s book tb lines indicator scope w (r .to)
       → ReadTo s (Written cellsOfSrc cells (resolve ls (contextAt ls indicator) (slice start (start + len) s ∷ boundNames s scope)) w w′ (r .to) (r′ .to) (r .fault) (r′ .fault)) (r′ .code) (r′ .at)
-      (anExpression (31 - scope .depth) (drop (r .at) s))
+      (anExpression aut68 (31 - scope .depth) inner (drop (r .at) s))
   body-read {scope} {start} {len} b l e ls ready =
       let f : Bindable scope start len = bindable ready l e in
       deeper-read (scope .depth) (b .deeper l) ls (ready-inner (sized-bound b f (ready .sized)) ready) (slice start (start + len) s ∷ boundNames s scope)
@@ -155,43 +157,43 @@ module _ {ks s book tb : List ℕ} {lines indicator : ℕ} {scope : Scope} {w : 
     (p : PastSpaces s (r .at) at) (q : KindAt ks s at k) (fewer : r .to ≤ length w + r .at) (inside : r .at ≤ length s) where
   module _ (deep : 32 ≤ scope .depth) where
     pub expression-too-deep : {t : Bool} → t ≡ opensKind k → t ≡ true → Refusing 10 at (r .to) r′
-        → ExpressionRead (anExpression (32 - scope .depth)) ks s scope book tb lines indicator w w r r′
+        → ExpressionRead (anExpression aut68 (32 - scope .depth) inner) ks s scope book tb lines indicator w w r r′
     expression-too-deep e f h =
         record {
           onward = onward-refused (below-same (r .to) w) h (omega arith) (omega (arith, p .from)) (p .from) (p .within inside);
           read = λ ls ready.
-              read-is (ap (λ d. anExpression d (drop (r .at) s)) (no-level (scope .depth) deep))
+              read-is (ap (λ d. anExpression aut68 d inner (drop (r .at) s)) (no-level (scope .depth) deep))
               (read-stop (too-deep (drop (r .at) s) (ap opensKind (sym (kind-ahead p q (ready .table))) ∙ sym e ∙ f)) (h .codeIs ∙ sym code-tooLarge));
         }
 
     pub expression-malformed : {t : Bool} → t ≡ opensKind k → t ≡ false → Refusing 3 at (r .to) r′
-        → ExpressionRead (anExpression (32 - scope .depth)) ks s scope book tb lines indicator w w r r′
+        → ExpressionRead (anExpression aut68 (32 - scope .depth) inner) ks s scope book tb lines indicator w w r r′
     expression-malformed e f h =
         record {
           onward = onward-refused (below-same (r .to) w) h (omega arith) (omega (arith, p .from)) (p .from) (p .within inside);
           read = λ ls ready.
-              read-is (ap (λ d. anExpression d (drop (r .at) s)) (no-level (scope .depth) deep))
+              read-is (ap (λ d. anExpression aut68 d inner (drop (r .at) s)) (no-level (scope .depth) deep))
               (read-stop (opens-nothing (drop (r .at) s) (ap opensKind (sym (kind-ahead p q (ready .table))) ∙ sym e ∙ f)) (h .codeIs ∙ sym code-malformed));
         }
 
   module _ (l : scope .depth < 32) {w′ : List ℕ} where
-    chosen : (m : Read Src) → (KindsTable ks → anExpression (suc (31 - scope .depth)) (drop (r .at) s) ≡ m (drop (r .at) s))
+    chosen : (m : Read Src) → (KindsTable ks → anExpression aut68 (suc (31 - scope .depth)) inner (drop (r .at) s) ≡ m (drop (r .at) s))
         → ExpressionRead m ks s scope book tb lines indicator w w′ r r′
-        → ExpressionRead (anExpression (32 - scope .depth)) ks s scope book tb lines indicator w w′ r r′
+        → ExpressionRead (anExpression aut68 (32 - scope .depth) inner) ks s scope book tb lines indicator w w′ r r′
     chosen m e h =
         record {
           onward = h .onward;
-          read = λ ls ready. read-is (ap (λ d. anExpression d (drop (r .at) s)) (some-level (scope .depth) l) ∙ e (ready .table)) (h .read ls ready);
+          read = λ ls ready. read-is (ap (λ d. anExpression aut68 d inner (drop (r .at) s)) (some-level (scope .depth) l) ∙ e (ready .table)) (h .read ls ready);
         }
 
-    pub expression-application : k ≡ 2 → ExpressionRead (application (anExpression (31 - scope .depth))) ks s scope book tb lines indicator w w′ r r′
-        → ExpressionRead (anExpression (32 - scope .depth)) ks s scope book tb lines indicator w w′ r r′
+    pub expression-application : k ≡ 2 → ExpressionRead (application (anExpression aut68 (31 - scope .depth) inner)) ks s scope book tb lines indicator w w′ r r′
+        → ExpressionRead (anExpression aut68 (32 - scope .depth) inner) ks s scope book tb lines indicator w w′ r r′
     expression-application e h = chosen _ (λ t. choose-application (31 - scope .depth) (drop (r .at) s) (sym (kind-ahead p q t) ∙ e)) h
 
-    pub expression-abstraction : k ≡ 3 → ExpressionRead (abstraction (anExpression (31 - scope .depth))) ks s scope book tb lines indicator w w′ r r′
-        → ExpressionRead (anExpression (32 - scope .depth)) ks s scope book tb lines indicator w w′ r r′
+    pub expression-abstraction : k ≡ 3 → ExpressionRead (abstraction aut68 (anExpression aut68 (31 - scope .depth) inner) (anExpression aut68 (31 - scope .depth) inner)) ks s scope book tb lines indicator w w′ r r′
+        → ExpressionRead (anExpression aut68 (32 - scope .depth) inner) ks s scope book tb lines indicator w w′ r r′
     expression-abstraction e h = chosen _ (λ t. choose-abstraction (31 - scope .depth) (drop (r .at) s) (sym (kind-ahead p q t) ∙ e)) h
 
-    pub expression-named : k ≢ 2 → k ≢ 3 → ExpressionRead (named (anExpression (31 - scope .depth))) ks s scope book tb lines indicator w w′ r r′
-        → ExpressionRead (anExpression (32 - scope .depth)) ks s scope book tb lines indicator w w′ r r′
+    pub expression-named : k ≢ 2 → k ≢ 3 → ExpressionRead (named aut68 (anExpression aut68 (31 - scope .depth) inner)) ks s scope book tb lines indicator w w′ r r′
+        → ExpressionRead (anExpression aut68 (32 - scope .depth) inner) ks s scope book tb lines indicator w w′ r r′
     expression-named n m h = chosen _ (λ t. choose-named (31 - scope .depth) (drop (r .at) s) (λ e. n (kind-ahead p q t ∙ e)) (λ e. m (kind-ahead p q t ∙ e))) h

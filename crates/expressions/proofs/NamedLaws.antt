@@ -6,6 +6,8 @@ use Prim.Native.Nat.{ℕ, _+_, _-_, _≤_, _<_}
 use native.Mathlib.Omega.{arith}
 use lib.ListN.{length, drop, length-drop}
 use lib.Seq.{slice, length-slice}
+use Rattle.aut68.specs.Language.{aut68}
+use Rattle.aut68.specs.Rules.Grammar.{inner}
 use Rattle.aut68.specs.Bytes.{Bytes}
 use Rattle.aut68.specs.Source.{name, nil, cellsOfSrcs, countSrcs}
 use Rattle.aut68.specs.Expr.{cellss}
@@ -65,13 +67,13 @@ module _ {s : Bytes} {scope : Scope} {b : ℕ} where
   binding-none {word} e z = subst (λ n. BindingFound s scope word n) (sym e) (bound-nowhere (bound-start (omega arith)) z)
 
 -- the argument string one level deeper, with the names that are bound around it
-level-arguments : {ks s book tb : List ℕ} {lines indicator : ℕ} {scope inner : Scope} {w w′ : List ℕ} {r r′ : Reading} → Nested scope inner → scope .depth < 32
-    → ArgumentsRead ks s inner book tb lines indicator w w′ r r′ → (ls : Lines) → Ready ls ks s book tb lines indicator scope w (r .to) → (n : ℕ) → length s - r .at < n
-    → ReadTo s (Counted ls s indicator scope w w′ (r .to) (r .fault) 0 r′) (r′ .code) (r′ .at) (arguments (anExpression (31 - scope .depth)) n (drop (r .at) s))
-level-arguments {s = s} {indicator = indicator} {scope} {inner} {w} {w′} {r} {r′} b l h ls ready n m =
-    let names : boundNames s inner ≡ boundNames s scope = nested-names s b in
-    let level : 31 - scope .depth ≡ 32 - inner .depth = omega (arith, b .deeper l) in
-    read-is (ap (λ d. arguments (anExpression d) n (drop (r .at) s)) level)
+level-arguments : {ks s book tb : List ℕ} {lines indicator : ℕ} {scope next : Scope} {w w′ : List ℕ} {r r′ : Reading} → Nested scope next → scope .depth < 32
+    → ArgumentsRead ks s next book tb lines indicator w w′ r r′ → (ls : Lines) → Ready ls ks s book tb lines indicator scope w (r .to) → (n : ℕ) → length s - r .at < n
+    → ReadTo s (Counted ls s indicator scope w w′ (r .to) (r .fault) 0 r′) (r′ .code) (r′ .at) (arguments (anExpression aut68 (31 - scope .depth) inner) n (drop (r .at) s))
+level-arguments {s = s} {indicator = indicator} {scope} {next} {w} {w′} {r} {r′} b l h ls ready n m =
+    let names : boundNames s next ≡ boundNames s scope = nested-names s b in
+    let level : 31 - scope .depth ≡ 32 - next .depth = omega (arith, b .deeper l) in
+    read-is (ap (λ d. arguments (anExpression aut68 d inner) n (drop (r .at) s)) level)
     (then-map (h .read ls (ready-inner (sized-nested b l (ready .sized)) ready) n m) (λ xs X.
     record {
       number = X .number;
@@ -81,7 +83,7 @@ level-arguments {s = s} {indicator = indicator} {scope} {inner} {w} {w′} {r} {
 module _ {ks s book tb : List ℕ} {lines indicator : ℕ} {scope : Scope} {w : List ℕ} {r : Reading} {start len : ℕ}
     (fewer : r .to ≤ length w + r .at) (inside : r .at ≤ length s) (l : scope .depth < 32) (n : NameAt ks s (r .at) start len) where
   pub named-unnamed : {r′ : Reading} → len ≡ 0 → Refusing 3 (r .at) (r .to) r′
-      → ExpressionRead (named (anExpression (31 - scope .depth))) ks s scope book tb lines indicator w w r r′
+      → ExpressionRead (named aut68 (anExpression aut68 (31 - scope .depth) inner)) ks s scope book tb lines indicator w w r r′
   unfolding named
   named-unnamed e h =
       record {
@@ -92,7 +94,7 @@ module _ {ks s book tb : List ℕ} {lines indicator : ℕ} {scope : Scope} {w : 
   module _ (e : len ≢ 0) {b : ℕ} (found : BindingFound s scope (slice start (start + len) s) b) {w₁ : List ℕ} {m : Meaning} (put : NamePut s b book tb lines indicator w w₁ (r .to) (r .fault) start len m)
       {o : ℕ} (p : PastSymbol ks s (start + len) 8 o) where
     pub named-alone : {r′ : Reading} → length s < o → CountTested (goOn (start + len) (r .to + 1) (m .fault)) m r′
-        → ExpressionRead (named (anExpression (31 - scope .depth))) ks s scope book tb lines indicator w w₁ r r′
+        → ExpressionRead (named aut68 (anExpression aut68 (31 - scope .depth) inner)) ks s scope book tb lines indicator w w₁ r r′
     unfolding named countSrcs
     named-alone {r′} i h =
         record {
@@ -106,17 +108,17 @@ module _ {ks s book tb : List ℕ} {lines indicator : ℕ} {scope : Scope} {w : 
               };
           read = λ ls ready.
               then-done _ (n .read (ready .table) inside e)
-              (then-done _ (no-arguments (anExpression (31 - scope .depth)) (drop (start + len) s) (symbol-missing 40 p (symbol-kinds .3) (omega arith) i (ready .table)))
+              (then-done _ (no-arguments (anExpression aut68 (31 - scope .depth) inner) (drop (start + len) s) (symbol-missing 40 p (symbol-kinds .3) (omega arith) i (ready .table)))
               (passed (h .code) (ap (λ i. drop i s) (h .at))
               (name-written ls put (ready .known) (ready .hinted) (ready .context) (ready .earlier) found (omega (arith, ready .sized .few)) (omega arith) (n .within inside) (below-same (r .to + 1) w₁) nil h refl refl
               (no-arguments-written ls (contextAt ls indicator) (boundNames s scope) w₁ (r .to + 1) (m .fault)))));
         }
 
-    pub named-read : {wA : List ℕ} {inner : Scope} {a r′ : Reading} → o ≤ length s → Nested scope inner
-        → ArgumentsRead ks s inner book tb lines indicator w₁ wA (goOn o (r .to + 1) (m .fault)) a → CountTested a m r′
-        → ExpressionRead (named (anExpression (31 - scope .depth))) ks s scope book tb lines indicator w wA r r′
+    pub named-read : {wA : List ℕ} {next : Scope} {a r′ : Reading} → o ≤ length s → Nested scope next
+        → ArgumentsRead ks s next book tb lines indicator w₁ wA (goOn o (r .to + 1) (m .fault)) a → CountTested a m r′
+        → ExpressionRead (named aut68 (anExpression aut68 (31 - scope .depth) inner)) ks s scope book tb lines indicator w wA r r′
     unfolding named
-    named-read {a = a} i inner A h =
+    named-read {a = a} i next A h =
         let from = p .from (n .within inside) in
         record {
           onward =
@@ -130,8 +132,8 @@ module _ {ks s book tb : List ℕ} {lines indicator : ℕ} {scope : Scope} {w : 
           read = λ ls ready.
               then-done _ (n .read (ready .table) inside e)
               (then-give-on (name (slice start (start + len) s)) (h .code) (h .at)
-              (read-is (some-arguments (anExpression (31 - scope .depth)) (drop (start + len) s) (symbol-read 40 p (symbol-kinds .3) (omega arith) i (ready .table)))
-              (level-arguments inner l A ls (ready-on (put .below) (omega arith) ready) (length (drop (start + len) s)) (omega (arith, length-drop (start + len) s, from))))
+              (read-is (some-arguments (anExpression aut68 (31 - scope .depth) inner) (drop (start + len) s) (symbol-read 40 p (symbol-kinds .3) (omega arith) i (ready .table)))
+              (level-arguments next l A ls (ready-on (put .below) (omega arith) ready) (length (drop (start + len) s)) (omega (arith, length-drop (start + len) s, from))))
               (λ xs z X.
               name-written ls put (ready .known) (ready .hinted) (ready .context) (ready .earlier) found (omega (arith, ready .sized .few)) (omega arith) (n .within inside) (A .onward .below) xs h z
               (X .number ∙ omega arith) (X .written)));

@@ -6,6 +6,8 @@ use Prim.Native.Nat.{ℕ, _+_, _-_, _≤_, _<_}
 use native.Mathlib.Omega.{arith}
 use lib.ListN.{length}
 use lib.Seq.{slice}
+use Rattle.aut68.specs.Language.{aut68}
+use Rattle.aut68.specs.Rules.Grammar.{inner}
 use Rattle.aut68.specs.Bytes.{Bytes}
 use Rattle.aut68.specs.Source as Source
 use Rattle.aut68.specs.Lines.{Lines}
@@ -57,7 +59,7 @@ module _ {ks s book tb : List ℕ} {lines indicator : ℕ} {scope : Scope} {w : 
     (fewer : r .to ≤ length w + r .at) (inside : r .at ≤ length s) (l : scope .depth < 32) where
   module _ (p : PastSymbol ks s (r .at) 2 o) where
     pub application-unopened : {r′ : Reading} → length s < o → Refusing 3 (r .at) (r .to) r′
-        → ExpressionRead (application (anExpression (31 - scope .depth))) ks s scope book tb lines indicator w w r r′
+        → ExpressionRead (application (anExpression aut68 (31 - scope .depth) inner)) ks s scope book tb lines indicator w w r r′
     unfolding application
     application-unopened m h =
         record {
@@ -65,9 +67,9 @@ module _ {ks s book tb : List ℕ} {lines indicator : ℕ} {scope : Scope} {w : 
           read = λ ls ready. then-stop _ (symbol-missing 60 p (symbol-kinds .0) (omega arith) m (ready .table)) (h .codeIs ∙ sym code-malformed);
         }
 
-    module _ (i : o ≤ length s) {w₁ wA : List ℕ} {inner : Scope} {a : Reading} (put : CellPut w w₁ (r .to) 4) (b : Nested scope inner)
-        (A : ExpressionRead (anExpression (32 - inner .depth)) ks s inner book tb lines indicator w₁ wA (goOn o (r .to + 1) (r .fault)) a) where
-      pub application-first-refused : a .code ≢ 0 → ExpressionRead (application (anExpression (31 - scope .depth))) ks s scope book tb lines indicator w wA r a
+    module _ (i : o ≤ length s) {w₁ wA : List ℕ} {next : Scope} {a : Reading} (put : CellPut w w₁ (r .to) 4) (b : Nested scope next)
+        (A : ExpressionRead (anExpression aut68 (32 - next .depth) inner) ks s next book tb lines indicator w₁ wA (goOn o (r .to + 1) (r .fault)) a) where
+      pub application-first-refused : a .code ≢ 0 → ExpressionRead (application (anExpression aut68 (31 - scope .depth) inner)) ks s scope book tb lines indicator w wA r a
       unfolding application
       application-first-refused n =
           record {
@@ -78,7 +80,7 @@ module _ {ks s book tb : List ℕ} {lines indicator : ℕ} {scope : Scope} {w : 
 
       module _ (z : a .code ≡ 0) {close : ℕ} (q : PastSymbol ks s (a .at) 10 close) where
         pub application-unclosed : {r′ : Reading} → length s < close → Refusing 3 (a .at) (r .to) r′
-            → ExpressionRead (application (anExpression (31 - scope .depth))) ks s scope book tb lines indicator w wA r r′
+            → ExpressionRead (application (anExpression aut68 (31 - scope .depth) inner)) ks s scope book tb lines indicator w wA r r′
         unfolding application
         application-unclosed m h =
             record {
@@ -92,8 +94,8 @@ module _ {ks s book tb : List ℕ} {lines indicator : ℕ} {scope : Scope} {w : 
             }
 
         pub application-read : {wB : List ℕ} {r′ : Reading} → close ≤ length s
-            → ExpressionRead (anExpression (32 - inner .depth)) ks s inner book tb lines indicator wA wB (goOn close (a .to) (a .fault)) r′
-            → ExpressionRead (application (anExpression (31 - scope .depth))) ks s scope book tb lines indicator w wB r r′
+            → ExpressionRead (anExpression aut68 (32 - next .depth) inner) ks s next book tb lines indicator wA wB (goOn close (a .to) (a .fault)) r′
+            → ExpressionRead (application (anExpression aut68 (31 - scope .depth) inner)) ks s scope book tb lines indicator w wB r r′
         unfolding application
         application-read c B =
             record {
@@ -110,7 +112,7 @@ module _ {ks s book tb : List ℕ} {lines indicator : ℕ} {scope : Scope} {w : 
 
   module _ (p : PastSymbol ks s (r .at) 3 o) where
     pub abstraction-unopened : {r′ : Reading} → length s < o → Refusing 3 (r .at) (r .to) r′
-        → ExpressionRead (abstraction (anExpression (31 - scope .depth))) ks s scope book tb lines indicator w w r r′
+        → ExpressionRead (abstraction aut68 (anExpression aut68 (31 - scope .depth) inner) (anExpression aut68 (31 - scope .depth) inner)) ks s scope book tb lines indicator w w r r′
     unfolding abstraction
     abstraction-unopened m h =
         record {
@@ -120,7 +122,7 @@ module _ {ks s book tb : List ℕ} {lines indicator : ℕ} {scope : Scope} {w : 
 
     module _ (i : o ≤ length s) {start len : ℕ} (n : NameAt ks s o start len) where
       pub abstraction-unnamed : {r′ : Reading} → len ≡ 0 → Refusing 3 o (r .to) r′
-          → ExpressionRead (abstraction (anExpression (31 - scope .depth))) ks s scope book tb lines indicator w w r r′
+          → ExpressionRead (abstraction aut68 (anExpression aut68 (31 - scope .depth) inner) (anExpression aut68 (31 - scope .depth) inner)) ks s scope book tb lines indicator w w r r′
       unfolding abstraction
       abstraction-unnamed e h =
           record {
@@ -132,7 +134,7 @@ module _ {ks s book tb : List ℕ} {lines indicator : ℕ} {scope : Scope} {w : 
 
       module _ (e : len ≢ 0) {comma : ℕ} (k : PastSymbol ks s (start + len) 7 comma) where
         pub abstraction-no-comma : {r′ : Reading} → length s < comma → Refusing 3 o (r .to) r′
-            → ExpressionRead (abstraction (anExpression (31 - scope .depth))) ks s scope book tb lines indicator w w r r′
+            → ExpressionRead (abstraction aut68 (anExpression aut68 (31 - scope .depth) inner) (anExpression aut68 (31 - scope .depth) inner)) ks s scope book tb lines indicator w w r r′
         unfolding abstraction
         abstraction-no-comma m h =
             record {
@@ -144,8 +146,8 @@ module _ {ks s book tb : List ℕ} {lines indicator : ℕ} {scope : Scope} {w : 
             }
 
         module _ (j : comma ≤ length s) {w₁ wA : List ℕ} {level : Scope} {a : Reading} (put : CellPut w w₁ (r .to) 5) (b : Nested scope level)
-            (A : ExpressionRead (anExpression (32 - level .depth)) ks s level book tb lines indicator w₁ wA (goOn comma (r .to + 1) (r .fault)) a) where
-          pub abstraction-first-refused : a .code ≢ 0 → ExpressionRead (abstraction (anExpression (31 - scope .depth))) ks s scope book tb lines indicator w wA r a
+            (A : ExpressionRead (anExpression aut68 (32 - level .depth) inner) ks s level book tb lines indicator w₁ wA (goOn comma (r .to + 1) (r .fault)) a) where
+          pub abstraction-first-refused : a .code ≢ 0 → ExpressionRead (abstraction aut68 (anExpression aut68 (31 - scope .depth) inner) (anExpression aut68 (31 - scope .depth) inner)) ks s scope book tb lines indicator w wA r a
           unfolding abstraction
           abstraction-first-refused x =
               record {
@@ -159,7 +161,7 @@ module _ {ks s book tb : List ℕ} {lines indicator : ℕ} {scope : Scope} {w : 
 
           module _ (z : a .code ≡ 0) {close : ℕ} (q : PastSymbol ks s (a .at) 11 close) where
             pub abstraction-unclosed : {r′ : Reading} → length s < close → Refusing 3 (a .at) (r .to) r′
-                → ExpressionRead (abstraction (anExpression (31 - scope .depth))) ks s scope book tb lines indicator w wA r r′
+                → ExpressionRead (abstraction aut68 (anExpression aut68 (31 - scope .depth) inner) (anExpression aut68 (31 - scope .depth) inner)) ks s scope book tb lines indicator w wA r r′
             unfolding abstraction
             abstraction-unclosed m h =
                 record {
@@ -175,9 +177,9 @@ module _ {ks s book tb : List ℕ} {lines indicator : ℕ} {scope : Scope} {w : 
                       then-stop _ (symbol-missing 93 q (symbol-kinds .6) (omega arith) m (ready .table)) (h .codeIs ∙ sym code-malformed)))));
                 }
 
-            pub abstraction-read : {wB : List ℕ} {inner : Scope} {r′ : Reading} → close ≤ length s → Bound scope start len inner
-                → ExpressionRead (anExpression (32 - inner .depth)) ks s inner book tb lines indicator wA wB (goOn close (a .to) (a .fault)) r′
-                → ExpressionRead (abstraction (anExpression (31 - scope .depth))) ks s scope book tb lines indicator w wB r r′
+            pub abstraction-read : {wB : List ℕ} {next : Scope} {r′ : Reading} → close ≤ length s → Bound scope start len next
+                → ExpressionRead (anExpression aut68 (32 - next .depth) inner) ks s next book tb lines indicator wA wB (goOn close (a .to) (a .fault)) r′
+                → ExpressionRead (abstraction aut68 (anExpression aut68 (31 - scope .depth) inner) (anExpression aut68 (31 - scope .depth) inner)) ks s scope book tb lines indicator w wB r r′
             unfolding abstraction
             abstraction-read c b′ B =
                 record {

@@ -3,14 +3,16 @@ use mathlib.Core.Path.{_≡_, refl, sym, ap, _∙_, subst}
 use mathlib.Core.Logic.{_≢_}
 use mathlib.Core.Bool.{Bool, true, false}
 use mathlib.Core.List.{[], _∷_}
-use Prim.Native.Nat.{ℕ, suc, _-_, _≤_, _<_}
+use Prim.Native.Nat.{ℕ, suc, _≤_, _<_}
 use native.Mathlib.Omega.{arith}
 use lib.Dec.{eqb}
 use lib.ListN.{length, drop}
 use borrow.Author.Tests.{eqb-true, eqb-false, eq-eqb, ne-eqb, le-leb, lt-leb}
+use Rattle.aut68.specs.Language.{aut68}
+use Rattle.aut68.specs.Rules.Grammar.{inner, below}
 use Rattle.aut68.specs.Bytes.{Bytes, opensExpression, nameByte}
 use Rattle.aut68.specs.Procedure.Answer.{Answer, done, stop, andThen, Refusal, codeOf, malformed, tooLarge, give}
-use Rattle.aut68.specs.Procedure.Parse.{Read, spaces, byte, symbol, starts, commaOrClose, arguments, argumentsIfAny, named, application, abstraction, anExpression}
+use Rattle.aut68.specs.Procedure.Parse.{Read, spaces, byte, symbol, starts, commaOrClose, arguments, argumentsIfAny, named, application, abstraction, wordAt, anExpression}
 use Rattle.aut68.specs.Source.{Src, nil}
 use Rattle.cells.specs.Results.{code-nonzero}
 use Rattle.lookup.specs.Answers.{stop≢done}
@@ -155,12 +157,12 @@ some-arguments deeper bs e = rw (symbol-starts 40 bs e, argumentsIfAny, e) refl
 -- ---- the choice of an expression
 
 module _ (d : ℕ) (bs : Bytes) where
-  pub choose-application : firstKind (spaces bs) ≡ 2 → anExpression (suc d) bs ≡ application (anExpression d) bs
+  pub choose-application : firstKind (spaces bs) ≡ 2 → anExpression aut68 (suc d) inner bs ≡ application (anExpression aut68 d inner) bs
   unfolding anExpression kindOf placeOr0 nameByte
   choose-application e = rw (starts-kind 60 (spaces bs) (omega arith) ∙ eq-eqb (firstKind (spaces bs)) 2 e, anExpression)
 
-  pub choose-abstraction : firstKind (spaces bs) ≡ 3 → anExpression (suc d) bs ≡ abstraction (anExpression d) bs
-  unfolding anExpression kindOf placeOr0 nameByte
+  pub choose-abstraction : firstKind (spaces bs) ≡ 3 → anExpression aut68 (suc d) inner bs ≡ abstraction aut68 (anExpression aut68 d inner) (anExpression aut68 d inner) bs
+  unfolding anExpression below kindOf placeOr0 nameByte
   choose-abstraction e =
       rw (
         starts-kind 60 (spaces bs) (omega arith) ∙ ne-eqb (firstKind (spaces bs)) 2 (λ q. omega arith),
@@ -168,8 +170,8 @@ module _ (d : ℕ) (bs : Bytes) where
         anExpression,
       )
 
-  pub choose-named : firstKind (spaces bs) ≢ 2 → firstKind (spaces bs) ≢ 3 → anExpression (suc d) bs ≡ named (anExpression d) bs
-  unfolding anExpression kindOf placeOr0 nameByte
+  pub choose-named : firstKind (spaces bs) ≢ 2 → firstKind (spaces bs) ≢ 3 → anExpression aut68 (suc d) inner bs ≡ named aut68 (anExpression aut68 d inner) bs
+  unfolding anExpression wordAt kindOf placeOr0 nameByte
   choose-named n m =
       rw (
         starts-kind 60 (spaces bs) (omega arith) ∙ ne-eqb (firstKind (spaces bs)) 2 n,
@@ -177,10 +179,10 @@ module _ (d : ℕ) (bs : Bytes) where
         anExpression,
       )
 
-pub too-deep : (bs : Bytes) → opensKind (firstKind (spaces bs)) ≡ true → anExpression 0 bs ≡ stop tooLarge bs
+pub too-deep : (bs : Bytes) → opensKind (firstKind (spaces bs)) ≡ true → anExpression aut68 0 inner bs ≡ stop tooLarge bs
 unfolding anExpression
 too-deep bs e = rw (starts-opens (spaces bs) ∙ e, anExpression)
 
-pub opens-nothing : (bs : Bytes) → opensKind (firstKind (spaces bs)) ≡ false → anExpression 0 bs ≡ stop malformed bs
+pub opens-nothing : (bs : Bytes) → opensKind (firstKind (spaces bs)) ≡ false → anExpression aut68 0 inner bs ≡ stop malformed bs
 unfolding anExpression
 opens-nothing bs e = rw (starts-opens (spaces bs) ∙ e, anExpression)

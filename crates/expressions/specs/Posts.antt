@@ -5,6 +5,8 @@ use mathlib.Core.List.{List}
 use Prim.Native.Nat.{ℕ, _+_, _-_, _*_, _/_, _≤_, _<_}
 use lib.ListN.{length, drop}
 use lib.Seq.{slice}
+use Rattle.aut68.specs.Language.{aut68}
+use Rattle.aut68.specs.Rules.Grammar.{inner}
 use Rattle.aut68.specs.Bytes.{Bytes}
 use Rattle.aut68.specs.Source.{Src, Srcs, cellsOfSrc, cellsOfSrcs, countSrcs}
 use Rattle.aut68.specs.Expr.{cells, cellss}
@@ -84,7 +86,7 @@ pub record ArgumentsRead (ks s : Bytes) (scope : Scope) (book tb : List ℕ) (li
   pub onward : Onward s w w′ r r′
   pub read : (ls : Lines) → Ready ls ks s book tb lines indicator scope w (r .to) → (n : ℕ) → length s - r .at < n
       → ReadTo s (Counted ls s indicator scope w w′ (r .to) (r .fault) 0 r′) (r′ .code) (r′ .at)
-      (arguments (anExpression (32 - scope .depth)) n (drop (r .at) s))
+      (arguments (anExpression aut68 (32 - scope .depth) inner) n (drop (r .at) s))
 
 -- the cell of a name, wherever b is its binding, was written at `to`, unless there was a fault before or no room
 pub record NamePut (s : Bytes) (b : ℕ) (book tb : List ℕ) (lines indicator : ℕ) (w w′ : List ℕ) (to fault start len : ℕ) (m : Meaning) : Type 0 where

@@ -15,6 +15,8 @@ use symbols::spaces;
 use symbols::symbol;
 ghost use Prim.Native.Nat.{_+_, _-_, _≤_, _<_};
 ghost use lib.ListN.{length};
+ghost use Rattle.aut68.specs.Language.{aut68};
+ghost use Rattle.aut68.specs.Rules.Grammar.{Place};
 ghost use Rattle.aut68.specs.Procedure.Parse.{anExpression, named, application, abstraction};
 ghost use Rattle.expressions.specs.Posts.{goOn, ExpressionRead, ArgumentsRead};
 
@@ -35,7 +37,7 @@ pub fn expression(
     scope: Scope,
 ) -> Reading
     requires { ⌜ (to ≤ length (now w) + from) × (from ≤ length (now line)) ⌝ }
-    ensures { λ r′. ⌜ ExpressionRead (anExpression (32 - scope .depth)) (now (kinds .entry)) (now (line .entry)) scope (now (book .entry)) (now (table .entry)) lines indicator (now (w .entry)) (now (w .exit)) (goOn from to fault) r′ ⌝ }
+    ensures { λ r′. ⌜ ExpressionRead (anExpression aut68 (32 - scope .depth) Place.inner) (now (kinds .entry)) (now (line .entry)) scope (now (book .entry)) (now (table .entry)) lines indicator (now (w .entry)) (now (w .exit)) (goOn from to fault) r′ ⌝ }
 {
     let at = spaces(line, from);
     let k = kind_at(line, kinds, at);
@@ -103,7 +105,7 @@ fn named(
     scope: Scope,
 ) -> Reading
     requires { ⌜ (to ≤ length (now w) + from) × (from ≤ length (now line)) × (scope .depth < 32) ⌝ }
-    ensures { λ r′. ⌜ ExpressionRead (named (anExpression (31 - scope .depth))) (now (kinds .entry)) (now (line .entry)) scope (now (book .entry)) (now (table .entry)) lines indicator (now (w .entry)) (now (w .exit)) (goOn from to fault) r′ ⌝ }
+    ensures { λ r′. ⌜ ExpressionRead (named aut68 (anExpression aut68 (31 - scope .depth) Place.inner)) (now (kinds .entry)) (now (line .entry)) scope (now (book .entry)) (now (table .entry)) lines indicator (now (w .entry)) (now (w .exit)) (goOn from to fault) r′ ⌝ }
 {
     let n = name_at(line, kinds, from);
     let start = n.start;
@@ -236,7 +238,7 @@ fn application(
     scope: Scope,
 ) -> Reading
     requires { ⌜ (to ≤ length (now w) + from) × (from ≤ length (now line)) × (scope .depth < 32) ⌝ }
-    ensures { λ r′. ⌜ ExpressionRead (application (anExpression (31 - scope .depth))) (now (kinds .entry)) (now (line .entry)) scope (now (book .entry)) (now (table .entry)) lines indicator (now (w .entry)) (now (w .exit)) (goOn from to fault) r′ ⌝ }
+    ensures { λ r′. ⌜ ExpressionRead (application (anExpression aut68 (31 - scope .depth) Place.inner)) (now (kinds .entry)) (now (line .entry)) scope (now (book .entry)) (now (table .entry)) lines indicator (now (w .entry)) (now (w .exit)) (goOn from to fault) r′ ⌝ }
 {
     let open = symbol(line, kinds, from, kinds::LESS);
     if open > line.len() {
@@ -294,7 +296,7 @@ fn abstraction(
     scope: Scope,
 ) -> Reading
     requires { ⌜ (to ≤ length (now w) + from) × (from ≤ length (now line)) × (scope .depth < 32) ⌝ }
-    ensures { λ r′. ⌜ ExpressionRead (abstraction (anExpression (31 - scope .depth))) (now (kinds .entry)) (now (line .entry)) scope (now (book .entry)) (now (table .entry)) lines indicator (now (w .entry)) (now (w .exit)) (goOn from to fault) r′ ⌝ }
+    ensures { λ r′. ⌜ ExpressionRead (abstraction aut68 (anExpression aut68 (31 - scope .depth) Place.inner) (anExpression aut68 (31 - scope .depth) Place.inner)) (now (kinds .entry)) (now (line .entry)) scope (now (book .entry)) (now (table .entry)) lines indicator (now (w .entry)) (now (w .exit)) (goOn from to fault) r′ ⌝ }
 {
     let open = symbol(line, kinds, from, kinds::BRACKET);
     if open > line.len() {

@@ -6,6 +6,7 @@ use mathlib.Core.List.{List, [], _∷_, _++_, map, map-append, append-nil, appen
 use Prim.Native.Nat.{ℕ, suc, _+_}
 use native.Mathlib.Omega.{arith}
 use lib.ListN.{length}
+use Rattle.aut68.specs.Language.{Language}
 use Rattle.aut68.specs.Bytes.{Bytes}
 use Rattle.aut68.specs.Lines.{Line, Lines}
 use Rattle.aut68.specs.Rules.Names.{IsLine}
@@ -35,8 +36,8 @@ module _ (ks : Lines) where
   joined-snoc : (ls : Lines) (l : Line) → joinedLines (ls ++ (l ∷ [])) ≡ joinedLines ls ++ (renumberLine behindLines l ∷ [])
   joined-snoc ls l = ap (_++_ ks) (map-append (renumberLine behindLines) ls (l ∷ [])) ∙ sym (append-assoc ks (map (renumberLine behindLines) ls) (renumberLine behindLines l ∷ []))
 
-  module _ {all : Lines} (apart : (u v : ℕ) (k l : Line) → IsLine ks u k → IsLine all v l → k .identifier ≢ l .identifier) where
-    join-line : {ls : Lines} (rest : Lines) {b : Bytes} {l : Line} → all ≡ ls ++ (l ∷ []) ++ rest → Derivation ls b l → Derivation (joinedLines ls) b (renumberLine behindLines l)
+  module _ {language : Language} {all : Lines} (apart : (u v : ℕ) (k l : Line) → IsLine ks u k → IsLine all v l → k .identifier ≢ l .identifier) where
+    join-line : {ls : Lines} (rest : Lines) {b : Bytes} {l : Line} → all ≡ ls ++ (l ∷ []) ++ rest → Derivation language ls b l → Derivation language (joinedLines ls) b (renumberLine behindLines l)
     join-line {ls} rest {b} {l} e d = derivation-renumbered (joined-renumbered ls) d (line-any l) fresh
       where
         at : {v : ℕ} {k : Line} → IsLine ks v k ⊎ ((u : ℕ) × (v ≡ length ks + u) × IsLine (map (renumberLine behindLines) ls) u k) → k .identifier ≢ l .identifier
@@ -48,14 +49,14 @@ module _ (ks : Lines) where
         fresh : (v : ℕ) (k : Line) → IsLine (joinedLines ls) v k → k .identifier ≢ l .identifier
         fresh v k i = at (line-cases ks i)
 
-    join-derived : {ls : Lines} {ps : List Bytes} → Derived ls ps all → Derived (joinedLines ls) ps (joinedLines all)
+    join-derived : {ls : Lines} {ps : List Bytes} → Derived language ls ps all → Derived language (joinedLines ls) ps (joinedLines all)
     join-derived noMore = noMore
     join-derived (line {ls} {bytes} {more} {l} d r) =
         let (rest, e) = derived-extends r in
-        line (join-line rest e d) (subst (λ x. Derived x more (joinedLines all)) (joined-snoc ls l) (join-derived r))
+        line (join-line rest e d) (subst (λ x. Derived language x more (joinedLines all)) (joined-snoc ls l) (join-derived r))
 
 -- one book, then the other
-pub books-joined : {ks ls : Lines} {ps qs : List Bytes} → Derived [] ps ks → Derived [] qs ls
+pub books-joined : {language : Language} {ks ls : Lines} {ps qs : List Bytes} → Derived language [] ps ks → Derived language [] qs ls
     → ((u v : ℕ) (k l : Line) → IsLine ks u k → IsLine ls v l → k .identifier ≢ l .identifier)
-    → Derived [] (ps ++ qs) (joinedLines ks ls)
-books-joined {ks} {ls} {ps} {qs} d e apart = derived-append d (subst (λ x. Derived x qs (joinedLines ks ls)) (append-nil ks) (join-derived ks apart e))
+    → Derived language [] (ps ++ qs) (joinedLines ks ls)
+books-joined {language} {ks} {ls} {ps} {qs} d e apart = derived-append d (subst (λ x. Derived language x qs (joinedLines ks ls)) (append-nil ks) (join-derived ks apart e))

@@ -1,5 +1,5 @@
--- Larger limits and new orders: what document 01's demand 3 claims, proved.
-pub mod LimitsOfRuns
+-- Larger limits and new orders: what document 01's demand 3 claims, proved in both languages.
+pub mod Limits
 -- The renumbering lemma: steps, categories, names and derivations over lines with new numbers.
 pub mod Renumbering
 pub mod RenumberedSteps

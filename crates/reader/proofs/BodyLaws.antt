@@ -9,13 +9,15 @@ use lib.ListN.{length, drop, take, replicate, length-replicate, length-take, len
 use lib.Dec.{leb}
 use lib.Seq.{slice-empty}
 use borrow.Author.Tests.{leb-true, leb-false}
+use Rattle.aut68.specs.Language.{aut68}
+use Rattle.aut68.specs.Rules.Grammar.{inner}
 use Rattle.aut68.specs.Bytes.{Bytes, nameByte, sameBytes, wordType, wordPN, wordEB}
-use Rattle.aut68.specs.Source.{Src, variable, primitive, meaning, Written, type, expression, cellsOfSrc, middleCells, writtenCells}
+use Rattle.aut68.specs.Source.{Src, variable, primitive, meaning, type, cellsOfSrc, middleCells}
 use Rattle.aut68.specs.Expr.{Expr, cells}
 use Rattle.aut68.specs.Lines.{Lines, kindCells}
 use Rattle.aut68.specs.Procedure.Answer.{done, stop, andThen, malformed}
-use Rattle.aut68.specs.Procedure.Parse.{Read, spaces, symbol, afterWord, wordAhead, pastWord, anExpression, aMiddle, aCategory, lineEnd}
-use Rattle.aut68.specs.Procedure.Resolve.{Found, found, _>>=_, resolve, resolveMiddle, resolveWritten, contextAt}
+use Rattle.aut68.specs.Procedure.Parse.{Read, spaces, symbol, afterWord, wordAhead, pastWord, anExpression, aMiddle, lineEnd}
+use Rattle.aut68.specs.Procedure.Resolve.{Found, found, _>>=_, resolve, resolveMiddle, contextAt}
 use Rattle.lookup.specs.SameBytes.{same-true}
 use Rattle.kinds.specs.Kinds.{KindsTable, kindOf, placeOr0}
 use Rattle.symbols.specs.Symbols.{PastSpaces, PastSymbol, WordEnd}
@@ -34,6 +36,7 @@ use Rattle.expressions.proofs.ReadLaws.{then-refused, then-passed, then-done, t
 use Rattle.expressions.proofs.ExpressionLaws.{code-malformed}
 use Rattle.reader.specs.ReadLine.{afterHeading}
 use Rattle.reader.specs.Posts.{MiddleKind, middleNumber, Lookup, WrittenMiddle, WrittenCategory, MiddleRead, CategoryRead, BodyRead}
+use Rattle.reader.proofs.EndingLaws.{ending-type, ending-other}
 
 -- ---- words
 
@@ -79,10 +82,10 @@ NoEntry scope = (scope .bound ≡ 0) × (scope .depth ≡ 0) × (scope .starts �
 
 module _ {ks s book tb : List ℕ} {lines indicator : ℕ} {scope : Scope} {w w′ : List ℕ} {r r′ : Reading}
     (n : NoEntry scope)
-    (E : ExpressionRead (anExpression (32 - scope .depth)) ks s scope book tb lines indicator w w′ r r′) where
+    (E : ExpressionRead (anExpression aut68 (32 - scope .depth) inner) ks s scope book tb lines indicator w w′ r r′) where
   pub outer-read : (ls : Lines) → Lookup ls ks s book tb lines indicator w (r .to)
       → ReadTo s (Walk.Written cellsOfSrc cells (resolve ls (contextAt ls indicator) []) w w′ (r .to) (r′ .to) (r .fault) (r′ .fault)) (r′ .code) (r′ .at)
-      (anExpression 32 (drop (r .at) s))
+      (anExpression aut68 32 inner (drop (r .at) s))
   outer-read ls l =
       let ready : Ready ls ks s book tb lines indicator scope w (r .to) =
       record {
@@ -103,23 +106,23 @@ module _ {ks s book tb : List ℕ} {lines indicator : ℕ} {scope : Scope} {w w�
             };
       } in
       let level : 32 ≡ 32 - scope .depth = omega (arith, n .1) in
-      read-is (ap (λ d. anExpression d (drop (r .at) s)) level)
+      read-is (ap (λ d. anExpression aut68 d inner (drop (r .at) s)) level)
       (subst (λ bs. ReadTo s (Walk.Written cellsOfSrc cells (resolve ls (contextAt ls indicator) bs) w w′ (r .to) (r′ .to) (r .fault) (r′ .fault)) (r′ .code) (r′ .at)
-      (anExpression (32 - scope .depth) (drop (r .at) s))) (no-names s scope (n .0))
+      (anExpression aut68 (32 - scope .depth) inner (drop (r .at) s))) (no-names s scope (n .0))
       (E .read ls ready))
 
 -- ---- the middle
 
-middle-EB : (bs : Bytes) → sameBytes (wordAhead bs) wordEB ≡ true → aMiddle bs ≡ done variable (afterWord (spaces bs))
+middle-EB : (bs : Bytes) → sameBytes (wordAhead bs) wordEB ≡ true → aMiddle aut68 bs ≡ done variable (afterWord (spaces bs))
 unfolding aMiddle andThen pastWord
 middle-EB bs e = rw (e, aMiddle) refl
 
-middle-PN : (bs : Bytes) → sameBytes (wordAhead bs) wordEB ≡ false → sameBytes (wordAhead bs) wordPN ≡ true → aMiddle bs ≡ done primitive (afterWord (spaces bs))
+middle-PN : (bs : Bytes) → sameBytes (wordAhead bs) wordEB ≡ false → sameBytes (wordAhead bs) wordPN ≡ true → aMiddle aut68 bs ≡ done primitive (afterWord (spaces bs))
 unfolding aMiddle andThen pastWord
 middle-PN bs e f = rw (e, f, aMiddle) refl
 
 middle-other : (bs : Bytes) → sameBytes (wordAhead bs) wordEB ≡ false → sameBytes (wordAhead bs) wordPN ≡ false
-    → aMiddle bs ≡ andThen (λ e. λ s. done (meaning e) s) (anExpression 32 bs)
+    → aMiddle aut68 bs ≡ andThen (λ e. λ s. done (meaning e) s) (anExpression aut68 32 inner bs)
 unfolding aMiddle
 middle-other bs e f = rw (e, f, aMiddle) refl
 
@@ -134,11 +137,6 @@ module _ (ls : Lines) (indicator : ℕ) {w w′ : List ℕ} {to end fault fault�
       → WrittenMiddle ls indicator w w′ to end fault fault′ (meaning e)
   unfolding middleCells resolveMiddle
   meaning-written h = record { size = h .size; kept = h .kept; names = λ z r. meaning-found (h .names z r) }
-
-  category-written : {e : Src} → Walk.Written cellsOfSrc cells (resolve ls (contextAt ls indicator) []) w w′ to end fault fault′ e
-      → WrittenCategory ls indicator w w′ to end fault fault′ (expression e)
-  unfolding writtenCells resolveWritten
-  category-written h = record { size = h .size; kept = h .kept; names = h .names }
 
 variable-written : (ls : Lines) (indicator : ℕ) (w : List ℕ) (to : ℕ) → WrittenMiddle ls indicator w w to to 0 0 variable
 unfolding middleCells kindCells resolveMiddle
@@ -163,7 +161,7 @@ module _ {ks s book tb : List ℕ} {lines indicator : ℕ} {w : List ℕ} {at to
       }
     where
       by-kind : (ls : Lines) → Lookup ls ks s book tb lines indicator w to → MiddleKind ks s at kind → (n : ℕ) → kind ≡ n
-          → ReadTo s (λ m. (middleNumber m ≡ kind) × WrittenMiddle ls indicator w w to to 0 0 m) 0 end (aMiddle (drop at s))
+          → ReadTo s (λ m. (middleNumber m ≡ kind) × WrittenMiddle ls indicator w w to to 0 0 m) 0 end (aMiddle aut68 (drop at s))
       by-kind ls k m zero e =
           read-is (middle-EB (drop at s) (m .isEB (k .table) e)) (passed refl (sym (past-word p q (k .table) b)) (sym e, variable-written ls indicator w to))
       by-kind ls k m (suc zero) e =
@@ -172,7 +170,7 @@ module _ {ks s book tb : List ℕ} {lines indicator : ℕ} {w : List ℕ} {at to
       by-kind ls k m (suc (suc n)) e = absurd (omega arith)
 
   pub middle-expression : {scope : Scope} {w′ : List ℕ} {r′ : Reading} → 2 ≤ kind → NoEntry scope
-      → ExpressionRead (anExpression (32 - scope .depth)) ks s scope book tb lines indicator w w′ (goOn at to 0) r′ → MiddleRead ks s book tb lines indicator w w′ at to kind r′
+      → ExpressionRead (anExpression aut68 (32 - scope .depth) inner) ks s scope book tb lines indicator w w′ (goOn at to 0) r′ → MiddleRead ks s book tb lines indicator w w′ at to kind r′
   unfolding middleNumber
   middle-expression l n E =
       record {
@@ -189,16 +187,8 @@ module _ {ks s book tb : List ℕ} {lines indicator : ℕ} {w : List ℕ} {at to
 
 -- ---- the category
 
-category-word : (bs : Bytes) → sameBytes (wordAhead bs) wordType ≡ true → aCategory bs ≡ done type (afterWord (spaces bs))
-unfolding aCategory andThen pastWord
-category-word bs e = rw (e, aCategory) refl
-
-category-other : (bs : Bytes) → sameBytes (wordAhead bs) wordType ≡ false → aCategory bs ≡ andThen (λ e. λ s. done (expression e) s) (anExpression 32 bs)
-unfolding aCategory
-category-other bs e = rw (e, aCategory) refl
-
 type-written : (ls : Lines) (indicator : ℕ) {w w′ : List ℕ} {to fault : ℕ} → CellPut w w′ to 0 → WrittenCategory ls indicator w w′ to (to + 1) fault fault type
-unfolding writtenCells cells resolveWritten
+unfolding cellsOfSrc cells resolve
 type-written ls indicator put = record { size = refl; kept = λ n. refl; names = λ z r. whole z (part-put put (omega arith)) }
 
 module _ {ks s book tb : List ℕ} {lines indicator : ℕ} {w w′ : List ℕ} {r : Reading} (fewer : r .to ≤ length w + r .at) (b : r .at ≤ length s)
@@ -218,12 +208,12 @@ module _ {ks s book tb : List ℕ} {lines indicator : ℕ} {w w′ : List ℕ} {
               fewer = omega arith;
             };
         read = λ ls k.
-            read-is (category-word (drop (r .at) s) (word-test b p q wordType e (k .table) ∙ f))
+            read-is (ending-type aut68 31 (drop (r .at) s) (word-test b p q wordType e (k .table) ∙ f))
             (passed refl (sym (past-word p q (k .table) b)) (type-written ls indicator put));
       }
 
   pub category-expression : {scope : Scope} {r′ : Reading} → t ≡ false → NoEntry scope
-      → ExpressionRead (anExpression (32 - scope .depth)) ks s scope book tb lines indicator w w′ (goOn (r .at) (r .to) (r .fault)) r′ → CategoryRead ks s book tb lines indicator w w′ r r′
+      → ExpressionRead (anExpression aut68 (32 - scope .depth) inner) ks s scope book tb lines indicator w w′ (goOn (r .at) (r .to) (r .fault)) r′ → CategoryRead ks s book tb lines indicator w w′ r r′
   category-expression f n E =
       record {
         onward =
@@ -235,8 +225,7 @@ module _ {ks s book tb : List ℕ} {lines indicator : ℕ} {w w′ : List ℕ} {
               fewer = E .onward .fewer;
             };
         read = λ ls k.
-            read-is (category-other (drop (r .at) s) (word-test b p q wordType e (k .table) ∙ f))
-            (then-give expression (outer-read n E ls k) (λ x X. category-written ls indicator X));
+            read-is (ending-other 32 (drop (r .at) s) (word-test b p q wordType e (k .table) ∙ f)) (outer-read n E ls k);
       }
 
 -- ---- the whole body

@@ -9,6 +9,7 @@ use native.Mathlib.Omega.{arith}
 use lib.ListN.{length, getD, drop, length-drop}
 use lib.Seq.{slice}
 use borrow.Author.Tests.{eq-eqb, ne-eqb}
+use Rattle.aut68.specs.Language.{aut68}
 use Rattle.aut68.specs.Bytes.{Bytes, nameByte}
 use Rattle.aut68.specs.Procedure.Answer.{Answer, done, stop, andThen, malformed}
 use Rattle.aut68.specs.Procedure.Parse.{Read, spaces, starts, byte, aName, anIndicator, aLine, bytesLeft}
@@ -46,15 +47,15 @@ starts-no-name (b ∷ bs) n = split (nameByte b) refl
     split false e = e
     split true e = absurd (n (kind-of-name b e))
 
-no-indicator : (bs : Bytes) → firstKind (spaces bs) ≢ 1 → anIndicator bs ≡ done none bs
+no-indicator : (bs : Bytes) → firstKind (spaces bs) ≢ 1 → anIndicator aut68 bs ≡ done none bs
 unfolding anIndicator
 no-indicator bs n = rw (starts-no-name (spaces bs) n, anIndicator)
 
-indicator-read : (bs : Bytes) {w rest : Bytes} → firstKind (spaces bs) ≡ 1 → aName bs ≡ done w rest → anIndicator bs ≡ done (some w) rest
+indicator-read : (bs : Bytes) {w rest : Bytes} → firstKind (spaces bs) ≡ 1 → aName aut68 bs ≡ done w rest → anIndicator aut68 bs ≡ done (some w) rest
 unfolding anIndicator andThen
 indicator-read bs e f = rw (starts-name (spaces bs) e, anIndicator, f) refl
 
-indicator-missing : (bs : Bytes) {rest : Bytes} → firstKind (spaces bs) ≡ 1 → aName bs ≡ stop malformed rest → anIndicator bs ≡ stop malformed rest
+indicator-missing : (bs : Bytes) {rest : Bytes} → firstKind (spaces bs) ≡ 1 → aName aut68 bs ≡ stop malformed rest → anIndicator aut68 bs ≡ stop malformed rest
 unfolding anIndicator andThen
 indicator-missing bs e f = rw (starts-name (spaces bs) e, anIndicator, f) refl
 
@@ -124,7 +125,7 @@ byte-of-other {s = s} {at} c q t n = split _ refl
     split (b ∷ bs) e = ap (byte c) e ∙ byte-missing (b ∷ bs) c 0 (omega arith) (λ z. n (sym (q .kind t ∙ ap firstKind e ∙ ap kindOf z))) ∙ ap (stop malformed) (sym e)
 
 bad-heading : {ks s : Bytes} {h : Head} → (h .code ≡ 3) × (h .at ≡ 0) × (h .start + h .len ≡ 0) × (h .first + h .size ≡ 0)
-    → (KindsTable ks → (rest : Bytes) × (aLine (length s) s ≡ stop malformed rest)) → HeadRead ks s h
+    → (KindsTable ks → (rest : Bytes) × (aLine aut68 (length s) s ≡ stop malformed rest)) → HeadRead ks s h
 bad-heading b m =
     record {
       inside = omega (arith, b .1);
@@ -198,6 +199,6 @@ module _ {ks s : Bytes} {p : Prefix} (P : PrefixRead ks s p) where
                     after-done _ (P .read t z) ∙ after-done _ (q .read t 42 (heading-kinds .0) (omega arith) i) ∙ after-done _ (bytes-left (drop star s))
                     ∙ after-done _ (n .read t i e) ∙ after-done _ (c .read t 58 (heading-kinds .1) (omega arith) j)
                     ∙ after-done _ (byte-of-kind 61 d t (heading-kinds .2 ∙ sym x) (omega arith))
-                    ∙ ap (λ b. afterHeading (nameOr s (p .start) (p .len)) b (slice first (first + size) s) (drop (colon + 1) s)) before;
+                    ∙ ap (λ b. afterHeading aut68 (nameOr s (p .start) (p .len)) b (slice first (first + size) s) (drop (colon + 1) s)) before;
                 missing = λ t y. absurd (y refl);
               }

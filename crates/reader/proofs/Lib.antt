@@ -2,5 +2,6 @@
 pub mod LineEndLaws
 pub mod HeadLaws
 pub mod IndicatorLaws
+pub mod EndingLaws
 pub mod BodyLaws
 pub mod LineLaws

@@ -9,9 +9,10 @@ use native.Mathlib.Omega.{arith}
 use lib.ListN.{length, getD, drop, take, List·getD-append, length-append, length-drop, take-append-drop}
 use lib.Seq.{slice, length-slice, length-take-le, take-take, drop-append-le, getD-append-add, getD-take, getD-drop}
 use borrow.Author.Tests.{le-leb, lt-leb}
+use Rattle.aut68.specs.Language.{aut68}
 use Rattle.aut68.specs.Bytes.{Bytes}
-use Rattle.aut68.specs.Source.{Middle, variable, primitive, meaning, middleCells, writtenCells}
-use Rattle.aut68.specs.Expr.{Expr, cells}
+use Rattle.aut68.specs.Source.{Middle, variable, primitive, meaning, cellsOfSrc, middleCells}
+use Rattle.aut68.specs.Expr.{Expr}
 use Rattle.aut68.specs.Lines.{Line, Lines, Kind, lineOf, numberOf, kindNumber, lineCells}
 use Rattle.aut68.specs.Lines as Lines
 use Rattle.aut68.specs.Procedure.Answer.{Act, Answer, done, stop, andThen, Refusal, codeOf, duplicate, tooLarge, ensure}
@@ -201,7 +202,7 @@ module _ {ks s book tb : List ℕ} {lines : ℕ} (limit : ℕ) {w w₁ w′ : Li
 
   reading : (ls : Lines) → KindsTable ks → Known ls book tb lines → length s < 4294967296 → 16 ≤ limit → Hinted book tb lines w
       → ReadTo s (LineWritten ls indicator w₁ w′ (24 * limit) kind (r .count) (r .to) (r .fault) (h .first) (nameOr s (h .start) (h .len)) (slice (h .first) (h .first + h .size) s))
-      (r .code) (r .at) (aLine (length s) s)
+      (r .code) (r .at) (aLine aut68 (length s) s)
   reading ls t k short large hints =
       let earlier = indicator-within (F ls k hints) (k .few) I in
       read-is (H .read t hz)
@@ -228,7 +229,7 @@ module _ {ks s book tb : List ℕ} {lines : ℕ} (limit : ℕ) {w w₁ w′ : Li
       record {
         below = below-kept;
         read = λ ls t k short large hints b.
-            subst (λ c. Result (LineRead s w′ (24 * limit) l) c b (readLine ls limit s b)) (sym e) (Results.then-refused _ n (reading-result b (reading ls t k short large hints)));
+            subst (λ c. Result (LineRead s w′ (24 * limit) l) c b (readLine aut68 ls limit s b)) (sym e) (Results.then-refused _ n (reading-result b (reading ls t k short large hints)));
       }
 
   module _ (rz : r .code ≡ 0) where
@@ -280,7 +281,7 @@ module _ {ks s book tb : List ℕ} {lines : ℕ} (limit : ℕ) {w w₁ w′ : Li
                   step-indicator _ (subst (λ o. IndicatorFound lines found (indicatorLine ls o)) (sym (P .indicatorIs)) (F ls k hints)) le (I .1 le)
                   (step-right _ duplicate (ap (λ x. unused x ls) (sym q) ∙ name-unused T k (hints-stay large hints) m free)
                   (step-right _ tooLarge (le-leb (middleCells (p .line .middle)) limit (omega (arith, P .middleWritten .size)))
-                  (step-wrong _ tooLarge (lt-leb (writtenCells (p .line .category)) limit (omega (arith, P .categoryWritten .size))) e))));
+                  (step-wrong _ tooLarge (lt-leb (cellsOfSrc (p .line .category)) limit (omega (arith, P .categoryWritten .size))) e))));
             }
 
         module _ (f : r .count - 24 * limit ≤ limit) (g : r .to - 24 * limit - (r .count - 24 * limit) ≤ limit) where
@@ -296,7 +297,7 @@ module _ {ks s book tb : List ℕ} {lines : ℕ} (limit : ℕ) {w w₁ w′ : Li
                     step-indicator _ (subst (λ o. IndicatorFound lines found (indicatorLine ls o)) (sym (P .indicatorIs)) (F ls k hints)) le (I .1 le)
                     (step-right _ duplicate (ap (λ x. unused x ls) (sym q) ∙ name-unused T k (hints-stay large hints) m free)
                     (step-right _ tooLarge (le-leb (middleCells (p .line .middle)) limit (omega (arith, P .middleWritten .size)))
-                    (step-right _ tooLarge (le-leb (writtenCells (p .line .category)) limit (omega (arith, P .categoryWritten .size)))
+                    (step-right _ tooLarge (le-leb (cellsOfSrc (p .line .category)) limit (omega (arith, P .categoryWritten .size)))
                     (⊎-elim
                     (λ z. step-names _ middle z (λ x ex sx. step-fault _ (P .categoryWritten .names z (omega (arith, P .long))) n e))
                     (λ y. step-fault _ middle y (e ∙ P .categoryWritten .kept y))
@@ -320,7 +321,7 @@ module _ {ks s book tb : List ℕ} {lines : ℕ} (limit : ℕ) {w w₁ w′ : Li
                     step-indicator _ (subst (λ o. IndicatorFound lines found (indicatorLine ls o)) (sym (P .indicatorIs)) (F ls k hints)) le (I .1 le)
                     (step-right _ duplicate (ap (λ x. unused x ls) (sym q) ∙ name-unused T k (hints-stay large hints) m free)
                     (step-right _ tooLarge (le-leb (middleCells (p .line .middle)) limit (omega (arith, P .middleWritten .size)))
-                    (step-right _ tooLarge (le-leb (writtenCells (p .line .category)) limit (omega (arith, P .categoryWritten .size)))
+                    (step-right _ tooLarge (le-leb (cellsOfSrc (p .line .category)) limit (omega (arith, P .categoryWritten .size)))
                     (step-names _ (P .middleWritten .names refl (omega arith)) z (λ x ex sx.
                     step-names _ (P .categoryWritten .names z (omega arith)) n (λ d ed sd.
                     Results.passed refl

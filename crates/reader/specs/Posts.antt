@@ -3,17 +3,19 @@ use mathlib.Core.Path.{_≡_}
 use mathlib.Core.Logic.{_≢_}
 use mathlib.Core.Bool.{true, false}
 use mathlib.Core.Option.{Option}
-use mathlib.Core.List.{List, _∷_}
+use mathlib.Core.List.{List, [], _∷_}
 use Prim.Native.Nat.{ℕ, _+_, _-_, _*_, _/_, _≤_, _<_}
 use lib.ListN.{length, getD, drop, take}
 use lib.Seq.{slice}
+use Rattle.aut68.specs.Language.{aut68}
+use Rattle.aut68.specs.Rules.Grammar.{ending}
 use Rattle.aut68.specs.Bytes.{Bytes, lines, sameBytes, wordPN, wordEB}
-use Rattle.aut68.specs.Source.{Middle, variable, primitive, meaning, Written, middleCells, writtenCells}
+use Rattle.aut68.specs.Source.{Src, Middle, variable, primitive, meaning, cellsOfSrc, middleCells}
 use Rattle.aut68.specs.Expr.{cells}
 use Rattle.aut68.specs.Lines.{Lines, kindCells, kindNumber, lineCells}
 use Rattle.aut68.specs.Procedure.Answer.{done, stop, malformed, unknownName}
-use Rattle.aut68.specs.Procedure.Parse.{Placed, aLine, anIndicator, aMiddle, aCategory, wordAhead}
-use Rattle.aut68.specs.Procedure.Resolve.{Found, resolveMiddle, resolveWritten, contextAt}
+use Rattle.aut68.specs.Procedure.Parse.{Placed, aLine, anIndicator, aMiddle, anExpression, wordAhead}
+use Rattle.aut68.specs.Procedure.Resolve.{Found, resolve, resolveMiddle, contextAt}
 use Rattle.aut68.specs.Procedure.CheckLine.{Passed}
 use Rattle.cells.specs.Cells.{At, Outside}
 use Rattle.cells.specs.Results.{Result}
@@ -34,8 +36,8 @@ use Rattle.reader.specs.ReadLine.{readLine, afterHeading, nameOr}
 pub record PrefixRead (ks s : Bytes) (p : Prefix) : Type 0 where
   pub inside : p .at ≤ length s
   pub named : p .start + p .len ≤ length s
-  pub read : KindsTable ks → p .code ≡ 0 → anIndicator s ≡ done (nameOr s (p .start) (p .len)) (drop (p .at) s)
-  pub missing : KindsTable ks → p .code ≢ 0 → anIndicator s ≡ stop malformed s
+  pub read : KindsTable ks → p .code ≡ 0 → anIndicator aut68 s ≡ done (nameOr s (p .start) (p .len)) (drop (p .at) s)
+  pub missing : KindsTable ks → p .code ≢ 0 → anIndicator aut68 s ≡ stop malformed s
 
 -- `indicator*identifier:=` was read
 pub record HeadRead (ks s : Bytes) (h : Head) : Type 0 where
@@ -44,8 +46,8 @@ pub record HeadRead (ks s : Bytes) (h : Head) : Type 0 where
   pub named : h .first + h .size ≤ length s
   pub sized : h .code ≡ 0 → h .size ≢ 0
   pub read : KindsTable ks → h .code ≡ 0
-      → aLine (length s) s ≡ afterHeading (nameOr s (h .start) (h .len)) (h .first) (slice (h .first) (h .first + h .size) s) (drop (h .at) s)
-  pub missing : KindsTable ks → h .code ≢ 0 → (rest : Bytes) × (h .code ≡ 3) × (aLine (length s) s ≡ stop malformed rest)
+      → aLine aut68 (length s) s ≡ afterHeading aut68 (nameOr s (h .start) (h .len)) (h .first) (slice (h .first) (h .first + h .size) s) (drop (h .at) s)
+  pub missing : KindsTable ks → h .code ≢ 0 → (rest : Bytes) × (h .code ≡ 3) × (aLine aut68 (length s) s ≡ stop malformed rest)
 
 -- a middle's kind, by the word that stands next: 0 `EB`, 1 `PN`, else 2
 pub record MiddleKind (ks s : Bytes) (at kind : ℕ) : Type 0 where
@@ -75,8 +77,8 @@ module _ (ls : Lines) (indicator : ℕ) (w w′ : List ℕ) (to end fault fault�
   abbrev pub WrittenMiddle : Middle → Type 0
   WrittenMiddle = Walk.Written middleCells kindCells (resolveMiddle ls (contextAt ls indicator)) w w′ to end fault fault′
 
-  abbrev pub WrittenCategory : Written → Type 0
-  WrittenCategory = Walk.Written writtenCells cells (resolveWritten ls (contextAt ls indicator)) w w′ to end fault fault′
+  abbrev pub WrittenCategory : Src → Type 0
+  WrittenCategory = Walk.Written cellsOfSrc cells (resolve ls (contextAt ls indicator) []) w w′ to end fault fault′
 
 -- a middle of this kind was read from `at` on, its cells from `to` on
 pub record MiddleRead (ks s book tb : List ℕ) (lines indicator : ℕ) (w w′ : List ℕ) (at to kind : ℕ) (r′ : Reading) : Type 0 where
@@ -86,13 +88,13 @@ pub record MiddleRead (ks s book tb : List ℕ) (lines indicator : ℕ) (w w′ 
   pub inside : r′ .at ≤ length s
   pub fewer : r′ .to ≤ length w + r′ .at
   pub read : (ls : Lines) → Lookup ls ks s book tb lines indicator w to → MiddleKind ks s at kind
-      → ReadTo s (λ m. (middleNumber m ≡ kind) × WrittenMiddle ls indicator w w′ to (r′ .to) 0 (r′ .fault) m) (r′ .code) (r′ .at) (aMiddle (drop at s))
+      → ReadTo s (λ m. (middleNumber m ≡ kind) × WrittenMiddle ls indicator w w′ to (r′ .to) 0 (r′ .fault) m) (r′ .code) (r′ .at) (aMiddle aut68 (drop at s))
 
 -- a written category was read from r on
 pub record CategoryRead (ks s book tb : List ℕ) (lines indicator : ℕ) (w w′ : List ℕ) (r r′ : Reading) : Type 0 where
   pub onward : Onward s w w′ r r′
   pub read : (ls : Lines) → Lookup ls ks s book tb lines indicator w (r .to)
-      → ReadTo s (WrittenCategory ls indicator w w′ (r .to) (r′ .to) (r .fault) (r′ .fault)) (r′ .code) (r′ .at) (aCategory (drop (r .at) s))
+      → ReadTo s (WrittenCategory ls indicator w w′ (r .to) (r′ .to) (r .fault) (r′ .fault)) (r′ .code) (r′ .at) (anExpression aut68 32 ending (drop (r .at) s))
 
 -- the cells of the line p: the middle's from `to` on below index `middle`, the category's behind them up to `end`
 pub record LineWritten (ls : Lines) (indicator : ℕ) (w w′ : List ℕ) (to kind middle end fault : ℕ) (before : ℕ) (i : Option Bytes) (name : Bytes) (p : Placed) : Type 0 where
@@ -112,7 +114,7 @@ pub record BodyRead (ks s book tb : List ℕ) (lines indicator : ℕ) (w w′ : 
   pub below : SameBelow to w w′
   pub upward : r′ .code ≡ 0 → (to ≤ r′ .count) × (r′ .count ≤ r′ .to)
   pub read : (ls : Lines) → Lookup ls ks s book tb lines indicator w to → MiddleKind ks s at kind → (i : Option Bytes) (before : ℕ) (name : Bytes)
-      → ReadTo s (LineWritten ls indicator w w′ to kind (r′ .count) (r′ .to) (r′ .fault) before i name) (r′ .code) (r′ .at) (afterHeading i before name (drop at s))
+      → ReadTo s (LineWritten ls indicator w w′ to kind (r′ .count) (r′ .to) (r′ .fault) before i name) (r′ .code) (r′ .at) (afterHeading aut68 i before name (drop at s))
 
 -- r is the indicator's line, 0 if empty; 8,192 where it is no `EB` line
 pub data IndicatorFound (lines r : ℕ) : Found ℕ → Type 0 where
@@ -138,7 +140,7 @@ pub record LineRead (s : Bytes) (w′ : List ℕ) (to : ℕ) (l : Line) (p : Pas
 pub record LineReadInto (ks s book tb : List ℕ) (lines limit : ℕ) (w w′ : List ℕ) (l : Line) : Type 0 where
   pub below : SameBelow (23 * limit) w w′
   pub read : (ls : Lines) → KindsTable ks → Known ls book tb lines → length s < 4294967296 → 16 ≤ limit → Hinted book tb lines w
-      → (b : ℕ) → Result (LineRead s w′ (24 * limit) l) (l .code) b (readLine ls limit s b)
+      → (b : ℕ) → Result (LineRead s w′ (24 * limit) l) (l .code) b (readLine aut68 ls limit s b)
 
 -- Only the units 23 to 25 are written. With them there, the code is 0 where the line passes, and else that of its first refusal;
 -- without them it is 10.
@@ -147,7 +149,7 @@ pub record LineReadTo (ks s book tb : List ℕ) (lines limit : ℕ) (w w′ : Li
   pub noRoom : length w < 26 * limit → (w′ ≡ w) × (l .code ≡ 10)
   pub read : (ls : Lines) → KindsTable ks → Known ls book tb lines → length s < 4294967296 → 16 ≤ limit → 26 * limit ≤ length w
       → Hinted book tb lines (take (26 * limit) w)
-      → (b : ℕ) → Result (LineRead s w′ (24 * limit) l) (l .code) b (readLine ls limit s b)
+      → (b : ℕ) → Result (LineRead s w′ (24 * limit) l) (l .code) b (readLine aut68 ls limit s b)
 
 -- none of the first n bytes is 10
 abbrev pub NoEnd : Bytes → ℕ → Type 0

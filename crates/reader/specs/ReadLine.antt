@@ -2,37 +2,40 @@
 use mathlib.Core.Path.{_≡_, refl, sym}
 use mathlib.Core.Option.{Option, none, some}
 use mathlib.Core.Bool.{true, false}
+use mathlib.Core.List.{[]}
 use Prim.Native.Nat.{ℕ, _+_}
 use lib.Dec.{eqb, leb}
 use lib.ListN.{length}
 use lib.Seq.{slice}
+use Rattle.aut68.specs.Language.{Language}
+use Rattle.aut68.specs.Rules.Grammar.{ending}
 use Rattle.aut68.specs.Bytes.{Bytes}
-use Rattle.aut68.specs.Source.{middleCells, writtenCells}
+use Rattle.aut68.specs.Source.{middleCells, cellsOfSrc}
 use Rattle.aut68.specs.Lines.{Lines}
 use Rattle.aut68.specs.Procedure.Answer.{Act, Answer, done, stop, andThen, _>>=_, give, ensure, duplicate, tooLarge, outOfSpace}
-use Rattle.aut68.specs.Procedure.Parse.{Read, Placed, aLine, aMiddle, aCategory, symbol, lineEnd}
-use Rattle.aut68.specs.Procedure.Resolve.{indicatorLine, unused, resolveMiddle, resolveWritten, contextAt}
+use Rattle.aut68.specs.Procedure.Parse.{Read, Placed, aLine, aMiddle, anExpression, symbol, lineEnd}
+use Rattle.aut68.specs.Procedure.Resolve.{indicatorLine, unused, resolveMiddle, resolve, contextAt}
 use Rattle.aut68.specs.Procedure.CheckLine.{fromReading, fromNames, Passed, checkLine, room, checkWritten, checkMiddle}
 
 -- the line with these bytes, after the lines ls, as far as it is read
-unfoldable pub readLine : Lines → ℕ → Bytes → Act ℕ Passed
-readLine ls L bytes = do
-  r ← fromReading (aLine (length bytes) bytes)
+unfoldable pub readLine : Language → Lines → ℕ → Bytes → Act ℕ Passed
+readLine language ls L bytes = do
+  r ← fromReading (aLine language (length bytes) bytes)
   let s = r .line
   v ← fromNames (indicatorLine ls (s .indicator))
   _ ← ensure (unused (s .identifier) ls) duplicate
   _ ← ensure (leb (middleCells (s .middle)) L) tooLarge
-  _ ← ensure (leb (writtenCells (s .category)) L) tooLarge
+  _ ← ensure (leb (cellsOfSrc (s .category)) L) tooLarge
   k ← fromNames (resolveMiddle ls (contextAt ls v) (s .middle))
-  c ← fromNames (resolveWritten ls (contextAt ls v) (s .category))
+  c ← fromNames (resolve ls (contextAt ls v) [] (s .category))
   give (record { before = r .before; line = record { identifier = s .identifier; indicator = v; context = contextAt ls v; kind = k; category = c } })
 
 -- the part of a line behind `:=`, with what stands before it
-unfoldable pub afterHeading : Option Bytes → ℕ → Bytes → Read Placed
-afterHeading i before w = do
-  m ← aMiddle
+unfoldable pub afterHeading : Language → Option Bytes → ℕ → Bytes → Read Placed
+afterHeading language i before w = do
+  m ← aMiddle language
   _ ← symbol 58
-  c ← aCategory
+  c ← anExpression language 32 ending
   _ ← symbol 10
   _ ← lineEnd
   give (record { before = before; line = record { indicator = i; identifier = w; middle = m; category = c } })
@@ -54,14 +57,14 @@ then-value : {A B : Type 0} (a : A) (s : ℕ) (g : A → Act ℕ B) → andThen 
 unfolding andThen
 then-value a s g = refl
 
-pub check-line-reads : (ls : Lines) (L table terms : ℕ) (bytes : Bytes) (b : ℕ)
-    → checkLine ls L table terms bytes b
-    ≡ (readLine ls L bytes
+pub check-line-reads : (language : Language) (ls : Lines) (L table terms : ℕ) (bytes : Bytes) (b : ℕ)
+    → checkLine language ls L table terms bytes b
+    ≡ (readLine language ls L bytes
     >>= λ p. ensure (room ls table terms (p .line)) outOfSpace
-    >>= λ _. checkWritten ls L (p .line .category)
-    >>= λ _. checkMiddle ls L (p .line .kind) (p .line .category)
+    >>= λ _. checkWritten language ls L (p .line .category)
+    >>= λ _. checkMiddle language ls L (p .line .kind) (p .line .category)
     >>= λ _. give p) b
 unfolding checkLine readLine
-check-line-reads ls L table terms bytes b =
+check-line-reads language ls L table terms bytes b =
     sym (then-both _ _ _ _ (λ r s.
     then-both _ _ _ _ (λ v s. then-both _ _ _ _ (λ x s. then-both _ _ _ _ (λ x s. then-both _ _ _ _ (λ x s. then-both _ _ _ _ (λ k s. then-both _ _ _ _ (λ c s. then-value _ s _))))))))

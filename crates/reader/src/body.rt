@@ -70,7 +70,7 @@ fn middle(
     )
 }
 
-// The written category (aCategory), its cells from r.to on.
+// The written category (anExpression at its end), its cells from r.to on.
 fn category(
     line: &[u8],
     kinds: &[u8; 256],

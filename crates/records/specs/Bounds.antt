@@ -6,6 +6,7 @@ use native.Mathlib.Nat.{mul-le-mul-right, add-mul}
 use native.Mathlib.Omega.{arith}
 use lib.ListN.{length, take, drop, length-append}
 use lib.Seq.{sets, take-at}
+use Rattle.aut68.specs.Language.{Language}
 use Rattle.aut68.specs.Bytes.{Bytes}
 use Rattle.aut68.specs.Expr.{cells}
 use Rattle.aut68.specs.Lines.{Line, Lines, Kind, variable, primitive, abbreviation, kindCells, kindNumber, lineCells, termsOf, rowOf}
@@ -48,7 +49,7 @@ kind-number-small (abbreviation m) = omega arith
 
 -- ---- a line read after what is recorded
 
-module _ {book : Bytes} {L : ℕ} {tb₀ ts₀ : List ℕ} {k : Recorded} {n used : ℕ} {tb ts : List ℕ} (h : Reached book L tb₀ ts₀ k n used tb ts) where
+module _ {language : Language} {book : Bytes} {L : ℕ} {tb₀ ts₀ : List ℕ} {k : Recorded} {n used : ℕ} {tb ts : List ℕ} (h : Reached language book L tb₀ ts₀ k n used tb ts) where
   -- table and term store hold the recorded lines
   pub reached-stores : Holds book (k .firsts) (k .recorded) tb ts
   unfolding over
@@ -62,7 +63,7 @@ module _ {book : Bytes} {L : ℕ} {tb₀ ts₀ : List ℕ} {k : Recorded} {n use
       let u = h .usedIs in
       omega arith
 
-  module _ {bytes : Bytes} {p : Passed} (r : LineRead (k .recorded) L bytes p) where
+  module _ {bytes : Bytes} {p : Passed} (r : LineRead language (k .recorded) L bytes p) where
     pub size-small : L ≤ 4096 → length (lineCells (p .line)) ≤ 8192
     size-small l =
         let c = line-cells-bound L (p .line) (record { middleSize = r .middleFits; categorySize = r .categoryFits }) in

@@ -10,6 +10,7 @@ use lib.Dec.{leb, ltb}
 use lib.ListN.{length, take, drop, length-append}
 use lib.Seq.{slice, sets, take-take, drop-drop, take-nil, length-slice}
 use borrow.Author.Tests.{ltb-true, leb-true}
+use Rattle.aut68.specs.Language.{Language}
 use Rattle.aut68.specs.Bytes.{Bytes}
 use Rattle.aut68.specs.Expr.{cells}
 use Rattle.aut68.specs.Lines.{Line, Lines, kindCells, lineCells, termsOf, rowOf, rowsFrom, tableOf}
@@ -34,7 +35,7 @@ pub context-before : {ls : Lines} {v : ℕ} {vs : List ℕ} → Context ls v vs 
 context-before noContext = omega arith
 context-before (within i k c) = line-within i
 
-derived-before : {ls all : Lines} {pieces : List Bytes} → Derived ls pieces all → IndicatorsBefore ls → IndicatorsBefore all
+derived-before : {language : Language} {ls all : Lines} {pieces : List Bytes} → Derived language ls pieces all → IndicatorsBefore ls → IndicatorsBefore all
 derived-before noMore h = h
 derived-before (line {ls} {l = n} d r) h = derived-before r (λ v l i. at (line-snoc ls i) (λ j. h v l j))
   where
@@ -45,7 +46,7 @@ derived-before (line {ls} {l = n} d r) h = derived-before r (λ v l i. at (line-
         let k = ap (λ (x : Line). x .indicator) e in
         omega (arith, b, k, q)
 
-pub indicators-before : {ls : Lines} {pieces : List Bytes} → Derived [] pieces ls → IndicatorsBefore ls
+pub indicators-before : {language : Language} {ls : Lines} {pieces : List Bytes} → Derived language [] pieces ls → IndicatorsBefore ls
 indicators-before d = derived-before d (λ v l i. absurd (no-line i))
 
 -- ---- room
@@ -100,9 +101,9 @@ pub record SmallLine (L : ℕ) (l : Line) : Type 0 where
   pub categorySize : length (cells (l .category)) ≤ L
 
 -- With stores that were table₀ and terms₀, the lines of k are recorded: as many as `lines`, with `used` term cells.
-pub record Reached (book : Bytes) (L : ℕ) (table₀ terms₀ : List ℕ) (k : Recorded) (lines used : ℕ) (table terms : List ℕ) : Type 0 where
+pub record Reached (language : Language) (book : Bytes) (L : ℕ) (table₀ terms₀ : List ℕ) (k : Recorded) (lines used : ℕ) (table terms : List ℕ) : Type 0 where
   pub past : List Bytes
-  pub derived : Derived [] past (k .recorded)
+  pub derived : Derived language [] past (k .recorded)
   pub spelled : Spelled book (k .firsts) (k .recorded)
   pub small : {v : ℕ} {l : Line} → IsLine (k .recorded) v l → SmallLine L l
   pub linesAre : lines ≡ length (k .recorded)
@@ -113,9 +114,9 @@ pub record Reached (book : Bytes) (L : ℕ) (table₀ terms₀ : List ℕ) (k : 
   pub tableIs : table ≡ over (tableOf (k .firsts) (k .recorded)) table₀
   pub termsAre : terms ≡ over (termsOf (k .recorded)) terms₀
 
-pub reached-nothing : (book : Bytes) (L : ℕ) (table terms : List ℕ) → Reached book L table terms nothing 0 0 table terms
+pub reached-nothing : (language : Language) (book : Bytes) (L : ℕ) (table terms : List ℕ) → Reached language book L table terms nothing 0 0 table terms
 unfolding nothing over tableOf termsOf rowsFrom
-reached-nothing book L table terms =
+reached-nothing language book L table terms =
     record {
       past = [];
       derived = noMore;
@@ -134,7 +135,7 @@ reached-nothing book L table terms =
 unfoldable pub oneMore : Recorded → ℕ → Passed → Recorded
 oneMore k at p = record { firsts = k .firsts ++ ((at + p .before) ∷ []); recorded = k .recorded ++ (p .line ∷ []) }
 
-module _ {book : Bytes} {L : ℕ} {table₀ terms₀ : List ℕ} {k : Recorded} {lines used : ℕ} {table terms : List ℕ} (h : Reached book L table₀ terms₀ k lines used table terms) where
+module _ {language : Language} {book : Bytes} {L : ℕ} {table₀ terms₀ : List ℕ} {k : Recorded} {lines used : ℕ} {table terms : List ℕ} (h : Reached language book L table₀ terms₀ k lines used table terms) where
   -- table and term store hold the lines, and still do with other cells behind theirs
   pub reached-holds : (ts rest : List ℕ) → ts ≡ termsOf (k .recorded) ++ rest → Holds book (k .firsts) (k .recorded) table ts
   unfolding over
@@ -147,7 +148,7 @@ module _ {book : Bytes} {L : ℕ} {table₀ terms₀ : List ℕ} {k : Recorded} 
         termsAre = e;
       }
 
-  module _ (at next : ℕ) (bytes : Bytes) (p : Passed) (inBook : next ≤ length book) (from : at ≤ next) (bytesAre : bytes ≡ slice at next book) (r : LineRead (k .recorded) L bytes p)
+  module _ (at next : ℕ) (bytes : Bytes) (p : Passed) (inBook : next ≤ length book) (from : at ≤ next) (bytesAre : bytes ≡ slice at next book) (r : LineRead language (k .recorded) L bytes p)
       (fits : HasRoom (k .recorded) (length table₀) (length terms₀) (p .line)) where
     one-spelled : Spelled book (oneMore k at p .firsts) (oneMore k at p .recorded)
     unfolding oneMore
@@ -192,8 +193,8 @@ module _ {book : Bytes} {L : ℕ} {table₀ terms₀ : List ℕ} {k : Recorded} 
         ∙ ap (λ (x : List ℕ). over x table₀) (sym (table-snoc (k .firsts) (k .recorded) (at + p .before) (p .line) (spelled-long (h .spelled))))
 
     -- a line that passed is recorded
-    pub reached-more : (b b′ : ℕ) → checkLine (k .recorded) L (length table₀) (length terms₀) bytes b ≡ done p b′
-        → Reached book L table₀ terms₀ (oneMore k at p) (lines + 1) (used + length (lineCells (p .line)))
+    pub reached-more : (b b′ : ℕ) → checkLine language (k .recorded) L (length table₀) (length terms₀) bytes b ≡ done p b′
+        → Reached language book L table₀ terms₀ (oneMore k at p) (lines + 1) (used + length (lineCells (p .line)))
         (sets table (8 * lines) (rowOf (at + p .before) used (p .line))) (sets terms used (lineCells (p .line)))
     unfolding oneMore
     reached-more b b′ e =
@@ -204,7 +205,7 @@ module _ {book : Bytes} {L : ℕ} {table₀ terms₀ : List ℕ} {k : Recorded} 
         let f₃ = fits .cellsFit in
         record {
           past = h .past ++ (bytes ∷ []);
-          derived = derived-snoc (h .derived) (passed-derivation (k .recorded) (h .derived) L (length table₀) (length terms₀) bytes b e);
+          derived = derived-snoc (h .derived) (passed-derivation language (k .recorded) (h .derived) L (length table₀) (length terms₀) bytes b e);
           spelled = one-spelled;
           small = λ i. one-small i;
           linesAre = omega (arith, length-append (k .recorded) (p .line ∷ []));

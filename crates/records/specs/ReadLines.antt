@@ -9,19 +9,20 @@ use lib.Dec.{eqb, leb}
 use lib.ListN.{length, drop, length-append}
 use lib.Seq.{slice, take-at, drop-at}
 use borrow.Author.Tests.{leb-true}
+use Rattle.aut68.specs.Language.{Language}
 use Rattle.aut68.specs.Bytes.{Bytes, nameByte}
-use Rattle.aut68.specs.Source.{Src, Srcs, Middle, Written, SourceLine, cellsOfSrc, cellsOfSrcs, middleCells, writtenCells}
+use Rattle.aut68.specs.Source.{Src, Srcs, Middle, SourceLine, cellsOfSrc, cellsOfSrcs, middleCells}
 use Rattle.aut68.specs.Expr.{Expr, Exprs, size, sizes, cells}
 use Rattle.aut68.specs.Lines.{Lines, Kind, kindCells}
 use Rattle.aut68.specs.Procedure.Answer.{Answer, done, stop, andThen, malformed}
 use Rattle.aut68.specs.Procedure.Parse.{Placed, aLine, spaces, byte, symbol, starts, wordOf, afterWord, wordAhead, nameFits, aName, anIndicator, bytesLeft}
-use Rattle.aut68.specs.Procedure.Resolve.{found, indicatorLine, contextAt, unused, resolveMiddle, resolveWritten}
+use Rattle.aut68.specs.Procedure.Resolve.{found, indicatorLine, contextAt, unused, resolveMiddle, resolve}
 use Rattle.aut68.specs.Procedure.CheckLine.{Passed}
-use Rattle.aut68.specs.Rules.Names.{Means, MeanAll, aBound, aVariable, aConstant, anApplication, anAbstraction, noMore, oneMore, MiddleMeans, isEB, isPN, isMeaning, CategoryMeans, isType, isExpression}
+use Rattle.aut68.specs.Rules.Names.{Means, MeanAll, aBound, aVariable, aConstant, anApplication, anAbstraction, aType, aProp, noMore, oneMore, MiddleMeans, isEB, isPN, isMeaning}
 use Rattle.lookup.specs.Answers.{stop≢done, done-value, done-rest, after}
 use Rattle.lookup.specs.Identifiers.{unused-sound}
 use Rattle.lookup.specs.Contexts.{RightContexts, indicator-sound}
-use Rattle.lookup.specs.Resolving.{middle-sound, written-sound}
+use Rattle.lookup.specs.Resolving.{middle-sound, resolve-sound}
 use Rattle.reading.specs.Symbols.{run-whole}
 use Rattle.reading.specs.Sound.{parse-sound}
 use Rattle.reading.specs.Depths.{lineDepth}
@@ -55,18 +56,18 @@ spaces-ending (b ∷ bs) = go (eqb b 32) (spaces-ending bs)
     go false h = ending-same
 
 -- a name is the word that stands next
-name-is : (a : Bytes) {w b : Bytes} → aName a ≡ done w b → (w ≡ wordOf (spaces a)) × (b ≡ afterWord (spaces a))
+name-is : (language : Language) (a : Bytes) {w b : Bytes} → aName language a ≡ done w b → (w ≡ wordOf (spaces a)) × (b ≡ afterWord (spaces a))
 unfolding aName wordAhead
-name-is a {w} {b} h = go (nameFits (wordAhead a)) h
+name-is language a {w} {b} h = go (nameFits language (wordAhead a)) h
   where
     go : (t : Bool) → elim t as (λ _. Answer Bytes Bytes) [ true ↦ done (wordOf (spaces a)) (afterWord (spaces a)) | false ↦ stop malformed a ] ≡ done w b
         → (w ≡ wordOf (spaces a)) × (b ≡ afterWord (spaces a))
     go true h = (sym (done-value h), sym (done-rest h))
     go false h = absurd (stop≢done h)
 
-name-ending : (a : Bytes) {w b : Bytes} → aName a ≡ done w b → Ending a b
-name-ending a {b = b} h =
-    let (p, q) = name-is a h in
+name-ending : (language : Language) (a : Bytes) {w b : Bytes} → aName language a ≡ done w b → Ending a b
+name-ending language a {b = b} h =
+    let (p, q) = name-is language a h in
     let e : Ending (spaces a) (afterWord (spaces a)) = record { ahead = wordOf (spaces a); is = run-whole (spaces a) } in
     ending-then (spaces-ending a) (subst (λ (x : Bytes). Ending (spaces a) x) (sym q) e)
 
@@ -83,12 +84,12 @@ symbol-ending : (c : ℕ) (a : Bytes) {b : Bytes} {u : Unit {0}} → symbol c a 
 unfolding symbol
 symbol-ending c a h = ending-then (spaces-ending a) (byte-ending c (spaces a) h)
 
-indicator-ending : (a : Bytes) {o : Option Bytes} {b : Bytes} → anIndicator a ≡ done o b → Ending a b
+indicator-ending : (language : Language) (a : Bytes) {o : Option Bytes} {b : Bytes} → anIndicator language a ≡ done o b → Ending a b
 unfolding anIndicator
-indicator-ending a {o} {b} h = go (starts nameByte (spaces a)) h
+indicator-ending language a {o} {b} h = go (starts nameByte (spaces a)) h
   where
-    go : (t : Bool) → elim t as (λ _. Answer Bytes (Option Bytes)) [ true ↦ andThen (λ w. λ r. done (some w) r) (aName a) | false ↦ done none a ] ≡ done o b → Ending a b
-    go true h = after _ _ h λ w c e h₁. subst (λ (x : Bytes). Ending a x) (done-rest h₁) (name-ending a e)
+    go : (t : Bool) → elim t as (λ _. Answer Bytes (Option Bytes)) [ true ↦ andThen (λ w. λ r. done (some w) r) (aName language a) | false ↦ done none a ] ≡ done o b → Ending a b
+    go true h = after _ _ h λ w c e h₁. subst (λ (x : Bytes). Ending a x) (done-rest h₁) (name-ending language a e)
     go false h = subst (λ (x : Bytes). Ending a x) (done-rest h) ending-same
 
 -- the identifier is the part of the line's bytes behind those ahead of it
@@ -109,9 +110,9 @@ identifies bytes front w rest left e q =
           ∙ drop-at front w (length bytes - left) (sym k);
     }
 
-pub identifier-place : (bytes : Bytes) {p : Placed} {rest : Bytes} → aLine (length bytes) bytes ≡ done p rest → Identifies bytes (p .before) (p .line .identifier)
+pub identifier-place : (language : Language) (bytes : Bytes) {p : Placed} {rest : Bytes} → aLine language (length bytes) bytes ≡ done p rest → Identifies bytes (p .before) (p .line .identifier)
 unfolding aLine bytesLeft
-identifier-place bytes h =
+identifier-place language bytes h =
     after _ _ h λ o b e₁ h₁.
     after _ _ h₁ λ u₂ c e₂ h₂.
     after _ _ h₂ λ left c′ e₃ h₃.
@@ -124,12 +125,12 @@ identifier-place bytes h =
     after _ _ h₉ λ u₁₀ l e₁₀ h₁₀.
     after _ _ h₁₀ λ u₁₁ r e₁₁ h₁₁.
     subst (λ (p : Placed). Identifies bytes (p .before) (p .line .identifier)) (done-value h₁₁)
-    (at b c c′ left w d (ending-then (indicator-ending bytes e₁) (symbol-ending 42 b e₂)) e₃ e₄)
+    (at b c c′ left w d (ending-then (indicator-ending language bytes e₁) (symbol-ending 42 b e₂)) e₃ e₄)
   where
-    at : (b c c′ : Bytes) (left : ℕ) (w d : Bytes) → Ending bytes c → done (length (spaces c)) c ≡ done left c′ → aName c′ ≡ done w d
+    at : (b c c′ : Bytes) (left : ℕ) (w d : Bytes) → Ending bytes c → done (length (spaces c)) c ≡ done left c′ → aName language c′ ≡ done w d
         → Identifies bytes (length bytes - left) w
     at b c c′ left w d n e₃ e₄ =
-        let (p, q) = name-is c (subst (λ (x : Bytes). aName x ≡ done w d) (sym (done-rest e₃)) e₄) in
+        let (p, q) = name-is language c (subst (λ (x : Bytes). aName language x ≡ done w d) (sym (done-rest e₃)) e₄) in
         let s = ending-then n (spaces-ending c) in
         let z : spaces c ≡ w ++ d = run-whole (spaces c) ∙ ap₂ _++_ (sym p) (sym q) in
         identifies bytes (s .ahead) w d left (s .is ∙ ap (λ (x : Bytes). s .ahead ++ x) z) (sym (done-value e₃) ∙ ap length z)
@@ -146,6 +147,8 @@ module _ (ls : Lines) (vs : List ℕ) where
     means-size (aConstant f i e k c h) = ap suc (means-sizes h)
     means-size (anApplication h k) = ap suc (ap₂ _+_ (means-size h) (means-size k))
     means-size (anAbstraction h k) = ap suc (ap₂ _+_ (means-size h) (means-size k))
+    means-size aType = refl
+    means-size aProp = refl
 
     means-sizes : {bs : List Bytes} {xs : Srcs} {es : Exprs} → MeanAll ls vs bs xs es → sizes es ≡ cellsOfSrcs xs
     means-sizes noMore = refl
@@ -157,41 +160,39 @@ module _ (ls : Lines) (vs : List ℕ) where
   middle-size isPN = refl
   middle-size (isMeaning {m = e} h) = sym (size-is-length e) ∙ means-size h
 
-  pub category-size : {c : Written} {e : Expr} → CategoryMeans ls vs c e → length (cells e) ≡ writtenCells c
-  unfolding writtenCells cells
-  category-size isType = refl
-  category-size (isExpression {c = e} h) = sym (size-is-length e) ∙ means-size h
+  pub category-size : {c : Src} {e : Expr} → Means ls vs [] c e → length (cells e) ≡ cellsOfSrc c
+  category-size {e = e} h = sym (size-is-length e) ∙ means-size h
 
 -- ---- a line that is read
 
 -- everything that is known of a line ahead of its storage and its categories
-pub record LineRead (ls : Lines) (L : ℕ) (bytes : Bytes) (p : Passed) : Type 0 where
+pub record LineRead (language : Language) (ls : Lines) (L : ℕ) (bytes : Bytes) (p : Passed) : Type 0 where
   pub source : SourceLine
-  pub reading : Reading ls bytes source (p .line)
+  pub reading : Reading language ls bytes source (p .line)
   -- nested 32 deep at most
   pub shallow : lineDepth source ≤ 32
   pub middleFits : length (kindCells (p .line .kind)) ≤ L
   pub categoryFits : length (cells (p .line .category)) ≤ L
   pub named : Identifies bytes (p .before) (p .line .identifier)
 
-pub line-read : (ls : Lines) (L : ℕ) (bytes : Bytes) → RightContexts ls → {r : Placed} {rest : Bytes} {v : ℕ} {k : Kind} {c : Expr}
-    → aLine (length bytes) bytes ≡ done r rest
+pub line-read : (language : Language) (ls : Lines) (L : ℕ) (bytes : Bytes) → RightContexts ls → {r : Placed} {rest : Bytes} {v : ℕ} {k : Kind} {c : Expr}
+    → aLine language (length bytes) bytes ≡ done r rest
     → indicatorLine ls (r .line .indicator) ≡ found v
     → unused (r .line .identifier) ls ≡ true
     → leb (middleCells (r .line .middle)) L ≡ true
-    → leb (writtenCells (r .line .category)) L ≡ true
+    → leb (cellsOfSrc (r .line .category)) L ≡ true
     → resolveMiddle ls (contextAt ls v) (r .line .middle) ≡ found k
-    → resolveWritten ls (contextAt ls v) (r .line .category) ≡ found c
-    → LineRead ls L bytes (record { before = r .before; line = record { identifier = r .line .identifier; indicator = v; context = contextAt ls v; kind = k; category = c } })
-line-read ls L bytes R {r} {v = v} f₁ f₂ f₃ f₄ f₅ f₆ f₇ =
+    → resolve ls (contextAt ls v) [] (r .line .category) ≡ found c
+    → LineRead language ls L bytes (record { before = r .before; line = record { identifier = r .line .identifier; indicator = v; context = contextAt ls v; kind = k; category = c } })
+line-read language ls L bytes R {r} {v = v} f₁ f₂ f₃ f₄ f₅ f₆ f₇ =
     let (i, x) = indicator-sound (r .line .indicator) R f₂ in
     let m = middle-sound ls (contextAt ls v) (r .line .middle) f₆ in
-    let c = written-sound ls (contextAt ls v) (r .line .category) f₇ in
+    let c = resolve-sound ls (contextAt ls v) [] (r .line .category) f₇ in
     record {
       source = r .line;
       reading =
           record {
-            form = parse-sound (length bytes) bytes f₁ .1;
+            form = parse-sound language (length bytes) bytes f₁ .1;
             identifierIs = refl;
             indicatorIs = i;
             contextIs = x;
@@ -199,8 +200,8 @@ line-read ls L bytes R {r} {v = v} f₁ f₂ f₃ f₄ f₅ f₆ f₇ =
             middleIs = m;
             categoryIs = c;
           };
-      shallow = parse-sound (length bytes) bytes f₁ .2;
+      shallow = parse-sound language (length bytes) bytes f₁ .2;
       middleFits = (let h = leb-true (middleCells (r .line .middle)) L f₄ in omega (arith, h, middle-size ls (contextAt ls v) m));
-      categoryFits = (let h = leb-true (writtenCells (r .line .category)) L f₅ in omega (arith, h, category-size ls (contextAt ls v) c));
-      named = identifier-place bytes f₁;
+      categoryFits = (let h = leb-true (cellsOfSrc (r .line .category)) L f₅ in omega (arith, h, category-size ls (contextAt ls v) c));
+      named = identifier-place language bytes f₁;
     }

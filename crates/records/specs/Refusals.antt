@@ -4,19 +4,15 @@ use mathlib.Core.Logic.{_⊎_, inl, inr}
 use mathlib.Core.List.{List, []}
 use Prim.Native.Nat.{ℕ, _≤_}
 use native.Mathlib.Omega.{arith}
+use Rattle.aut68.specs.Language.{Language}
 use Rattle.aut68.specs.Bytes.{Bytes}
-use Rattle.aut68.specs.Source.{SourceLine}
-use Rattle.aut68.specs.Lines.{Line, Lines}
+use Rattle.aut68.specs.Lines.{Lines}
 use Rattle.aut68.specs.Rules.Derivation.{Derived}
 use Rattle.aut68.specs.Procedure.Answer.{stop, Refusal, codeOf, workTooSmall, limitOutOfRange, malformed, duplicate, unknownName, wrongArity, notFunction, notType, mismatch, tooLarge, outOfBudget, outOfSpace}
 use Rattle.aut68.specs.Procedure.CheckLine.{checkLine}
-use Rattle.lookup.specs.Answers.{Finding, noFunction, noType, differ, large, spent}
 use Rattle.lookup.specs.DerivedBooks.{right-contexts}
-use Rattle.reading.specs.Readings.{Reading}
 use Rattle.reading.specs.Stages.{check-stopped, Halted, isMalformed, isTaken, noIndicator, noMiddle, noCategory, isLarge, noRoom, inCategory, inMiddle}
-use Rattle.calculus.specs.Resolved.{ResolvedLine}
-use Rattle.calculus.specs.MeansResolved.{line-resolved, derived-resolved}
-use Rattle.calculus.specs.LineChecks.{checkWritten-stops, checkMiddle-stops}
+use Rattle.verdicts.specs.Refusals.{written-code, middle-code}
 
 pub code-most : (r : Refusal) → codeOf r ≤ 12
 unfolding codeOf
@@ -33,18 +29,10 @@ code-most tooLarge = omega arith
 code-most outOfBudget = omega arith
 code-most outOfSpace = omega arith
 
-finding-code : {X : Type 0} {r : Refusal} → Finding X r → 3 ≤ codeOf r
-unfolding codeOf
-finding-code (noFunction x) = omega arith
-finding-code (noType x) = omega arith
-finding-code (differ x) = omega arith
-finding-code large = omega arith
-finding-code spent = omega arith
-
-module _ (ls : Lines) {past : List Bytes} (D : Derived [] past ls) (L table terms : ℕ) (bytes : Bytes) (b : ℕ) where
-  pub refusal-code : {r : Refusal} {b′ : ℕ} → checkLine ls L table terms bytes b ≡ stop r b′ → 3 ≤ codeOf r
+module _ (language : Language) (ls : Lines) {past : List Bytes} (D : Derived language [] past ls) (L table terms : ℕ) (bytes : Bytes) (b : ℕ) where
+  pub refusal-code : {r : Refusal} {b′ : ℕ} → checkLine language ls L table terms bytes b ≡ stop r b′ → 3 ≤ codeOf r
   unfolding codeOf
-  refusal-code {r} {b′} h = go (check-stopped ls L table terms bytes b (right-contexts D) h)
+  refusal-code {r} {b′} h = go (check-stopped language ls L table terms bytes b (right-contexts D) h)
     where
       code : (s : Refusal) → r ≡ s → 3 ≤ codeOf s → 3 ≤ codeOf r
       code s e k = let q = ap codeOf e in omega (arith, q, k)
@@ -53,10 +41,7 @@ module _ (ls : Lines) {past : List Bytes} (D : Derived [] past ls) (L table term
       names (inl e) = code unknownName e (omega arith)
       names (inr e) = code wrongArity e (omega arith)
 
-      resolved : {s : SourceLine} {l : Line} → Reading ls bytes s l → ResolvedLine ls l
-      resolved {l = l} a = line-resolved ls l (a .contextIs) (a .middleIs) (a .categoryIs)
-
-      go : Halted ls L table terms bytes b r b′ → 3 ≤ codeOf r
+      go : Halted language ls L table terms bytes b r b′ → 3 ≤ codeOf r
       go (isMalformed e p n) = code malformed e (omega arith)
       go (isTaken e p w j k) = code duplicate e (omega arith)
       go (noIndicator e p w f) = names (inl e)
@@ -64,5 +49,5 @@ module _ (ls : Lines) {past : List Bytes} (D : Derived [] past ls) (L table term
       go (noCategory e p w j f) = names e
       go (isLarge e p) = code tooLarge e (omega arith)
       go (noRoom e p a) = code outOfSpace e (omega arith)
-      go (inCategory {l = l} a f) = finding-code (checkWritten-stops ls (derived-resolved D) L l (resolved a) b b′ r f)
-      go (inMiddle {l = l} {m = m} a f g) = finding-code (checkMiddle-stops ls (derived-resolved D) L l (resolved a) m b′ r g)
+      go (inCategory a f) = let z = written-code language ls D L table terms bytes b a b f in omega arith
+      go (inMiddle {m = m} a f g) = let z = middle-code language ls D L table terms bytes b a m g in omega arith

@@ -1,6 +1,5 @@
 -- Head steps until there is none, and then an abstraction's domain and body.
 use mathlib.Core.Path.{_≡_, refl, sym, ap, subst, _∙_}
-use mathlib.Core.Logic.{inl, inr}
 use mathlib.Core.Bool.{Bool, true, false}
 use mathlib.Core.Option.{none, some, Option·none-ne-some}
 use mathlib.Core.List.{List, _++_}
@@ -9,13 +8,14 @@ use native.Mathlib.Omega.{arith}
 use lib.Dec.{leb}
 use lib.ListN.{length, getD}
 use borrow.Author.Tests.{le-leb, lt-leb, leb-true, leb-false}
-use Rattle.aut68.specs.Expr.{Expr, type, var, bound, const, app, abs, nil, cons, size, cells, firstCell, countExprs, shape, other}
+use Rattle.aut68.specs.Expr.{Expr, type, prop, var, bound, const, app, abs, nil, cons, size, cells, firstCell, countExprs, Shape, shape, abstraction, other}
 use Rattle.aut68.specs.Lines.{Lines}
-use Rattle.aut68.specs.Procedure.Answer.{done, stop, codeOf, notFunction, tooLarge, outOfBudget}
+use Rattle.aut68.specs.Procedure.Answer.{Refusal, done, stop, andThen, codeOf, notFunction, tooLarge, outOfBudget}
 use Rattle.aut68.specs.Procedure.HeadStep.{Head, noStep, headStep, left}
-use Rattle.aut68.specs.Procedure.Category.{toFunction}
-use Rattle.calculus.specs.Scoped.{Scoped}
+use Rattle.aut68.specs.Procedure.Category.{headForm, parts, toFunction}
+use Rattle.calculus.specs.Scoped.{ScopedCategory}
 use Rattle.calculus.specs.Resolved.{Known, KnownCategory}
+use Rattle.calculus.specs.Known.{known-category-head}
 use Rattle.cells.specs.Cells.{AllFormed, Wf, At}
 use Rattle.cells.specs.Forests.{at-first, at-inside, at-front, at-one, at-tail, cells-one, cells-long, size-is-length}
 use Rattle.cells.specs.Layout.{unitAt, scratchUnit}
@@ -24,7 +24,7 @@ use Rattle.cells.specs.Results.{Result, passed, refused, code-nonzero}
 use Rattle.terms.specs.Made.{noRoom}
 use Rattle.reduction.specs.Book.{Book, known-wf}
 use Rattle.reduction.specs.Frames.{Framed, Lies, framed-then, framed-more}
-use Rattle.reduction.specs.Heads.{known-after, HeadIs, no-head, contraction, unfolding-of}
+use Rattle.reduction.specs.Heads.{HeadIs, no-head, contraction, unfolding-of}
 use Rattle.reduction.specs.Posts.{HeadPost, Stepped, StepPost, FormIs, normal, FormPost, FunctionAt, FunctionPost}
 use Rattle.reduction.specs.Posts
 use Rattle.reduction.specs.declared.heads.Head as struct
@@ -38,33 +38,54 @@ module _ (ls : Lines) (L : ℕ) where
   stepped-shape : (g x : Expr) → left (headStep ls g) ≡ some x → shape g ≡ other
   unfolding headStep left shape
   stepped-shape type x e = refl
+  stepped-shape prop x e = refl
   stepped-shape (var v) x e = refl
   stepped-shape (bound v) x e = refl
   stepped-shape (const v xs) x e = refl
   stepped-shape (app a b) x e = refl
   stepped-shape (abs p t) x e = absurd (Option·none-ne-some x e)
 
-  function-spent : (g x : Expr) → left (headStep ls g) ≡ some x → toFunction ls L g 0 ≡ stop outOfBudget 0
-  unfolding toFunction
-  function-spent g x e = rw (stepped-shape g x e, e, toFunction)
+  form-spent-at : (g x : Expr) → left (headStep ls g) ≡ some x → headForm ls L g 0 ≡ stop outOfBudget 0
+  unfolding headForm
+  form-spent-at g x e = rw (stepped-shape g x e, e, headForm)
 
-  function-large : (g x : Expr) (b : ℕ) → left (headStep ls g) ≡ some x → L < size x → toFunction ls L g (suc b) ≡ stop tooLarge (suc b)
-  unfolding toFunction
-  function-large g x b e h = rw (stepped-shape g x e, e, lt-leb (size x) L h, toFunction)
+  form-large-at : (g x : Expr) (b : ℕ) → left (headStep ls g) ≡ some x → L < size x → headForm ls L g (suc b) ≡ stop tooLarge (suc b)
+  unfolding headForm
+  form-large-at g x b e h = rw (stepped-shape g x e, e, lt-leb (size x) L h, headForm)
 
-  function-steps : (g x : Expr) (b : ℕ) → left (headStep ls g) ≡ some x → size x ≤ L → toFunction ls L g (suc b) ≡ toFunction ls L x b
-  unfolding toFunction
-  function-steps g x b e h = rw (stepped-shape g x e, e, le-leb (size x) L h, toFunction)
+  form-steps-at : (g x : Expr) (b : ℕ) → left (headStep ls g) ≡ some x → size x ≤ L → headForm ls L g (suc b) ≡ headForm ls L x b
+  unfolding headForm
+  form-steps-at g x b e h = rw (stepped-shape g x e, e, le-leb (size x) L h, headForm)
 
-  function-none : (g : Expr) (b : ℕ) → headStep ls g ≡ noStep → shape g ≡ other → toFunction ls L g b ≡ stop notFunction b
-  unfolding toFunction left
-  function-none g zero e s = let q : left (headStep ls g) ≡ none = ap left e in rw (s, q, toFunction)
-  function-none g (suc b) e s = let q : left (headStep ls g) ≡ none = ap left e in rw (s, q, toFunction)
+  -- an abstraction is its own head form, and so is what has no head step
+  form-none-at : (g : Expr) (b : ℕ) → headStep ls g ≡ noStep → headForm ls L g b ≡ done g b
+  unfolding left headForm
+  form-none-at g b e = go (shape g) refl b
+    where
+      q : left (headStep ls g) ≡ none
+      q = ap left e
 
-  function-found : (p t : Expr) (b : ℕ) → toFunction ls L (abs p t) b ≡ done (record { domain = p; body = t }) b
-  unfolding toFunction shape
-  function-found p t zero = refl
-  function-found p t (suc b) = refl
+      go : (s : Shape) → shape g ≡ s → (b : ℕ) → headForm ls L g b ≡ done g b
+      go (abstraction p t) s zero = rw (s, headForm)
+      go (abstraction p t) s (suc b) = rw (s, headForm)
+      go other s zero = rw (s, q, headForm)
+      go other s (suc b) = rw (s, q, headForm)
+
+  function-of : (c g : Expr) (b b′ : ℕ) → headForm ls L c b ≡ done g b′ → toFunction ls L c b ≡ parts (shape g) b′
+  unfolding toFunction andThen
+  function-of c g b b′ e = rw (e, andThen)
+
+  function-stops : (c : Expr) (b b′ : ℕ) {r : Refusal} → headForm ls L c b ≡ stop r b′ → toFunction ls L c b ≡ stop r b′
+  unfolding toFunction andThen
+  function-stops c b b′ e = rw (e, andThen)
+
+  function-none : (c g : Expr) (b b′ : ℕ) → headForm ls L c b ≡ done g b′ → shape g ≡ other → toFunction ls L c b ≡ stop notFunction b′
+  unfolding parts
+  function-none c g b b′ e s = function-of c g b b′ e ∙ ap (λ (x : Shape). parts x b′) s
+
+  function-found : (c p t : Expr) (b b′ : ℕ) → headForm ls L c b ≡ done (abs p t) b′ → toFunction ls L c b ≡ done (record { domain = p; body = t }) b′
+  unfolding parts shape
+  function-found c p t b b′ e = function-of c (abs p t) b b′ e
 
 -- ---- a loop of head steps
 
@@ -75,7 +96,7 @@ pub record Reduced (ls : Lines) (limit k at : ℕ) (c : Expr) (budget : ℕ) (w 
   pub small : size g ≤ limit
   pub sized : n ≡ size g
   pub lies : Lies w at g
-  pub same : toFunction ls limit c budget ≡ toFunction ls limit g left
+  pub same : headForm ls limit c budget ≡ headForm ls limit g left
 
 -- so it is for whatever expression of n₀ cells stood at `at` of the store w₀
 pub record Reducing (tb ts w₀ w : List ℕ) (limit budget at n₀ n left : ℕ) : Type 0 where
@@ -103,9 +124,10 @@ module _ {tb ts w₀ w : List ℕ} {limit budget at n₀ n left′ : ℕ} {h : s
   pub form-normal : h .kind ≡ 0 → FormPost tb ts w₀ w limit budget at n₀ 0 n left′
   form-normal z = record {
     framed = F;
-    is = λ l B k c K y s q u a.
+    is = λ l {ls} B k c K y s q u a.
         let r = R .of l B k c K y s q u a in
-        normal (r .g) refl (head-none-of (H .is B k (r .g) (r .known) (r .lies .at) (r .sized)) z) (r .known) (r .small) (r .sized) (r .lies) (r .same);
+        let none = head-none-of (H .is B k (r .g) (r .known) (r .lies .at) (r .sized)) z in
+        normal (r .g) refl none (r .known) (r .small) (r .sized) (r .lies) (r .same ∙ form-none-at ls limit (r .g) left′ none);
   }
 
   pub form-spent : (h .kind ≡ 0 → ⊥) → left′ ≡ 0 → FormPost tb ts w₀ w limit budget at n₀ 11 n left′
@@ -116,7 +138,7 @@ module _ {tb ts w₀ w : List ℕ} {limit budget at n₀ n left′ : ℕ} {h : s
         let r = R .of l B k c K y s q u a in
         let (x, i) = head-some-of (H .is B k (r .g) (r .known) (r .lies .at) (r .sized)) z in
         Posts.refused outOfBudget refl
-        (r .same ∙ ap (toFunction ls limit (r .g)) e ∙ function-spent ls limit (r .g) x i ∙ ap (λ (b : ℕ). stop outOfBudget b) (sym e));
+        (r .same ∙ ap (headForm ls limit (r .g)) e ∙ form-spent-at ls limit (r .g) x i ∙ ap (λ (b : ℕ). stop outOfBudget b) (sym e));
   }
 
   module _ {w₁ : List ℕ} {r : ℕ} (nonzero : h .kind ≡ 0 → ⊥) (budgeted : left′ ≡ 0 → ⊥) (S : StepPost tb ts w w₁ limit h r) where
@@ -139,8 +161,8 @@ module _ {tb ts w₀ w : List ℕ} {limit budget at n₀ n left′ : ℕ} {h : s
           let e : left′ ≡ suc (left′ - 1) = omega arith in
           Posts.refused tooLarge refl
           (y .same
-          ∙ ap (toFunction ls limit (y .g)) e
-          ∙ function-large ls limit (y .g) (X .next) (left′ - 1) (X .is) (too-large X)
+          ∙ ap (headForm ls limit (y .g)) e
+          ∙ form-large-at ls limit (y .g) (X .next) (left′ - 1) (X .is) (too-large X)
           ∙ ap (λ (b : ℕ). stop tooLarge b) (sym e));
     }
       where
@@ -162,11 +184,11 @@ module _ {tb ts w₀ w : List ℕ} {limit budget at n₀ n left′ : ℕ} {h : s
           let e : left′ ≡ suc (left′ - 1) = omega arith in
           record {
             g = X .next;
-            known = inr (known-after ls (B .resolved) k (y .g) (X .next) (X .is) (y .known));
+            known = known-category-head ls (B .resolved) k (y .g) (X .next) (X .is) (y .known);
             small = d;
             sized = X .fits d .0;
             lies = X .fits d .1;
-            same = y .same ∙ ap (toFunction ls limit (y .g)) e ∙ function-steps ls limit (y .g) (X .next) (left′ - 1) (X .is) d;
+            same = y .same ∙ ap (headForm ls limit (y .g)) e ∙ form-steps-at ls limit (y .g) (X .next) (left′ - 1) (X .is) d;
           };
     }
       where
@@ -181,26 +203,22 @@ module _ {tb ts w₀ w : List ℕ} {limit budget at n₀ n left′ : ℕ} {h : s
 
 -- its cells
 function-cells : (ls : Lines) (limit k at : ℕ) {tb w′ : List ℕ} (f : Function) (c : Expr) (budget : ℕ) {left′ code n : ℕ} (g : Expr) → code ≡ 0 → KnownCategory ls k g
-    → size g ≤ limit → n ≡ size g → Lies w′ at g → toFunction ls limit c budget ≡ toFunction ls limit g left′ → firstCell g ≡ 5 → Skipped tb w′ (at + 1) 1 (f .body)
+    → size g ≤ limit → n ≡ size g → Lies w′ at g → headForm ls limit c budget ≡ done g left′ → firstCell g ≡ 5 → Skipped tb w′ (at + 1) 1 (f .body)
     → ((p : Expr) → Known ls k p → Wf tb p) → f .domain ≡ at + 1 → f .size ≡ n → f .code ≡ 0 → f .budget ≡ left′
     → Result (FunctionAt ls limit k at w′ f) (f .code) (f .budget) (toFunction ls limit c budget)
-unfolding firstCell cells Scoped countExprs AllFormed
+unfolding firstCell cells ScopedCategory countExprs AllFormed
 function-cells ls limit k at f c budget type z K s q a e x S W d i o b = absurd (omega arith)
+function-cells ls limit k at f c budget prop z K s q a e x S W d i o b = absurd (omega arith)
 function-cells ls limit k at f c budget (var v) z K s q a e x S W d i o b = absurd (omega arith)
 function-cells ls limit k at f c budget (bound v) z K s q a e x S W d i o b = absurd (omega arith)
 function-cells ls limit k at f c budget (const v xs) z K s q a e x S W d i o b = absurd (omega arith)
 function-cells ls limit k at f c budget (app v y) z K s q a e x S W d i o b = absurd (omega arith)
 function-cells ls limit k at {tb} {w′} f c budget {left′} (abs p t) z K s q a e x S W d i o b =
-    let U = known-abs K in
     let parts : At w′ (at + 1) (cells p ++ cells t) (a .rest) = record { is = at-tail w′ at 5 ((cells p ++ cells t) ++ a .rest) (a .at .is) } in
     let m : f .body ≡ at + 1 + length (cells p) =
-    S .ends (cons p nil) (cells t ++ a .rest) refl (W p (U .0), tt) (at-one p (at-front (cells p) (cells t) parts)) ∙ ap (λ (l : List ℕ). at + 1 + length l) (cells-one p) in
-    subst (Result (FunctionAt ls limit k at w′ f) (f .code) (f .budget)) (sym (e ∙ function-found ls limit p t left′ ∙ ap (done (record { domain = p; body = t })) (sym b)))
-    (passed o (record { known = U; lies = a; small = s; sizeIs = i ∙ q; domainAt = d; bodyAt = m ∙ ap (λ (l : ℕ). at + 1 + l) (sym (size-is-length p)) }))
-  where
-    known-abs : KnownCategory ls k (abs p t) → Known ls k (abs p t)
-    known-abs (inr w) = w
-    known-abs (inl r) = let z : _≡_ {A = ℕ} 0 1 = cc in absurd (omega arith)
+    S .ends (cons p nil) (cells t ++ a .rest) refl (W p (K .0), tt) (at-one p (at-front (cells p) (cells t) parts)) ∙ ap (λ (l : List ℕ). at + 1 + length l) (cells-one p) in
+    subst (Result (FunctionAt ls limit k at w′ f) (f .code) (f .budget)) (sym (function-found ls limit c p t budget left′ e ∙ ap (done (record { domain = p; body = t })) (sym b)))
+    (passed o (record { known = K; lies = a; small = s; sizeIs = i ∙ q; domainAt = d; bodyAt = m ∙ ap (λ (l : ℕ). at + 1 + l) (sym (size-is-length p)) }))
 
 module _ {tb ts w w′ : List ℕ} {limit budget at n code size′ left′ : ℕ} (P : FormPost tb ts w w′ limit budget at n code size′ left′) where
   -- the procedure stopped on the way
@@ -209,7 +227,7 @@ module _ {tb ts w w′ : List ℕ} {limit budget at n code size′ left′ : ℕ
     where
       go : {ls : Lines} {k : ℕ} {c : Expr} → FormIs ls limit k at c budget w′ code size′ left′ → Result (FunctionAt ls limit k at w′ f) (f .code) (f .budget) (toFunction ls limit c budget)
       go (normal g z q K s o a e) = absurd (nz z)
-      go (Posts.refused r z e) = subst (Result _ (f .code) (f .budget)) (sym (e ∙ ap (stop r) (sym b))) (refused (x ∙ z))
+      go {ls} {c = c} (Posts.refused r z e) = subst (Result _ (f .code) (f .budget)) (sym (function-stops ls limit c budget left′ e ∙ ap (stop r) (sym b))) (refused (x ∙ z))
 
   -- there is no head step, and no abstraction
   pub function-other : code ≡ 0 → (at < length w′ → getD w′ at 0 ≡ 5 → ⊥) → (f : Function) → f .code ≡ 7 → f .budget ≡ left′ → FunctionPost tb ts w w′ limit budget at n f
@@ -218,9 +236,9 @@ module _ {tb ts w w′ : List ℕ} {limit budget at n code size′ left′ : ℕ
     where
       go : {ls : Lines} {k : ℕ} {c : Expr} → FormIs ls limit k at c budget w′ code size′ left′ → Result (FunctionAt ls limit k at w′ f) (f .code) (f .budget) (toFunction ls limit c budget)
       go (Posts.refused r z e) = absurd (code-nonzero r (sym z ∙ zero-code))
-      go {ls} (normal g z q K s o a e) =
+      go {ls} {c = c} (normal g z q K s o a e) =
           let sh : shape g ≡ other = not-abs g (λ i. never (omega (arith, at-inside g (a .at), cells-long g)) (at-first g (a .at) ∙ i)) in
-          subst (Result _ (f .code) (f .budget)) (sym (e ∙ function-none ls limit g left′ q sh ∙ ap (stop notFunction) (sym b))) (refused x)
+          subst (Result _ (f .code) (f .budget)) (sym (function-none ls limit c g budget left′ e sh ∙ ap (stop notFunction) (sym b))) (refused x)
 
   pub function-abstraction : code ≡ 0 → getD w′ at 0 ≡ 5 → (f : Function) → Skipped tb w′ (at + 1) 1 (f .body) → f .domain ≡ at + 1 → f .size ≡ size′ → f .code ≡ 0 → f .budget ≡ left′
       → FunctionPost tb ts w w′ limit budget at n f

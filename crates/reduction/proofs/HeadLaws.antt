@@ -1,18 +1,17 @@
 -- The search for a head step: past the A's of <A1>..<An>H to H, or to the last <An>H where H is an abstraction.
 use mathlib.Core.Path.{_≡_, refl, sym, ap, subst, _∙_}
-use mathlib.Core.Logic.{inl, inr}
 use mathlib.Core.List.{List, _∷_, _++_}
 use Prim.Native.Nat.{ℕ, _+_, _-_, _*_, _/_, _%_, _<_}
 use native.Mathlib.Omega.{arith}
 use lib.ListN.{length, getD, length-append}
-use Rattle.aut68.specs.Expr.{Expr, Exprs, type, var, bound, const, app, abs, nil, cons, snoc, size, firstCell, cells, countExprs, shape, other}
+use Rattle.aut68.specs.Expr.{Expr, Exprs, type, prop, var, bound, const, app, abs, nil, cons, snoc, size, firstCell, cells, countExprs, shape, other}
 use Rattle.aut68.specs.Substitution.{substitute, instantiate}
 use Rattle.aut68.specs.Lines.{Line, Lines, Kind, variable, primitive, abbreviation, kindNumber}
 use Rattle.aut68.specs.Rules.Names.{IsLine}
 use Rattle.aut68.specs.Procedure.HeadStep.{Head, noStep, headStep}
 use Rattle.lookup.specs.LineNumbers.{line-lineOf, primitive≢abbreviation, variable≢abbreviation}
-use Rattle.calculus.specs.Scoped.{Scoped}
-use Rattle.calculus.specs.Resolved.{Known, KnownCategory}
+use Rattle.calculus.specs.Scoped.{Scoped, ScopedCategory, scoped-category}
+use Rattle.calculus.specs.Resolved.{VariableLine, ConstantOf, Known, KnownCategory}
 use Rattle.cells.specs.Cells.{rowCell, AllFormed, At}
 use Rattle.cells.specs.Forests.{at-first, at-front, at-second, at-one, at-tail, cells-one, size-is-length, size-positive, number-of, kind-of}
 use Rattle.cells.specs.Posts.{Skipped}
@@ -57,14 +56,6 @@ search-starts k e {rest} K a q = record {
 pub search-inside : {ls : Lines} {k : ℕ} {w : List ℕ} {start i n : ℕ} {e : Expr} → Searching ls k w start i n e → i < start + n
 search-inside s = omega (arith, s .ends, size-positive (s .head))
 
-known-app : (ls : Lines) (k : ℕ) {a b : Expr} → KnownCategory ls k (app a b) → Known ls k (app a b)
-known-app ls k (inl e) = let z : _≡_ {A = ℕ} 0 1 = cc in absurd (omega arith)
-known-app ls k (inr w) = w
-
-known-const : (ls : Lines) (k : ℕ) {v : ℕ} {xs : Exprs} → KnownCategory ls k (const v xs) → Known ls k (const v xs)
-known-const ls k (inl e) = let z : _≡_ {A = ℕ} 0 1 = cc in absurd (omega arith)
-known-const ls k (inr w) = w
-
 -- ---- no application
 
 module _ {ls : Lines} {L : ℕ} {tb ts : List ℕ} (B : Book ls L tb ts) (r : struct.Head) where
@@ -98,12 +89,13 @@ module _ {ls : Lines} {L : ℕ} {tb ts : List ℕ} (B : Book ls L tb ts) (r : st
 
   of-cell : (k start i : ℕ) (fs : Exprs) (e g : Expr) → e ≡ applied fs g → headStep ls e ≡ wrapped fs (headStep ls g) → i ≡ start + length (front fs)
       → KnownCategory ls k g → (firstCell g ≡ 4 → ⊥) → HeadCell tb (firstCell g) i (i - start) r → HeadIs ls start (r .kind) (r .at) (r .kept) (r .line) e
-  unfolding firstCell headStep Scoped
+  unfolding firstCell headStep ScopedCategory
   of-cell k start i fs e type w s p K n h = no-step start fs 0 i e type refl s (λ z. omega arith) h
+  of-cell k start i fs e prop w s p K n h = no-step start fs 6 i e prop refl s (λ z. omega arith) h
   of-cell k start i fs e (var v) w s p K n h = no-step start fs (8 * v + 1) i e (var v) refl s (λ z. omega arith) h
   of-cell k start i fs e (bound v) w s p K n h = no-step start fs (8 * v + 2) i e (bound v) refl s (λ z. omega arith) h
   of-cell k start i fs e (const v xs) w s p K n h =
-      let c = known-const ls k K .0 in
+      let c = K .0 in
       of-constant start i fs v xs e (c .line) (c .line .kind) w s p (c .isLine) refl h
   of-cell k start i fs e (app a b) w s p K n h = absurd (n refl)
   of-cell k start i fs e (abs a b) w s p K n h = no-step start fs 5 i e (abs a b) refl s (λ z. omega arith) h
@@ -121,6 +113,7 @@ module _ {ls : Lines} {L : ℕ} {tb ts : List ℕ} (B : Book ls L tb ts) (r : st
 pub not-abs : (b : Expr) → (firstCell b ≡ 5 → ⊥) → shape b ≡ other
 unfolding firstCell shape
 not-abs type n = refl
+not-abs prop n = refl
 not-abs (var v) n = refl
 not-abs (bound v) n = refl
 not-abs (const v xs) n = refl
@@ -145,16 +138,16 @@ module _ {ls : Lines} {L : ℕ} {tb ts : List ℕ} (B : Book ls L tb ts) where
   applying : (k : ℕ) {w : List ℕ} {start i j n : ℕ} {e : Expr} (fs : Exprs) (g : Expr) {rest : List ℕ} → e ≡ applied fs g → headStep ls e ≡ wrapped fs (headStep ls g)
       → KnownCategory ls k g → i ≡ start + length (front fs) → At w i (cells g) rest → i + size g ≡ start + n → firstCell g ≡ 4 → Skipped tb w (i + 1) 1 j
       → Applying ls k w start i j n e
-  unfolding firstCell cells size Scoped countExprs AllFormed
+  unfolding firstCell cells size Scoped ScopedCategory countExprs AllFormed
   applying k fs type q s K p a z f d = absurd (omega arith)
+  applying k fs prop q s K p a z f d = absurd (omega arith)
   applying k fs (var v) q s K p a z f d = absurd (omega arith)
   applying k fs (bound v) q s K p a z f d = absurd (omega arith)
   applying k fs (const v xs) q s K p a z f d = absurd (omega arith)
   applying k fs (abs x y) q s K p a z f d = absurd (omega arith)
   applying k {w} {start} {i} {j} {n} {e} fs (app x y) {rest} q s K p a z f d =
-      let W = known-app ls k K in
       let inner : At w (i + 1) (cells x ++ cells y) rest = record { is = at-tail w i 4 ((cells x ++ cells y) ++ rest) (a .is) } in
-      let b : j ≡ i + 1 + length (cells x) = d .ends (cons x nil) (cells y ++ rest) refl (known-wf (B .rows) k x (W .0), tt) (at-one x (at-front (cells x) (cells y) inner))
+      let b : j ≡ i + 1 + length (cells x) = d .ends (cons x nil) (cells y ++ rest) refl (known-wf (B .rows) k x (K .0), tt) (at-one x (at-front (cells x) (cells y) inner))
       ∙ ap (λ (l : List ℕ). i + 1 + length l) (cells-one x) in
       record {
         fs = fs;
@@ -162,7 +155,7 @@ module _ {ls : Lines} {L : ℕ} {tb ts : List ℕ} (B : Book ls L tb ts) where
         b = y;
         whole = q;
         stepIs = s;
-        known = W;
+        known = K;
         placed = p;
         behind = b;
         rest = rest;
@@ -183,6 +176,7 @@ module _ {ls : Lines} {L : ℕ} {tb ts : List ℕ} (B : Book ls L tb ts) where
       → i ≡ start + length (front fs) → firstCell b ≡ 5 → kind ≡ 1 → at ≡ i → kept ≡ i - start → HeadIs ls start kind at kept v e
   unfolding firstCell
   applying-abs k start i kind at kept v e fs a type q s p f x y z = absurd (omega arith)
+  applying-abs k start i kind at kept v e fs a prop q s p f x y z = absurd (omega arith)
   applying-abs k start i kind at kept v e fs a (var u) q s p f x y z = absurd (omega arith)
   applying-abs k start i kind at kept v e fs a (bound u) q s p f x y z = absurd (omega arith)
   applying-abs k start i kind at kept v e fs a (const u xs) q s p f x y z = absurd (omega arith)
@@ -203,7 +197,7 @@ module _ {ls : Lines} {L : ℕ} {tb ts : List ℕ} (B : Book ls L tb ts) where
     head = s .b;
     whole = s .whole ∙ sym (applied-snoc (s .fs) (s .a) (s .b));
     stepIs = s .stepIs ∙ ap (wrapped (s .fs)) (app-passes ls (s .a) (s .b) (not-abs (s .b) (λ q. d (at-first (s .b) (s .at) ∙ q)))) ∙ sym (wrapped-snoc (s .fs) (s .a) (headStep ls (s .b)));
-    known = inr (s .known .1);
+    known = scoped-category (VariableLine ls) (ConstantOf ls) k (s .b) (s .known .1);
     placed = omega (arith, s .behind, s .placed, ap length (front-snoc (s .fs) (s .a)), length-append (front (s .fs)) (4 ∷ cells (s .a)));
     rest = s .rest;
     at = s .at;

@@ -11,9 +11,9 @@ use Rattle.aut68.specs.Substitution.{instantiate}
 use Rattle.aut68.specs.Lines.{Line, Lines, abbreviation, kindCells}
 use Rattle.aut68.specs.Rules.Names.{IsLine}
 use Rattle.aut68.specs.Procedure.HeadStep.{left}
-use Rattle.calculus.specs.Scoped.{Scoped}
-use Rattle.calculus.specs.CategoryScoped.{known-head}
-use Rattle.calculus.specs.Resolved.{Known}
+use Rattle.calculus.specs.Scoped.{Scoped, scoped-category}
+use Rattle.calculus.specs.Known.{known-category-head}
+use Rattle.calculus.specs.Resolved.{VariableLine, ConstantOf, KnownCategory}
 use Rattle.cells.specs.Cells.{rowCell, AllFormed, Wf, At, copyCells}
 use Rattle.cells.specs.CopyLaws.{copy-outside, copy-at}
 use Rattle.cells.specs.Forests.{at-inside, at-tail, at-front, at-second, at-one, cells-one, cells-long, size-is-length, sizes-is-length}
@@ -141,7 +141,9 @@ unfolded-law {tb} {ts} {w} {limit = limit} {at} {v} {count = count} {result} sma
       let S = B .stored .cellsOf j in
       let e : kindCells (l .kind) ≡ cells m = ap kindCells g in
       let long : length (cells m) ≤ limit = omega (arith, B .middleSize j, ap length e) in
-      let known : Known ls k (instantiate (l .context) xs 0 m) = known-head ls (B .resolved) k (const v xs) _ (ap left (const-unfolds ls v xs j g)) W in
+      let known : KnownCategory ls k (instantiate (l .context) xs 0 m) =
+      known-category-head ls (B .resolved) k (const v xs) _ (ap left (const-unfolds ls v xs j g)) (scoped-category (VariableLine ls) (ConstantOf ls) k (const v xs) W)
+      in
       let E = result-inside limit in
       let U = scratch-below-result limit in
       let n : countExprs xs ≡ count = right-count (B .rows) v (countExprs xs) (W .0) ∙ sym ec in

@@ -6,13 +6,13 @@ use mathlib.Core.List.{List, _++_, append-assoc}
 use Prim.Native.Nat.{ℕ, suc, _+_, _-_, _*_, _≤_, _<_}
 use native.Mathlib.Omega.{arith}
 use lib.ListN.{length, drop}
-use Rattle.aut68.specs.Expr.{Expr, Exprs, type, const, app, abs, nil, cons, size, cells}
+use Rattle.aut68.specs.Expr.{Expr, Exprs, const, app, abs, size, cells}
 use Rattle.aut68.specs.Substitution.{substitute, instantiate}
 use Rattle.aut68.specs.Lines.{Lines}
-use Rattle.aut68.specs.Procedure.HeadStep.{left}
-use Rattle.calculus.specs.Scoped.{Scoped}
-use Rattle.calculus.specs.CategoryScoped.{known-head}
-use Rattle.calculus.specs.Resolved.{Known, KnownCategory}
+use Rattle.aut68.specs.Procedure.HeadStep.{headStep, left}
+use Rattle.calculus.specs.Scoped.{Scoped, scoped-category}
+use Rattle.calculus.specs.Known.{known-category-head}
+use Rattle.calculus.specs.Resolved.{VariableLine, ConstantOf, Known, KnownCategory}
 use Rattle.cells.specs.Cells.{rowCell, At, Outside, moveCells}
 use Rattle.cells.specs.CopyLaws.{move-outside, move-at}
 use Rattle.cells.specs.Forests.{at-front, at-second, size-is-length}
@@ -23,7 +23,7 @@ use Rattle.terms.specs.Unchanged.{instantiate-empty}
 use Rattle.reduction.specs.Book.{Book, known-wf}
 use Rattle.reduction.specs.Depths.{substituted-below}
 use Rattle.reduction.specs.Frames.{Lies, framed-same, framed-then, framed-more, quiet-framed, outside-framed, at-framed}
-use Rattle.reduction.specs.Heads.{HeadIs, no-head, contraction, unfolding-of, applied, front, cells-applied, size-applied, known-applied, app-contracts}
+use Rattle.reduction.specs.Heads.{HeadIs, no-head, contraction, unfolding-of, applied, front, cells-applied, size-applied, known-applied, stepped-known, app-contracts}
 use Rattle.reduction.specs.Posts.{ContractedPost, UnfoldedPost, InPlacePost, Redex, RedexPost, Stepped, StepPost}
 use Rattle.reduction.specs.declared.heads.Head.{Head}
 use Rattle.reduction.proofs.PutLaws.{scratch-below-result, result-inside}
@@ -33,15 +33,9 @@ at-join : {w : List ℕ} {i : ℕ} (xs ys : List ℕ) {rest rest′ : List ℕ} 
 at-join xs ys {rest′ = rest′} a b =
     record { is = a .is ∙ ap (λ (l : List ℕ). xs ++ l) (at-rest a ∙ b .is) ∙ sym (append-assoc xs ys rest′) }
 
--- what is left of a known expression that is no `type` is known
-known-redex : (ls : Lines) (k : ℕ) (fs : Exprs) (h : Expr) {e : Expr} → e ≡ applied fs h → (h ≡ type → ⊥) → KnownCategory ls k e → Known ls k h
-unfolding applied
-known-redex ls k fs h w n (inr K) = known-applied ls k fs h (subst (Known ls k) w K)
-known-redex ls k fs h w n (inl q) = absurd (go fs (sym w ∙ q))
-  where
-    go : (fs : Exprs) → applied fs h ≡ type → ⊥
-    go nil q = n q
-    go (cons a gs) q = let z : _≡_ {A = ℕ} 0 1 = cc in omega arith
+-- the redex of a known category is known
+known-redex : (ls : Lines) (k : ℕ) (fs : Exprs) (h : Expr) {e n : Expr} → e ≡ applied fs h → left (headStep ls e) ≡ some n → KnownCategory ls k e → Known ls k h
+known-redex ls k fs h {e} {n} w q K = known-applied ls k fs h (subst (Known ls k) w (stepped-known ls k e n q K))
 
 -- where the redex lies
 redex-at : {w : List ℕ} {start at : ℕ} {e : Expr} {rest : List ℕ} (fs : Exprs) (h : Expr) → e ≡ applied fs h → at ≡ start + length (front fs) → At w start (cells e) rest
@@ -69,7 +63,7 @@ module _ {tb ts w w′ : List ℕ} {limit : ℕ} (h : Head) {room r : ℕ} where
       go l m B k e K z s a u n (no-head q o) = absurd (n o)
       go l m B k e K z s a u n (unfolding-of fs xs q x y i g t o p d) = absurd (omega arith)
       go l m {ls} B k e K z s a u n (contraction fs x p t q i o d f) =
-          let W = known-redex ls k fs (app x (abs p t)) q (λ v. let z : _≡_ {A = ℕ} 0 1 = cc in omega arith) K in
+          let W = known-redex ls k fs (app x (abs p t)) q (ap left i) K in
           let S = redex-size fs (app x (abs p t)) q in
           record {
             fs = fs;
@@ -81,7 +75,7 @@ module _ {tb ts w w′ : List ℕ} {limit : ℕ} (h : Head) {room r : ℕ} where
             stands = C .made l m x p t (known-wf (B .rows) k x (W .0)) (known-wf (B .rows) k p (W .1 .0)) (known-wf (B .rows) (suc k) t (W .1 .1))
                 (redex-at fs (app x (abs p t)) q d a)
                 (omega arith)
-                (substituted-below ls (B .few) k x t (known-head ls (B .resolved) k (app x (abs p t)) _ (ap left (app-contracts ls x p t)) W) z (omega (arith, B .limit)) (omega (arith, B .limit)));
+                (substituted-below ls (B .few) k x t (known-category-head ls (B .resolved) k (app x (abs p t)) _ (ap left (app-contracts ls x p t)) (scoped-category (VariableLine ls) (ConstantOf ls) k (app x (abs p t)) W)) z (omega (arith, B .limit)) (omega (arith, B .limit)));
           }
 
   pub unfolded-redex : (h .kind ≡ 1 → ⊥) → UnfoldedPost tb ts w w′ limit (h .at) (h .line) room r → RedexPost tb ts w w′ limit h room r
@@ -97,7 +91,7 @@ module _ {tb ts w w′ : List ℕ} {limit : ℕ} (h : Head) {room r : ℕ} where
       go l m B k e K z s a u n (no-head q o) = absurd (n o)
       go l m B k e K z s a u n (contraction fs x p t q i o d f) = absurd (two o)
       go l m {ls} B k e K z s a u n (unfolding-of fs xs line x q j g i o d f) =
-          let W = known-redex ls k fs (const (h .line) xs) q (λ v. let z : _≡_ {A = ℕ} 0 1 = cc in omega arith) K in
+          let W = known-redex ls k fs (const (h .line) xs) q (ap left i) K in
           let S = redex-size fs (const (h .line) xs) q in
           record {
             fs = fs;

@@ -1,13 +1,12 @@
 -- The lines before the one at hand, as the check relies on them, and what follows for expressions over them.
-use mathlib.Core.Path.{sym, subst, _∙_}
-use mathlib.Core.Logic.{inl, inr}
+use mathlib.Core.Path.{sym, _∙_}
 use mathlib.Core.List.{List}
 use Prim.Native.Nat.{ℕ, suc, _≤_, _<_}
 use lib.ListN.{length}
-use Rattle.aut68.specs.Expr.{Expr, Exprs, type, var, bound, const, app, abs, nil, cons, size, countExprs}
+use Rattle.aut68.specs.Expr.{Expr, Exprs, type, prop, var, bound, const, app, abs, nil, cons, size, countExprs}
 use Rattle.aut68.specs.Lines.{Line, Lines, kindCells}
 use Rattle.aut68.specs.Rules.Names.{IsLine, Context}
-use Rattle.calculus.specs.Scoped.{Scoped, AllScoped}
+use Rattle.calculus.specs.Scoped.{Scoped, AllScoped, ScopedCategory}
 use Rattle.calculus.specs.Resolved.{ConstantOf, Known, AllKnown, KnownCategory, ResolvedLines}
 use Rattle.cells.specs.Cells.{Formed, AllFormed, AnyVariable, RightCount, Wf, Wfs}
 use Rattle.cells.specs.Rows.{Rows, Stored}
@@ -31,6 +30,7 @@ module _ (X X′ : ℕ → Type 0) (C C′ : ℕ → ℕ → Type 0) (f : (v : �
 
     pub scoped-formed : (k : ℕ) (e : Expr) → Scoped X C k e → Formed X′ C′ e
     scoped-formed k type w = tt
+    scoped-formed k prop w = tt
     scoped-formed k (var v) w = f v w
     scoped-formed k (bound i) w = tt
     scoped-formed k (const v xs) w = (g v (countExprs xs) (w .0), all-formed k xs (w .1))
@@ -40,6 +40,16 @@ module _ (X X′ : ℕ → Type 0) (C C′ : ℕ → ℕ → Type 0) (f : (v : �
     pub all-formed : (k : ℕ) (es : Exprs) → AllScoped X C k es → AllFormed X′ C′ es
     all-formed k nil w = tt
     all-formed k (cons a xs) w = (scoped-formed k a (w .0), all-formed k xs (w .1))
+
+  pub category-formed : (k : ℕ) (e : Expr) → ScopedCategory X C k e → Formed X′ C′ e
+  unfolding ScopedCategory Formed
+  category-formed k type w = tt
+  category-formed k prop w = tt
+  category-formed k (var v) w = f v w
+  category-formed k (bound i) w = tt
+  category-formed k (const v xs) w = (g v (countExprs xs) (w .0), all-formed k xs (w .1))
+  category-formed k (app a b) w = (scoped-formed k a (w .0), scoped-formed k b (w .1))
+  category-formed k (abs p t) w = (scoped-formed k p (w .0), category-formed (suc k) t (w .1))
 
 -- a constant's row has the count of its arguments
 pub right-count : {ls : Lines} {tb : List ℕ} → Rows ls tb → (v n : ℕ) → ConstantOf ls v n → RightCount tb v n
@@ -53,6 +63,4 @@ module _ {ls : Lines} {tb : List ℕ} (R : Rows ls tb) where
   all-known-wf k es w = all-formed _ AnyVariable (ConstantOf ls) (RightCount tb) (λ v x. tt) (right-count R) k es w
 
   pub category-wf : (k : ℕ) (c : Expr) → KnownCategory ls k c → Wf tb c
-  unfolding Formed
-  category-wf k c (inl e) = subst (Wf tb) (sym e) tt
-  category-wf k c (inr w) = known-wf k c w
+  category-wf k c w = category-formed _ AnyVariable (ConstantOf ls) (RightCount tb) (λ v x. tt) (right-count R) k c w

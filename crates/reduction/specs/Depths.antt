@@ -8,12 +8,12 @@ use Prim.Native.Nat.{ℕ, suc, _+_, _-_, _*_, _≤_, _<_}
 use native.Mathlib.Omega.{arith}
 use lib.Dec.{eqb}
 use lib.ListN.{length}
-use Rattle.aut68.specs.Expr.{Expr, Exprs, type, var, bound, const, app, abs, nil, cons, size, sizes, cells, cellss}
+use Rattle.aut68.specs.Expr.{Expr, Exprs, type, prop, var, bound, const, app, abs, nil, cons, size, sizes, cells, cellss}
 use Rattle.aut68.specs.Substitution.{lift, lifts, substituteBound, substitute, substitutes, argumentFor, instantiateVariable, instantiate, instantiates}
 use Rattle.aut68.specs.Lines.{Lines}
 use Rattle.lookup.specs.LineNumbers.{line-within}
-use Rattle.calculus.specs.Scoped.{Scoped, AllScoped}
-use Rattle.calculus.specs.Resolved.{VariableLine, ConstantOf, Known}
+use Rattle.calculus.specs.Scoped.{Scoped, AllScoped, ScopedCategory}
+use Rattle.calculus.specs.Resolved.{VariableLine, ConstantOf, KnownCategory}
 use Rattle.cells.specs.Cells.{Below}
 use Rattle.cells.specs.Forests.{size-positive}
 
@@ -21,6 +21,7 @@ use Rattle.cells.specs.Forests.{size-positive}
 unfoldable mutual
   pub Deep : ℕ → Expr → Type 0
   Deep d type = Unit {0}
+  Deep d prop = Unit {0}
   Deep d (var v) = Unit {0}
   Deep d (bound i) = Unit {0}
   Deep d (const v xs) = AllDeep d xs
@@ -36,6 +37,7 @@ mutual
 
   pub deep-more : {c d : ℕ} → c ≤ d → (e : Expr) → Deep c e → Deep d e
   deep-more l type h = tt
+  deep-more l prop h = tt
   deep-more l (var v) h = tt
   deep-more l (bound i) h = tt
   deep-more l (const v xs) h = all-deep-more l xs h
@@ -52,6 +54,7 @@ mutual
 
   pub deep-size : (d : ℕ) (e : Expr) → size e ≤ 2 * d + 1 → Deep d e
   deep-size d type h = tt
+  deep-size d prop h = tt
   deep-size d (var v) h = tt
   deep-size d (bound i) h = tt
   deep-size d (const v xs) h = all-deep-size d xs (omega arith)
@@ -73,6 +76,7 @@ mutual
 
   pub deep-lift : (d j c : ℕ) (e : Expr) → Deep d e → Deep d (lift j c e)
   deep-lift d j c type h = tt
+  deep-lift d j c prop h = tt
   deep-lift d j c (var v) h = tt
   deep-lift d j c (bound i) h = tt
   deep-lift d j c (const v xs) h = all-deep-lift d j c xs h
@@ -93,6 +97,7 @@ mutual
 
   pub deep-substitute : (x y : ℕ) (a : Expr) (j : ℕ) (t : Expr) → Deep x a → Deep y t → Deep (x + y) (substitute a j t)
   deep-substitute x y a j type h k = tt
+  deep-substitute x y a j prop h k = tt
   deep-substitute x y a j (var v) h k = tt
   deep-substitute x y a j (bound i) h k = deep-more (omega arith) (substituteBound a j i) (deep-hit x a j i h (eqb i j) refl)
   deep-substitute x y a j (const v xs) h k = all-deep-substitute x y a j xs h k
@@ -124,6 +129,7 @@ mutual
 
   pub deep-instantiate : (x y : ℕ) (vs : List ℕ) (xs : Exprs) (j : ℕ) (m : Expr) → AllDeep x xs → Deep y m → Deep (x + y) (instantiate vs xs j m)
   deep-instantiate x y vs xs j type h k = tt
+  deep-instantiate x y vs xs j prop h k = tt
   deep-instantiate x y vs xs j (var v) h k =
       deep-more (omega arith) (instantiateVariable (argumentFor v vs xs) j v) (deep-argument x v vs xs j h (argumentFor v vs xs) refl)
   deep-instantiate x y vs xs j (bound i) h k = tt
@@ -153,6 +159,7 @@ module _ (X : ℕ → Type 0) (C : ℕ → ℕ → Type 0) (n : ℕ) (f : (v : �
 
     pub deep-below : (k d : ℕ) (e : Expr) → Scoped X C k e → Deep d e → k + d ≤ n → Below (8 * n) (cells e)
     deep-below k d type w h l = absurd w
+    deep-below k d prop w h l = absurd w
     deep-below k d (var v) w h l = let m = f v w in (omega arith, tt)
     deep-below k d (bound i) w h l = (omega arith, tt)
     deep-below k d (const v xs) w h l = let m = g v _ (w .0) in (omega arith, all-deep-below k d xs (w .1) h l)
@@ -168,31 +175,45 @@ module _ (X : ℕ → Type 0) (C : ℕ → ℕ → Type 0) (n : ℕ) (f : (v : �
     all-deep-below k d (cons a xs) w h l =
         below-append (8 * n) (cells a) (cellss xs) (deep-below k d a (w .0) (h .0) l) (all-deep-below k d xs (w .1) (h .1) l)
 
--- ---- known expressions
+  pub category-below : (k d : ℕ) (e : Expr) → ScopedCategory X C k e → Deep d e → k + d ≤ n → Below (8 * n) (cells e)
+  unfolding ScopedCategory Deep cells Below
+  category-below k d type w h l = (omega arith, tt)
+  category-below k d prop w h l = (omega arith, tt)
+  category-below k d (var v) w h l = let m = f v w in (omega arith, tt)
+  category-below k d (bound i) w h l = (omega arith, tt)
+  category-below k d (const v xs) w h l = let m = g v _ (w .0) in (omega arith, all-deep-below k d xs (w .1) h l)
+  category-below k d (app a b) w h l =
+      let q = below-append (8 * n) (cells a) (cells b) (deep-below k d a (w .0) (h .0) l) (deep-below k d b (w .1) (h .1) l) in
+      (omega arith, q)
+  category-below k d (abs p t) w h l =
+      let q = below-append (8 * n) (cells p) (cells t) (deep-below k d p (w .0) (h .0) l) (category-below (suc k) (d - 1) t (w .1) (h .2) (omega arith)) in
+      (omega arith, q)
+
+-- ---- known categories
 
 module _ (ls : Lines) (few : length ls < 8192) where
   line-small : (v : ℕ) → v ≤ length ls → v < 8192
   line-small v r = omega arith
 
-  pub known-below : (k d : ℕ) (e : Expr) → Known ls k e → Deep d e → k + d ≤ 8192 → Below 65536 (cells e)
+  pub known-below : (k d : ℕ) (e : Expr) → KnownCategory ls k e → Deep d e → k + d ≤ 8192 → Below 65536 (cells e)
   known-below k d e w h l =
-      deep-below (VariableLine ls) (ConstantOf ls) 8192 (λ v x. line-small v (line-within (x .isLine))) (λ v n x. line-small v (line-within (x .isLine))) (omega arith)
+      category-below (VariableLine ls) (ConstantOf ls) 8192 (λ v x. line-small v (line-within (x .isLine))) (λ v n x. line-small v (line-within (x .isLine))) (omega arith)
       k d e w h l
 
   -- by its size alone
-  pub known-sized : (k : ℕ) (e : Expr) → Known ls k e → k + size e ≤ 8192 → Below 65536 (cells e)
+  pub known-sized : (k : ℕ) (e : Expr) → KnownCategory ls k e → k + size e ≤ 8192 → Below 65536 (cells e)
   known-sized k e w h = known-below k (size e) e w (deep-size (size e) e (omega arith)) h
 
   -- what is made of two such, or of one with such arguments
-  pub substituted-below : (k : ℕ) (a t : Expr) → Known ls k (substitute a 0 t) → k ≤ 4096 → size a ≤ 4096 → size t ≤ 4096 → Below 65536 (cells (substitute a 0 t))
+  pub substituted-below : (k : ℕ) (a t : Expr) → KnownCategory ls k (substitute a 0 t) → k ≤ 4096 → size a ≤ 4096 → size t ≤ 4096 → Below 65536 (cells (substitute a 0 t))
   substituted-below k a t w h x y =
       known-below k 4096 (substitute a 0 t) w (deep-substitute 2048 2048 a 0 t (deep-size 2048 a (omega arith)) (deep-size 2048 t (omega arith))) (omega arith)
 
-  pub instantiated-below : (k : ℕ) (vs : List ℕ) (xs : Exprs) (m : Expr) → Known ls k (instantiate vs xs 0 m) → k ≤ 4096 → sizes xs ≤ 4096 → size m ≤ 4096
+  pub instantiated-below : (k : ℕ) (vs : List ℕ) (xs : Exprs) (m : Expr) → KnownCategory ls k (instantiate vs xs 0 m) → k ≤ 4096 → sizes xs ≤ 4096 → size m ≤ 4096
       → Below 65536 (cells (instantiate vs xs 0 m))
   instantiated-below k vs xs m w h x y =
       known-below k 4096 (instantiate vs xs 0 m) w
       (deep-instantiate 2048 2048 vs xs 0 m (all-deep-size 2048 xs (omega arith)) (deep-size 2048 m (omega arith))) (omega arith)
 
-  pub lifted-below : (k d : ℕ) (e : Expr) → Known ls k (lift d 0 e) → k ≤ 4096 → size e ≤ 4096 → Below 65536 (cells (lift d 0 e))
+  pub lifted-below : (k d : ℕ) (e : Expr) → KnownCategory ls k (lift d 0 e) → k ≤ 4096 → size e ≤ 4096 → Below 65536 (cells (lift d 0 e))
   lifted-below k d e w h l = known-below k 2048 (lift d 0 e) w (deep-lift 2048 d 0 e (deep-size 2048 e (omega arith))) (omega arith)

@@ -1,19 +1,17 @@
 -- Where the head step of an expression lies: <A1>..<An>H with the redex H, or <An>H, behind some of the A's.
 use mathlib.Core.Path.{_≡_, refl, sym, ap, _∙_}
-use mathlib.Core.Logic.{inl, inr}
 use mathlib.Core.Option.{some, Option·none-ne-some}
 use mathlib.Core.List.{List, [], _∷_, _++_, append-nil, append-assoc}
 use Prim.Native.Nat.{ℕ, _+_}
 use lib.ListN.{length, length-append}
-use Rattle.aut68.specs.Expr.{Expr, Exprs, const, app, abs, nil, cons, snoc, size, cells, shape, other}
+use Rattle.aut68.specs.Expr.{Expr, Exprs, type, prop, var, bound, const, app, abs, nil, cons, snoc, size, cells, shape, other}
 use Rattle.aut68.specs.Substitution.{substitute, instantiate}
 use Rattle.aut68.specs.Lines.{Line, Lines, Kind, variable, primitive, abbreviation, lineOf}
 use Rattle.aut68.specs.Rules.Names.{IsLine}
 use Rattle.aut68.specs.Procedure.HeadStep.{Head, noStep, beta, delta, under, headStep, left}
 use Rattle.lookup.specs.LineNumbers.{line-lineOf}
-use Rattle.calculus.specs.Scoped.{Scoped}
-use Rattle.calculus.specs.CategoryScoped.{known-head}
-use Rattle.calculus.specs.Resolved.{Known, KnownCategory, ResolvedLines}
+use Rattle.calculus.specs.Scoped.{Scoped, ScopedCategory}
+use Rattle.calculus.specs.Resolved.{Known, KnownCategory}
 use Rattle.cells.specs.Forests.{size-is-length}
 
 -- <A1>..<An>h
@@ -41,14 +39,16 @@ unfolding applied Scoped
 known-applied ls k nil h w = w
 known-applied ls k (cons a fs) h w = known-applied ls k fs h (w .1)
 
--- `type` has no head step; what has one is known, and so is what the step leaves
+-- a category that has a head step is known
 pub stepped-known : (ls : Lines) (k : ℕ) (e n : Expr) → left (headStep ls e) ≡ some n → KnownCategory ls k e → Known ls k e
-unfolding headStep left
-stepped-known ls k e n q (inr w) = w
-stepped-known ls k e n q (inl t) = absurd (Option·none-ne-some n (sym (ap (λ (y : Expr). left (headStep ls y)) t) ∙ q))
-
-pub known-after : (ls : Lines) → ResolvedLines ls → (k : ℕ) (e n : Expr) → left (headStep ls e) ≡ some n → KnownCategory ls k e → Known ls k n
-known-after ls W k e n q K = known-head ls W k e n q (stepped-known ls k e n q K)
+unfolding headStep left Scoped ScopedCategory
+stepped-known ls k type n q w = absurd (Option·none-ne-some n q)
+stepped-known ls k prop n q w = absurd (Option·none-ne-some n q)
+stepped-known ls k (var v) n q w = w
+stepped-known ls k (bound i) n q w = w
+stepped-known ls k (const v xs) n q w = w
+stepped-known ls k (app a b) n q w = w
+stepped-known ls k (abs p t) n q w = absurd (Option·none-ne-some n q)
 
 -- one A more, the innermost
 pub applied-snoc : (fs : Exprs) (a h : Expr) → applied (snoc fs a) h ≡ applied fs (app a h)

@@ -13,11 +13,11 @@ use Rattle.aut68.specs.Rules.Names.{IsLine, Member, here, there, Context, noCon
 use Rattle.lookup.specs.LineNumbers.{line-unique}
 use Rattle.lookup.specs.Lists.{member-snoc}
 use Rattle.lookup.specs.Contexts.{context-unique, context-nested}
-use Rattle.calculus.specs.Scoped.{scoped-map}
+use Rattle.calculus.specs.Scoped.{category-map}
 use Rattle.calculus.specs.Resolved.{VariableOf, ConstantOf, Resolved, ResolvedCategory}
 use Rattle.cells.specs.Cells.{Formed, RightCount}
 use Rattle.terms.specs.Made.{argumentAt, Numbered}
-use Rattle.reduction.specs.Book.{Book, scoped-formed, right-count}
+use Rattle.reduction.specs.Book.{Book, scoped-formed, category-formed, right-count}
 
 -- u stands in vs behind the variables `before`, and not among them
 pub record Place (u : ℕ) (vs before : List ℕ) : Type 0 where
@@ -82,19 +82,18 @@ module _ {ls : Lines} {L : ℕ} {tb ts : List ℕ} (B : Book ls L tb ts) where
   pub middle-numbered : {v : ℕ} {l : Line} → IsLine ls v l → (xs : Exprs) (m : Expr) → l .kind ≡ abbreviation m → Formed (Numbered tb (l .context) xs) (RightCount tb) m
   middle-numbered i xs m e = resolved-numbered (B .contexts i) xs 0 m (B .resolved .at i .middle m e)
 
-  category-formed : (vs : List ℕ) (xs : Exprs) (c : Expr) → (Resolved ls vs 0 c → Formed (Numbered tb vs xs) (RightCount tb) c) → ResolvedCategory ls vs c
-      → Formed (Numbered tb vs xs) (RightCount tb) c
-  unfolding Formed
-  category-formed vs xs c f (inl e) = subst (Formed (Numbered tb vs xs) (RightCount tb)) (sym e) tt
-  category-formed vs xs c f (inr w) = f w
+  pub written-numbered : {v : ℕ} {vs : List ℕ} → Context ls v vs → (xs : Exprs) (c : Expr) → ResolvedCategory ls vs c → Formed (Numbered tb vs xs) (RightCount tb) c
+  written-numbered {vs = vs} c xs e w =
+      category-formed (VariableOf ls vs) (Numbered tb vs xs) (ConstantOf ls) (RightCount tb) (variable-numbered c xs) (right-count (B .rows)) 0 e w
 
   pub category-numbered : {v : ℕ} {l : Line} → IsLine ls v l → (xs : Exprs) → Formed (Numbered tb (l .context) xs) (RightCount tb) (l .category)
-  category-numbered {l = l} i xs = category-formed (l .context) xs (l .category) (resolved-numbered (B .contexts i) xs 0 (l .category)) (B .resolved .at i .category)
+  category-numbered {l = l} i xs = written-numbered (B .contexts i) xs (l .category) (B .resolved .at i .category)
 
   -- the category of a variable of the line's context
   pub wanted-numbered : {v u : ℕ} {l k : Line} → IsLine ls v l → Member u (l .context) → IsLine ls u k → (xs : Exprs)
       → Formed (Numbered tb (l .context) xs) (RightCount tb) (k .category)
-  wanted-numbered {l = l} {k} i m j xs = go (B .resolved .at j .category)
+  wanted-numbered {l = l} {k} i m j xs =
+      written-numbered (B .contexts i) xs (k .category) (category-map _ _ _ _ wider (λ v n x. x) 0 (k .category) (B .resolved .at j .category))
     where
       wider : (w : ℕ) → VariableOf ls (k .context) w → VariableOf ls (l .context) w
       wider w x = record {
@@ -103,7 +102,3 @@ module _ {ls : Lines} {L : ℕ} {tb ts : List ℕ} (B : Book ls L tb ts) where
         isVariable = x .isVariable;
         inContext = context-nested (λ v l z. B .contexts z) (B .contexts i) _ w k m j (x .inContext);
       }
-
-      go : ResolvedCategory ls (k .context) (k .category) → Formed (Numbered tb (l .context) xs) (RightCount tb) (k .category)
-      go (inl e) = category-formed (l .context) xs (k .category) (resolved-numbered (B .contexts i) xs 0 (k .category)) (inl e)
-      go (inr w) = resolved-numbered (B .contexts i) xs 0 (k .category) (scoped-map _ _ _ _ wider (λ v n x. x) 0 (k .category) w)

@@ -9,9 +9,9 @@ use Rattle.aut68.specs.Expr.{Expr, Exprs, const, app, abs, size, cells, cellss,
 use Rattle.aut68.specs.Substitution.{substitute, instantiate}
 use Rattle.aut68.specs.Lines.{Line, Lines, abbreviation}
 use Rattle.aut68.specs.Rules.Names.{IsLine}
-use Rattle.aut68.specs.Procedure.Answer.{Refusal, stop, codeOf}
+use Rattle.aut68.specs.Procedure.Answer.{Refusal, done, stop, codeOf}
 use Rattle.aut68.specs.Procedure.HeadStep.{noStep, headStep, left}
-use Rattle.aut68.specs.Procedure.Category.{toFunction}
+use Rattle.aut68.specs.Procedure.Category.{headForm, toFunction}
 use Rattle.aut68.specs.Procedure.Category
 use Rattle.calculus.specs.Resolved.{Known, KnownCategory}
 use Rattle.cells.specs.Cells.{rowCell, Wf, Wfs, At, Below, Outside}
@@ -121,11 +121,11 @@ abbrev pub ShapePost : List ℕ → List ℕ → ℕ → Shape → Type 0
 ShapePost tb w at (Abstraction d b) = (getD w at 0 ≡ 5) × (d ≡ at + 1) × Skipped tb w (at + 1) 1 b
 ShapePost tb w at Other = at < length w → getD w at 0 ≡ 5 → ⊥
 
--- c has come to g, which has no head step; or the procedure stops on the way
+-- c has come to its head form g, which has no head step; or the procedure stops on the way
 pub data FormIs (ls : Lines) (limit k at : ℕ) (c : Expr) (budget : ℕ) (w′ : List ℕ) (code size′ budget′ : ℕ) : Type 0 where
   normal : (g : Expr) → code ≡ 0 → headStep ls g ≡ noStep → KnownCategory ls k g → size g ≤ limit → size′ ≡ size g → Lies w′ at g
-      → toFunction ls limit c budget ≡ toFunction ls limit g budget′ → FormIs ls limit k at c budget w′ code size′ budget′
-  refused : (r : Refusal) → code ≡ codeOf r → toFunction ls limit c budget ≡ stop r budget′ → FormIs ls limit k at c budget w′ code size′ budget′
+      → headForm ls limit c budget ≡ done g budget′ → FormIs ls limit k at c budget w′ code size′ budget′
+  refused : (r : Refusal) → code ≡ codeOf r → headForm ls limit c budget ≡ stop r budget′ → FormIs ls limit k at c budget w′ code size′ budget′
 
 pub record FormPost (tb ts w w′ : List ℕ) (limit budget at n code size′ budget′ : ℕ) : Type 0 where
   pub framed : Framed (unitAt limit scratchUnit) at (at + limit) w w′
@@ -134,7 +134,7 @@ pub record FormPost (tb ts w w′ : List ℕ) (limit budget at n code size′ bu
 
 -- the abstraction f lies at `at`, of r .size cells, its domain and its body where r says
 pub record FunctionAt (ls : Lines) (limit k at : ℕ) (w′ : List ℕ) (r : Function) (f : Category.Function) : Type 0 where
-  pub known : Known ls k (abs (f .domain) (f .body))
+  pub known : KnownCategory ls k (abs (f .domain) (f .body))
   pub lies : Lies w′ at (abs (f .domain) (f .body))
   pub small : size (abs (f .domain) (f .body)) ≤ limit
   pub sizeIs : r .size ≡ size (abs (f .domain) (f .body))

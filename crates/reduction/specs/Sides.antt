@@ -5,7 +5,7 @@ use mathlib.Core.List.{List}
 use Prim.Native.Nat.{ℕ, _+_, _*_}
 use native.Mathlib.Omega.{arith}
 use borrow.Author.Tests.{eq-eqb}
-use Rattle.aut68.specs.Expr.{Expr, Exprs, type, var, bound, const, app, abs, nil, cons, size, cells, firstCell, parts, firstPart, secondPart, identical, identicals}
+use Rattle.aut68.specs.Expr.{Expr, Exprs, type, prop, var, bound, const, app, abs, nil, cons, size, cells, firstCell, parts, firstPart, secondPart, identical, identicals}
 use Rattle.calculus.specs.Shapes.{identical-same}
 use Rattle.cells.specs.Cells.{At, Wf, sameCells}
 use Rattle.cells.specs.SameCells.{same-cells-same, same-cells-differ}
@@ -18,6 +18,7 @@ mutual
 
   pub identical-self : (e : Expr) → identical e e ≡ true
   identical-self type = refl
+  identical-self prop = refl
   identical-self (var v) = eq-eqb (8 * v + 1) (8 * v + 1) refl
   identical-self (bound i) = eq-eqb (8 * i + 2) (8 * i + 2) refl
   identical-self (const v xs) = both (eq-eqb (8 * v + 3) (8 * v + 3) refl) (identicals-self xs)

@@ -10,6 +10,7 @@ use lib.Dec.{eqb, leb}
 use lib.ListN.{length, getD, take, drop, drop-of-length-le}
 use lib.Seq.{drop-cons, take-suc, drop-append-le, slice, slice-empty, length-slice, length-take-le, take-nil}
 use borrow.Author.Tests.{eq-eqb, ne-eqb, eqb-true, eqb-false, le-leb, lt-leb}
+use Rattle.aut68.specs.Language.{aut68}
 use Rattle.aut68.specs.Bytes.{Bytes, nameByte, sameBytes, reserved, wordType, wordPN, wordEB}
 use Rattle.aut68.specs.Procedure.Answer.{done, stop, malformed}
 use Rattle.aut68.specs.Procedure.Parse.{spaces, byte, symbol, wordOf, afterWord, wordAhead, nameFits, aName}
@@ -327,35 +328,35 @@ lengths-differ (x ∷ xs) (y ∷ ys) n = split (eqb x y) (lengths-differ xs ys (
 
 -- ---- the three words
 
-pub reserved-type : (w : Bytes) → sameBytes w wordType ≡ true → reserved w ≡ true
+pub reserved-type : (w : Bytes) → sameBytes w wordType ≡ true → reserved aut68 w ≡ true
 unfolding reserved
 reserved-type w e = rw e
 
-pub reserved-PN : (w : Bytes) → sameBytes w wordType ≡ false → sameBytes w wordPN ≡ true → reserved w ≡ true
+pub reserved-PN : (w : Bytes) → sameBytes w wordType ≡ false → sameBytes w wordPN ≡ true → reserved aut68 w ≡ true
 unfolding reserved
 reserved-PN w e f = rw (e, f)
 
-pub reserved-EB : (w : Bytes) → sameBytes w wordType ≡ false → sameBytes w wordPN ≡ false → reserved w ≡ sameBytes w wordEB
+pub reserved-EB : (w : Bytes) → sameBytes w wordType ≡ false → sameBytes w wordPN ≡ false → reserved aut68 w ≡ sameBytes w wordEB
 unfolding reserved
 reserved-EB w e f = rw (e, f)
 
 -- ---- names
 
-fits-name : (w : Bytes) → length w ≢ 0 → length w ≤ 32 → reserved w ≡ false → nameFits w ≡ true
+fits-name : (w : Bytes) → length w ≢ 0 → length w ≤ 32 → reserved aut68 w ≡ false → nameFits aut68 w ≡ true
 unfolding nameFits
 fits-name w n l e = rw (le-leb 1 (length w) (omega arith), le-leb (length w) 32 l, e)
 
-empty-fits-not : (w : Bytes) → length w ≡ 0 → nameFits w ≡ false
+empty-fits-not : (w : Bytes) → length w ≡ 0 → nameFits aut68 w ≡ false
 unfolding nameFits
 empty-fits-not w e = rw (lt-leb 1 (length w) (omega arith))
 
-long-fits-not : (w : Bytes) → 32 < length w → nameFits w ≡ false
+long-fits-not : (w : Bytes) → 32 < length w → nameFits aut68 w ≡ false
 unfolding nameFits
 long-fits-not w l = rw (le-leb 1 (length w) (omega arith), lt-leb (length w) 32 l)
 
-reserved-fits-not : (w : Bytes) → reserved w ≡ true → nameFits w ≡ false
+reserved-fits-not : (w : Bytes) → reserved aut68 w ≡ true → nameFits aut68 w ≡ false
 unfolding nameFits
-reserved-fits-not w e = split (leb 1 (length w)) (leb (length w) 32) (reserved w) e
+reserved-fits-not w e = split (leb 1 (length w)) (leb (length w) 32) (reserved aut68 w) e
   where
     split : (t u v : Bool) → v ≡ true → (t && u && not v) ≡ false
     split t u true e = split₂ t u
@@ -366,11 +367,11 @@ reserved-fits-not w e = split (leb 1 (length w)) (leb (length w) 32) (reserved w
         split₂ false u = refl
     split t u false e = absurd (mathlib.Core.Bool.false≢true e)
 
-name-read : (bs : Bytes) → nameFits (wordAhead bs) ≡ true → aName bs ≡ done (wordAhead bs) (afterWord (spaces bs))
+name-read : (bs : Bytes) → nameFits aut68 (wordAhead bs) ≡ true → aName aut68 bs ≡ done (wordAhead bs) (afterWord (spaces bs))
 unfolding aName
 name-read bs e = rw (e, aName)
 
-name-missing : (bs : Bytes) → nameFits (wordAhead bs) ≡ false → aName bs ≡ stop malformed bs
+name-missing : (bs : Bytes) → nameFits aut68 (wordAhead bs) ≡ false → aName aut68 bs ≡ stop malformed bs
 unfolding aName
 name-missing bs e = rw (e, aName)
 
@@ -386,20 +387,20 @@ module _ {ks s : Bytes} {at start end : ℕ} (p : PastSpaces s at start) (q : Wo
   pub word-length : length (wordAhead (drop at s)) ≡ end - start
   word-length = ap length word-ahead ∙ length-slice start end s (q .within (p .within b))
 
-  pub a-name : end - start ≢ 0 → end - start ≤ 32 → reserved (slice start end s) ≡ false
-      → aName (drop at s) ≡ done (slice start end s) (drop end s)
+  pub a-name : end - start ≢ 0 → end - start ≤ 32 → reserved aut68 (slice start end s) ≡ false
+      → aName aut68 (drop at s) ≡ done (slice start end s) (drop end s)
   a-name n l r =
-      name-read (drop at s) (fits-name _ (λ e. n (sym word-length ∙ e)) (rw word-length l) (ap reserved word-ahead ∙ r))
+      name-read (drop at s) (fits-name _ (λ e. n (sym word-length ∙ e)) (rw word-length l) (ap (reserved aut68) word-ahead ∙ r))
       ∙ ap₂ done word-ahead past-word
 
-  pub no-word : end - start ≡ 0 → aName (drop at s) ≡ stop malformed (drop at s)
+  pub no-word : end - start ≡ 0 → aName aut68 (drop at s) ≡ stop malformed (drop at s)
   no-word e = name-missing (drop at s) (empty-fits-not _ (word-length ∙ e))
 
-  pub long-word : 32 < end - start → aName (drop at s) ≡ stop malformed (drop at s)
+  pub long-word : 32 < end - start → aName aut68 (drop at s) ≡ stop malformed (drop at s)
   long-word l = name-missing (drop at s) (long-fits-not _ (rw word-length l))
 
-  pub reserved-word : reserved (slice start end s) ≡ true → aName (drop at s) ≡ stop malformed (drop at s)
-  reserved-word r = name-missing (drop at s) (reserved-fits-not _ (ap reserved word-ahead ∙ r))
+  pub reserved-word : reserved aut68 (slice start end s) ≡ true → aName aut68 (drop at s) ≡ stop malformed (drop at s)
+  reserved-word r = name-missing (drop at s) (reserved-fits-not _ (ap (reserved aut68) word-ahead ∙ r))
 
 module _ {ks s : Bytes} {at start end : ℕ} (p : PastSpaces s at start) (q : WordEnd ks s start end) where
   pub name-long : at ≤ length s → 32 < end - start → NameAt ks s at start 0
@@ -412,7 +413,7 @@ module _ {ks s : Bytes} {at start end : ℕ} (p : PastSpaces s at start) (q : Wo
         missing = λ t b e. long-word p q t b l;
       }
 
-  pub name-reserved : at ≤ length s → reserved (slice start end s) ≡ true → NameAt ks s at start 0
+  pub name-reserved : at ≤ length s → reserved aut68 (slice start end s) ≡ true → NameAt ks s at start 0
   name-reserved b r =
       record {
         from = p .from;
@@ -422,7 +423,7 @@ module _ {ks s : Bytes} {at start end : ℕ} (p : PastSpaces s at start) (q : Wo
         missing = λ t b e. reserved-word p q t b r;
       }
 
-  pub name-word : at ≤ length s → end - start ≤ 32 → reserved (slice start end s) ≡ false → NameAt ks s at start (end - start)
+  pub name-word : at ≤ length s → end - start ≤ 32 → reserved aut68 (slice start end s) ≡ false → NameAt ks s at start (end - start)
   name-word b l r =
       let ends : start + (end - start) ≡ end = omega (arith, q .from) in
       record {

@@ -5,6 +5,7 @@ use mathlib.Core.List.{[], _∷_}
 use Prim.Native.Nat.{ℕ, _+_, _*_, _≤_, _<_}
 use lib.ListN.{length, getD, drop}
 use lib.Seq.{slice}
+use Rattle.aut68.specs.Language.{aut68}
 use Rattle.aut68.specs.Bytes.{Bytes}
 use Rattle.aut68.specs.Procedure.Answer.{done, stop, malformed}
 use Rattle.aut68.specs.Procedure.Parse.{spaces, symbol, wordOf, afterWord, aName}
@@ -49,5 +50,5 @@ pub record NameAt (ks s : Bytes) (at start len : ℕ) : Type 0 where
   pub from : at ≤ start
   pub ahead : at ≤ length s → drop start s ≡ spaces (drop at s)
   pub within : at ≤ length s → start + len ≤ length s
-  pub read : KindsTable ks → at ≤ length s → len ≢ 0 → aName (drop at s) ≡ done (slice start (start + len) s) (drop (start + len) s)
-  pub missing : KindsTable ks → at ≤ length s → len ≡ 0 → aName (drop at s) ≡ stop malformed (drop at s)
+  pub read : KindsTable ks → at ≤ length s → len ≢ 0 → aName aut68 (drop at s) ≡ done (slice start (start + len) s) (drop (start + len) s)
+  pub missing : KindsTable ks → at ≤ length s → len ≡ 0 → aName aut68 (drop at s) ≡ stop malformed (drop at s)

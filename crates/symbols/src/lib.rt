@@ -2,6 +2,7 @@
 ghost use mathlib.Core.Path.{_≡_};
 ghost use Prim.Native.Nat.{_+_, _≤_};
 ghost use lib.ListN.{length};
+ghost use Rattle.aut68.specs.Language.{aut68};
 ghost use Rattle.aut68.specs.Bytes.{sameBytes, reserved};
 ghost use Rattle.symbols.specs.Symbols.{PastSpaces, KindAt, PastSymbol, WordEnd, fourAt, NameAt};
 
@@ -97,7 +98,7 @@ pub fn same_bytes(a: &[u8], b: &[u8]) -> bool
 
 // Is the word one of type, PN and EB (reserved)?
 pub fn is_reserved(word: &[u8]) -> bool
-    ensures { λ r. ⌜ r ≡ reserved (now (word .entry)) ⌝ }
+    ensures { λ r. ⌜ r ≡ reserved aut68 (now (word .entry)) ⌝ }
 {
     if same_bytes(word, b"type") {
         return true;

@@ -5,7 +5,7 @@ use mathlib.Core.List.{List, [], _∷_, _++_, append-nil}
 use native.Mathlib.Numerals.{add-one}
 use native.Mathlib.Omega.{arith}
 use lib.ListN.{length, getD, take, drop}
-use Rattle.aut68.specs.Expr.{Expr, Exprs, type, var, bound, const, app, abs, nil, size, firstCell, parts, cells, cellss, countExprs}
+use Rattle.aut68.specs.Expr.{Expr, Exprs, type, prop, var, bound, const, app, abs, nil, size, firstCell, parts, cells, cellss, countExprs}
 use Rattle.aut68.specs.Substitution.{instantiate, instantiates}
 use Rattle.calculus.specs.Cutoffs.{lift-0-0}
 use Rattle.cells.specs.Cells.{rowCell, Wfs, At}
@@ -68,6 +68,7 @@ other-cells : (vs : List ℕ) (xs : Exprs) (x : ℕ) → (x % 8 ≡ 1 → ⊥) �
     → cells (instantiate vs xs 0 e) ≡ x ∷ cellss (instantiates vs xs 0 (parts e))
 unfolding instantiate instantiates parts cells cellss firstCell
 other-cells vs xs x n₁ n₅ type q = ap (λ (c : ℕ). c ∷ []) q
+other-cells vs xs x n₁ n₅ prop q = ap (λ (c : ℕ). c ∷ []) q
 other-cells vs xs x n₁ n₅ (var v) q = absurd (n₁ (omega arith))
 other-cells vs xs x n₁ n₅ (bound i) q = ap (λ (c : ℕ). c ∷ []) q
 other-cells vs xs x n₁ n₅ (const v bs) q = ap (λ (c : ℕ). c ∷ cellss (instantiates vs xs 0 bs)) q

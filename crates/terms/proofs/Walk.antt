@@ -1,6 +1,6 @@
 -- The turns of a walk over a forest, for any choice of what stands at the leaves: what is written and what is left to do make up
 -- the whole, until nothing is left or the store is full.
-use Prim.Native.Nat.{ℕ, suc, _+_, _-_, _≤_, _<_, _%_}
+use Prim.Native.Nat.{ℕ, suc, _+_, _≤_, _<_, _%_}
 use mathlib.Core.Path.{_≡_, refl, sym, ap, _∙_}
 use mathlib.Core.List.{List, [], _∷_, _++_, append-nil, append-assoc}
 use native.Mathlib.Omega.{arith}
@@ -9,7 +9,7 @@ use Rattle.aut68.specs.Expr.{Expr, Exprs, abs, nil, cons, firstCell, parts, cel
 use Rattle.cells.specs.Cells.{AllFormed, At, Below, Wrote}
 use Rattle.cells.specs.Forests.{cells-split, join, at-head, at-tail}
 use Rattle.terms.specs.Kinds.{of-leaf, of-branch}
-use Rattle.terms.specs.Grafts.{Choice, graft, grafts, Fit, Fits, Kept, Full, Grafted, GraftPost, graft-const, graft-app, graft-abs, grafts-nil, grafts-cons}
+use Rattle.terms.specs.Grafts.{Choice, graft, grafts, Fit, Fits, Kept, Full, Grafted, GraftPost, graft-prop, graft-const, graft-app, graft-abs, grafts-nil, grafts-cons}
 use Rattle.terms.proofs.Writes.{kept-none, kept-more, wrote-none, wrote-more, full-more, full-longer, below-front, below-back}
 
 -- ---- a walk over trees
@@ -19,12 +19,13 @@ unfolding join
 grafts-join k c nil fs = rw grafts-nil
 grafts-join k c (cons e es) fs = rw (grafts-cons c k e (join es fs), grafts-cons c k e es) (ap (cons (graft k c e)) (grafts-join k c es fs))
 
--- the cell of a constant or an application stays, and the walk goes on in its parts
+-- the cell of `prop`, a constant or an application stays, and the walk goes on in its parts
 pub branch-cells : (k : Choice) (c : ℕ) (e : Expr) → 3 ≤ firstCell e % 8 → (firstCell e % 8 ≡ 5 → ⊥)
     → cells (graft k c e) ≡ firstCell e ∷ cellss (grafts k c (parts e))
 unfolding firstCell parts cells cellss
 branch-cells k c =
     of-branch (λ e. cells (graft k c e) ≡ firstCell e ∷ cellss (grafts k c (parts e)))
+    (rw (graft-prop, grafts-nil))
     (λ v xs. rw graft-const)
     (λ a b. rw (graft-app, grafts-cons, grafts-cons, grafts-nil) (ap (λ (l : List ℕ). 4 ∷ cells (graft k c a) ++ l) (sym (append-nil (cells (graft k c b))))))
 

@@ -6,10 +6,10 @@ use mathlib.Core.List.{List, [], _∷_}
 use Prim.Native.Nat.{ℕ, suc, _+_}
 use native.Mathlib.Omega.{arith}
 use lib.Dec.{eqb}
-use Rattle.aut68.specs.Expr.{Expr, Exprs, type, var, bound, const, app, abs, nil, cons, countExprs}
+use Rattle.aut68.specs.Expr.{Expr, Exprs, type, prop, var, bound, const, app, abs, nil, cons, countExprs}
 use Rattle.aut68.specs.Substitution.{lift, substituteBound, substitute, argumentFor, instantiateVariable, instantiate}
 use Rattle.cells.specs.Cells.{Formed, AllFormed, AnyVariable, RightCount, Wf, Wfs}
-use Rattle.terms.specs.Grafts.{Choice, lifting, substituting, instantiating, graft, grafts, graft-const, graft-app, graft-abs, grafts-nil, grafts-cons}
+use Rattle.terms.specs.Grafts.{Choice, lifting, substituting, instantiating, graft, grafts, graft-prop, graft-const, graft-app, graft-abs, grafts-nil, grafts-cons}
 
 pub count-grafts : (k : Choice) (c : ℕ) (es : Exprs) → countExprs (grafts k c es) ≡ countExprs es
 unfolding countExprs
@@ -24,6 +24,7 @@ module _ (Y X : ℕ → Type 0) (C : ℕ → ℕ → Type 0) (k : Choice) (leaf 
 
     pub formed-graft : (c : ℕ) (e : Expr) → Formed Y C e → Formed X C (graft k c e)
     formed-graft c type w = atType c
+    formed-graft c prop w = rw graft-prop tt
     formed-graft c (var v) w = leaf c v w
     formed-graft c (bound i) w = atBound c i
     formed-graft c (const v xs) w = rw graft-const (rw count-grafts (w .0), formed-grafts c xs (w .1))

@@ -6,7 +6,7 @@ use Prim.Native.Nat.{ℕ, _+_, _-_, _%_, _≤_, _<_}
 use lib.ListN.{length, take, drop}
 use lib.Seq.{sets}
 use native.Mathlib.Numerals.{add-one}
-use Rattle.aut68.specs.Expr.{Expr, Exprs, const, app, abs, nil, cons, firstCell, parts, cells, cellss, countExprs}
+use Rattle.aut68.specs.Expr.{Expr, Exprs, prop, const, app, abs, nil, cons, firstCell, parts, cells, cellss, countExprs}
 use Rattle.aut68.specs.Substitution.{lift, lifts, substitute, substitutes, instantiate, instantiates}
 use Rattle.cells.specs.Cells.{Formed, AllFormed, AnyVariable, RightCount, Wf, At, Below, Wrote}
 use Rattle.terms.specs.Made.{Numbered, Confined, Made, startOf, Started, ArgumentsLie}
@@ -113,9 +113,15 @@ pub record RunPost (tb : List ℕ) (x count : ℕ) (starts : List ℕ) (start le
       → Fit tb (instantiating vs xs) e
       → (parts e ≡ nil) × (start + len ≤ length (cellss xs)) × (cells (instantiate vs xs 0 e) ≡ take len (drop start (cellss xs)))
 
--- ---- laws: the walk goes through constants, applications and abstractions
+-- ---- laws: the walk leaves `prop`, and goes through constants, applications and abstractions
 
 module _ (c : ℕ) where
+  pub graft-prop : (k : Choice) → graft k c prop ≡ prop
+  unfolding graft lift substitute instantiate
+  graft-prop (lifting d) = refl
+  graft-prop (substituting a) = refl
+  graft-prop (instantiating vs ys) = refl
+
   pub graft-const : (k : Choice) (v : ℕ) (xs : Exprs) → graft k c (const v xs) ≡ const v (grafts k c xs)
   unfolding graft grafts lift substitute instantiate
   graft-const (lifting d) v xs = refl

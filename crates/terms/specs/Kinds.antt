@@ -2,12 +2,13 @@
 use mathlib.Core.Path.{_≡_, refl}
 use Prim.Native.Nat.{ℕ, _%_, _≤_, _<_}
 use native.Mathlib.Omega.{arith}
-use Rattle.aut68.specs.Expr.{Expr, Exprs, type, var, bound, const, app, abs, firstCell}
+use Rattle.aut68.specs.Expr.{Expr, Exprs, type, prop, var, bound, const, app, abs, firstCell}
 
 module _ (G : Expr → Type 0) where
   pub of-type : G type → (e : Expr) → firstCell e % 8 ≡ 0 → G e
   unfolding firstCell
   of-type g type h = g
+  of-type g prop h = absurd (omega arith)
   of-type g (var v) h = absurd (omega arith)
   of-type g (bound i) h = absurd (omega arith)
   of-type g (const v xs) h = absurd (omega arith)
@@ -17,6 +18,7 @@ module _ (G : Expr → Type 0) where
   pub of-variable : ((v : ℕ) → G (var v)) → (e : Expr) → firstCell e % 8 ≡ 1 → G e
   unfolding firstCell
   of-variable g type h = absurd (omega arith)
+  of-variable g prop h = absurd (omega arith)
   of-variable g (var v) h = g v
   of-variable g (bound i) h = absurd (omega arith)
   of-variable g (const v xs) h = absurd (omega arith)
@@ -26,6 +28,7 @@ module _ (G : Expr → Type 0) where
   pub of-bound : ((i : ℕ) → G (bound i)) → (e : Expr) → firstCell e % 8 ≡ 2 → G e
   unfolding firstCell
   of-bound g type h = absurd (omega arith)
+  of-bound g prop h = absurd (omega arith)
   of-bound g (var v) h = absurd (omega arith)
   of-bound g (bound i) h = g i
   of-bound g (const v xs) h = absurd (omega arith)
@@ -35,6 +38,7 @@ module _ (G : Expr → Type 0) where
   pub of-constant : ((v : ℕ) (xs : Exprs) → G (const v xs)) → (e : Expr) → firstCell e % 8 ≡ 3 → G e
   unfolding firstCell
   of-constant g type h = absurd (omega arith)
+  of-constant g prop h = absurd (omega arith)
   of-constant g (var v) h = absurd (omega arith)
   of-constant g (bound i) h = absurd (omega arith)
   of-constant g (const v xs) h = g v xs
@@ -44,6 +48,7 @@ module _ (G : Expr → Type 0) where
   pub of-application : ((a b : Expr) → G (app a b)) → (e : Expr) → firstCell e % 8 ≡ 4 → G e
   unfolding firstCell
   of-application g type h = absurd (omega arith)
+  of-application g prop h = absurd (omega arith)
   of-application g (var v) h = absurd (omega arith)
   of-application g (bound i) h = absurd (omega arith)
   of-application g (const v xs) h = absurd (omega arith)
@@ -53,6 +58,7 @@ module _ (G : Expr → Type 0) where
   pub of-abstraction : ((p t : Expr) → G (abs p t)) → (e : Expr) → firstCell e % 8 ≡ 5 → G e
   unfolding firstCell
   of-abstraction g type h = absurd (omega arith)
+  of-abstraction g prop h = absurd (omega arith)
   of-abstraction g (var v) h = absurd (omega arith)
   of-abstraction g (bound i) h = absurd (omega arith)
   of-abstraction g (const v xs) h = absurd (omega arith)
@@ -63,18 +69,20 @@ module _ (G : Expr → Type 0) where
   pub of-leaf : G type → ((v : ℕ) → G (var v)) → ((i : ℕ) → G (bound i)) → (e : Expr) → firstCell e % 8 < 3 → G e
   unfolding firstCell
   of-leaf g₀ g₁ g₂ type h = g₀
+  of-leaf g₀ g₁ g₂ prop h = absurd (omega arith)
   of-leaf g₀ g₁ g₂ (var v) h = g₁ v
   of-leaf g₀ g₁ g₂ (bound i) h = g₂ i
   of-leaf g₀ g₁ g₂ (const v xs) h = absurd (omega arith)
   of-leaf g₀ g₁ g₂ (app a b) h = absurd (omega arith)
   of-leaf g₀ g₁ g₂ (abs p t) h = absurd (omega arith)
 
-  -- a constant or an application: neither a leaf nor an abstraction
-  pub of-branch : ((v : ℕ) (xs : Exprs) → G (const v xs)) → ((a b : Expr) → G (app a b)) → (e : Expr) → 3 ≤ firstCell e % 8 → (firstCell e % 8 ≡ 5 → ⊥) → G e
+  -- `prop`, a constant or an application: a cell that stays as it is, before its parts
+  pub of-branch : G prop → ((v : ℕ) (xs : Exprs) → G (const v xs)) → ((a b : Expr) → G (app a b)) → (e : Expr) → 3 ≤ firstCell e % 8 → (firstCell e % 8 ≡ 5 → ⊥) → G e
   unfolding firstCell
-  of-branch g₃ g₄ type h n = absurd (omega arith)
-  of-branch g₃ g₄ (var v) h n = absurd (omega arith)
-  of-branch g₃ g₄ (bound i) h n = absurd (omega arith)
-  of-branch g₃ g₄ (const v xs) h n = g₃ v xs
-  of-branch g₃ g₄ (app a b) h n = g₄ a b
-  of-branch g₃ g₄ (abs p t) h n = absurd (n refl)
+  of-branch g₆ g₃ g₄ type h n = absurd (omega arith)
+  of-branch g₆ g₃ g₄ prop h n = g₆
+  of-branch g₆ g₃ g₄ (var v) h n = absurd (omega arith)
+  of-branch g₆ g₃ g₄ (bound i) h n = absurd (omega arith)
+  of-branch g₆ g₃ g₄ (const v xs) h n = g₃ v xs
+  of-branch g₆ g₃ g₄ (app a b) h n = g₄ a b
+  of-branch g₆ g₃ g₄ (abs p t) h n = absurd (n refl)

@@ -4,7 +4,7 @@ use mathlib.Core.List.{List, [], _∷_}
 use Prim.Native.Nat.{ℕ, suc}
 use native.Mathlib.Omega.{arith}
 use lib.ListN.{length}
-use Rattle.aut68.specs.Expr.{Expr, Exprs, type, var, bound, const, app, abs, nil, cons}
+use Rattle.aut68.specs.Expr.{Expr, Exprs, type, prop, var, bound, const, app, abs, nil, cons}
 use Rattle.aut68.specs.Substitution.{argumentFor, instantiateVariable, instantiate, instantiates}
 
 mutual
@@ -12,6 +12,7 @@ mutual
 
   pub instantiate-none : (xs : Exprs) (c : ℕ) (e : Expr) → instantiate [] xs c e ≡ e
   instantiate-none xs c type = refl
+  instantiate-none xs c prop = refl
   instantiate-none xs c (var v) = refl
   instantiate-none xs c (bound i) = refl
   instantiate-none xs c (const v es) = ap (const v) (instantiates-none xs c es)

@@ -7,6 +7,7 @@ use native.Mathlib.Omega.{arith}
 use lib.ListN.{length, drop, replicate, length-append, length-drop, length-replicate}
 use lib.Seq.{drop-at}
 use borrow.Author.Tests.{le-leb, lt-leb}
+use Rattle.aut68.specs.Language.{Language}
 use Rattle.aut68.specs.Bytes.{Bytes, lines}
 use Rattle.aut68.specs.Lines.{tableOf, rowsFrom, termsOf}
 use Rattle.aut68.specs.Procedure.Answer.{Refusal, codeOf, workTooSmall, limitOutOfRange, outOfSpace}
@@ -18,9 +19,9 @@ use Rattle.verifier.specs.Outcomes.{codeOfOutcome, lineOfOutcome, stepsO
 use Rattle.verifier.specs.declared.outcome.Outcome.{Outcome}
 use Rattle.books.specs.Progress.{LinesPost}
 
-module _ (book : Bytes) (N L : ℕ) (tb ts w : List ℕ) where
+module _ (language : Language) (book : Bytes) (N L : ℕ) (tb ts w : List ℕ) where
   abbrev result : Ending
-  result = run book N L (length tb) (length ts) (length w)
+  result = run language book N L (length tb) (length ts) (length w)
 
   -- refused ahead of the lines: nothing is recorded
   early : {r : Refusal} {w′ : List ℕ} → result ≡ refusedAt r 0 0 nothing → w′ ≡ workEnd L (refusedAt r 0 0 nothing) w → Determined result L tb ts w (codeOf r) 0 0 tb ts w′
@@ -71,13 +72,13 @@ module _ (book : Bytes) (N L : ℕ) (tb ts w : List ℕ) where
 
       -- the lines were checked, with the first 128 × L working cells lent
       pub ended : (o : Outcome) {code n left line steps : ℕ} {tb′ ts′ w′ : List ℕ} (front : List ℕ) → length book ≤ 16777215
-          → LinesPost (checkLines N L (length tb) (length ts) nothing 0 N (lines book)) N tb ts code n left tb′ ts′
+          → LinesPost (checkLines language N L (length tb) (length ts) nothing 0 N (lines book)) N tb ts code n left tb′ ts′
           → (code ≡ 0 → line ≡ n) → (code ≢ 0 → line ≡ n + 1) → steps ≡ N - left → HasNumbers o code line steps
           → length front ≡ 128 * L → w′ ≡ cleared (128 * L) (front ++ drop (128 * L) w)
           → Determined result L tb ts w (codeOfOutcome o) (lineOfOutcome o) (stepsOfOutcome o) tb′ ts′ w′
       ended o {code} {n} {left} {line} {steps} front short post zero more taken has long work =
-          let q : result ≡ checkLines N L (length tb) (length ts) nothing 0 N (lines book) =
-          run-admitted book N L (length tb) (length ts) (length w) (record { atLeast = low; atMost = high; enough = enough; short = short })
+          let q : result ≡ checkLines language N L (length tb) (length ts) nothing 0 N (lines book) =
+          run-admitted language book N L (length tb) (length ts) (length w) (record { atLeast = low; atMost = high; enough = enough; short = short })
           in
           let e : code ≡ codeAt result = post .codeIs ∙ sym (ap codeAt q) in
           record {
@@ -92,7 +93,7 @@ module _ (book : Bytes) (N L : ℕ) (tb ts w : List ℕ) where
                 ∙ sym (work-zero result (as-result e (post .published)));
           }
         where
-          lines-are : (code ≡ 0) ⊎ ((3 ≤ code) × (code ≤ 12)) → line ≡ lineAt (checkLines N L (length tb) (length ts) nothing 0 N (lines book))
+          lines-are : (code ≡ 0) ⊎ ((3 ≤ code) × (code ≤ 12)) → line ≡ lineAt (checkLines language N L (length tb) (length ts) nothing 0 N (lines book))
           lines-are (inl z) = zero z ∙ post .acceptedLine z
           lines-are (inr h) = more (λ z. omega arith) ∙ post .refusedLine (λ z. omega arith)
 

@@ -6,6 +6,7 @@ use cells::clear;
 ghost use mathlib.Core.Path.{_≡_};
 ghost use mathlib.Core.Logic.{_≢_};
 ghost use Prim.Native.Nat.{_+_, _-_, _<_};
+ghost use Rattle.aut68.specs.Language.{aut68};
 ghost use Rattle.aut68.specs.Demands.{Checks};
 ghost use Rattle.verifier.specs.Outcomes.{codeOfOutcome, lineOfOutcome, stepsOfOutcome};
 
@@ -44,7 +45,7 @@ pub fn check_book(
     terms: &mut [u16],
     work: &mut [u16],
 ) -> Outcome
-    ensures { λ r. ⌜ Checks (now (book .entry)) budget limit (now (table .entry)) (now (terms .entry)) (now (work .entry)) (codeOfOutcome r) (lineOfOutcome r) (stepsOfOutcome r) (now (table .exit)) (now (terms .exit)) (now (work .exit)) ⌝ }
+    ensures { λ r. ⌜ Checks aut68 (now (book .entry)) budget limit (now (table .entry)) (now (terms .entry)) (now (work .entry)) (codeOfOutcome r) (lineOfOutcome r) (stepsOfOutcome r) (now (table .exit)) (now (terms .exit)) (now (work .exit)) ⌝ }
 {
     if limit < 16 {
         return Outcome::LimitOutOfRange;

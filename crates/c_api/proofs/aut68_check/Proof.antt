@@ -3,6 +3,7 @@ use mathlib.Core.Path.{_≡_}
 use Prim.Native.Nat.{ℕ}
 use mathlib.Core.List.{List}
 use borrow.Author.Needs.{needs}
+use Rattle.aut68.specs.Language.{aut68}
 use Rattle.aut68.specs.Demands.{Checks}
 use Rattle.c_api.proofs.aut68_check.Statement.{statement}
 use Rattle.c_api.proofs.aut68_check.Tie as tie
@@ -10,8 +11,8 @@ use Rattle.c_api.proofs.aut68_check.Tie as tie
 -- the promise, said of equal numbers
 equal-numbers : {book : List ℕ} {N L : ℕ} {table terms work : List ℕ} {code line steps code′ line′ steps′ : ℕ} {table′ terms′ work′ : List ℕ}
     → (code′ ≡ code) × (line′ ≡ line) × (steps′ ≡ steps)
-    → Checks book N L table terms work code line steps table′ terms′ work′
-    → Checks book N L table terms work code′ line′ steps′ table′ terms′ work′
+    → Checks aut68 book N L table terms work code line steps table′ terms′ work′
+    → Checks aut68 book N L table terms work code′ line′ steps′ table′ terms′ work′
 equal-numbers (c, l, s) promise = rw (c, l, s) promise
 
 check-book-requires : tie.Need-check-book-requires

@@ -1,6 +1,7 @@
 use borrow.Author.Needs.{needs}
 use native.Mathlib.Omega.{arith}
 use mathlib.Core.Path.{sym, ap, _∙_}
+use Rattle.aut68.specs.Language.{aut68}
 use Rattle.aut68.specs.Bytes.{reserved}
 use Rattle.symbols.proofs.Laws.{part, name-outside, name-long, name-reserved, name-word}
 use Rattle.symbols.proofs.name_at.Statement.{statement}
@@ -34,10 +35,10 @@ is-reserved-requires : tie.Need-is-reserved-requires
 is-reserved-requires c κs = search needs
 
 returns-3 : tie.Need-returns-3
-returns-3 c = name-reserved (c .before .before .before .before .before .spaces .ensures) (c .before .before .before .before .word-end .ensures) (omega arith) (ap reserved (sym (part _ _ _ (c .before .before .before .before .word-end .ensures .from))) ∙ sym (c .before .is-reserved .ensures) ∙ c .if3 .taken)
+returns-3 c = name-reserved (c .before .before .before .before .before .spaces .ensures) (c .before .before .before .before .word-end .ensures) (omega arith) (ap (reserved aut68) (sym (part _ _ _ (c .before .before .before .before .word-end .ensures .from))) ∙ sym (c .before .is-reserved .ensures) ∙ c .if3 .taken)
 
 returns-4 : tie.Need-returns-4
-returns-4 c = name-word (c .before .before .before .before .before .spaces .ensures) (c .before .before .before .before .word-end .ensures) (omega arith) (omega arith) (ap reserved (sym (part _ _ _ (c .before .before .before .before .word-end .ensures .from))) ∙ sym (c .before .is-reserved .ensures) ∙ c .if3 .left)
+returns-4 c = name-word (c .before .before .before .before .before .spaces .ensures) (c .before .before .before .before .word-end .ensures) (omega arith) (omega arith) (ap (reserved aut68) (sym (part _ _ _ (c .before .before .before .before .word-end .ensures .from))) ∙ sym (c .before .is-reserved .ensures) ∙ c .if3 .left)
 
 pub name-at-spec : {M : Type 1} → statement M
 name-at-spec =

@@ -3,6 +3,7 @@ use mathlib.Core.Path.{sym, _∙_}
 use Prim.Native.Nat.{_*_}
 use native.Mathlib.Omega.{arith}
 use lib.Seq.{length-take-le}
+use Rattle.aut68.specs.Language.{aut68}
 use Rattle.theorems.specs.Checks.{checks}
 use Rattle.verifier.proofs.BookLaws.{low-limit, high-limit, little-work, long-book, ended}
 use borrow.Author.Needs.{needs}
@@ -12,14 +13,14 @@ use Rattle.verifier.proofs.book.check_book.Tie as tie
 returns : tie.Need-returns
 returns c =
     let a = c .before .before .before .before .before .args in
-    checks (a .book .now) (a .budget) (a .limit) (a .table .now) (a .terms .now) (a .work .now)
-    (low-limit (a .book .now) (a .budget) (a .limit) (a .table .now) (a .terms .now) (a .work .now) (c .if1 .taken))
+    checks aut68 (a .book .now) (a .budget) (a .limit) (a .table .now) (a .terms .now) (a .work .now)
+    (low-limit aut68 (a .book .now) (a .budget) (a .limit) (a .table .now) (a .terms .now) (a .work .now) (c .if1 .taken))
 
 returns-2 : tie.Need-returns-2
 returns-2 c =
     let a = c .before .before .before .before .before .before .args in
-    checks (a .book .now) (a .budget) (a .limit) (a .table .now) (a .terms .now) (a .work .now)
-    (high-limit (a .book .now) (a .budget) (a .limit) (a .table .now) (a .terms .now) (a .work .now) (c .if2 .taken) (c .before .if1 .left))
+    checks aut68 (a .book .now) (a .budget) (a .limit) (a .table .now) (a .terms .now) (a .work .now)
+    (high-limit aut68 (a .book .now) (a .budget) (a .limit) (a .table .now) (a .terms .now) (a .work .now) (c .if2 .taken) (c .before .if1 .left))
 
 mul-n : tie.Need-mul-n
 mul-n c = search needs
@@ -27,8 +28,8 @@ mul-n c = search needs
 returns-3 : tie.Need-returns-3
 returns-3 c =
     let a = c .before .before .before .before .before .before .before .args in
-    checks (a .book .now) (a .budget) (a .limit) (a .table .now) (a .terms .now) (a .work .now)
-    (little-work (a .book .now) (a .budget) (a .limit) (a .table .now) (a .terms .now) (a .work .now) (c .before .before .if1 .left) (c .before .if2 .left) (c .if3 .taken))
+    checks aut68 (a .book .now) (a .budget) (a .limit) (a .table .now) (a .terms .now) (a .work .now)
+    (little-work aut68 (a .book .now) (a .budget) (a .limit) (a .table .now) (a .terms .now) (a .work .now) (c .before .before .if1 .left) (c .before .if2 .left) (c .if3 .taken))
 
 clear-requires : tie.Need-clear-requires
 clear-requires c κs = search needs
@@ -39,8 +40,8 @@ same-length c = search needs
 returns-4 : tie.Need-returns-4
 returns-4 c =
     let a = c .before .before .before .before .before .before .before .before .before .before .before .before .args in
-    checks (a .book .now) (a .budget) (a .limit) (a .table .now) (a .terms .now) (a .work .now)
-    (long-book (a .book .now) (a .budget) (a .limit) (a .table .now) (a .terms .now) (a .work .now) (c .before .before .before .before .before .before .before .if1 .left) (c .before .before .before .before .before .before .if2 .left) (c .before .before .before .before .before .if3 .left) (c .before .before .before .before .if4 .taken) (c .before .before .clear .ensures))
+    checks aut68 (a .book .now) (a .budget) (a .limit) (a .table .now) (a .terms .now) (a .work .now)
+    (long-book aut68 (a .book .now) (a .budget) (a .limit) (a .table .now) (a .terms .now) (a .work .now) (c .before .before .before .before .before .before .before .if1 .left) (c .before .before .before .before .before .before .if2 .left) (c .before .before .before .before .before .if3 .left) (c .before .before .before .before .if4 .taken) (c .before .before .clear .ensures))
 
 slice-relend-prefix-check-lines : tie.Need-slice-relend-prefix-check-lines
 slice-relend-prefix-check-lines c = search needs
@@ -82,8 +83,8 @@ returns-5 : tie.Need-returns-5
 returns-5 c =
     let a = c .before .before .before .before .before .before .before .before .before .before .before .before .before .before .before .before .before .before .before .before .before .before .before .before .before .args in
     let k = c .before .before .before .before .before .before .before .before .before .before .before .before .before .check-lines in
-    checks (a .book .now) (a .budget) (a .limit) (a .table .now) (a .terms .now) (a .work .now)
-    (ended (a .book .now) (a .budget) (a .limit) (a .table .now) (a .terms .now) (a .work .now) (c .before .before .before .before .before .before .before .before .before .before .before .before .before .before .before .before .before .before .before .before .if1 .left) (c .before .before .before .before .before .before .before .before .before .before .before .before .before .before .before .before .before .before .before .if2 .left) (c .before .before .before .before .before .before .before .before .before .before .before .before .before .before .before .before .before .before .if3 .left) _ (k .last .1 .1 .1 .0) (c .before .before .before .before .before .before .before .before .before .before .before .before .before .before .before .before .before .if4 .left) (k .ensures)
+    checks aut68 (a .book .now) (a .budget) (a .limit) (a .table .now) (a .terms .now) (a .work .now)
+    (ended aut68 (a .book .now) (a .budget) (a .limit) (a .table .now) (a .terms .now) (a .work .now) (c .before .before .before .before .before .before .before .before .before .before .before .before .before .before .before .before .before .before .before .before .if1 .left) (c .before .before .before .before .before .before .before .before .before .before .before .before .before .before .before .before .before .before .before .if2 .left) (c .before .before .before .before .before .before .before .before .before .before .before .before .before .before .before .before .before .before .if3 .left) _ (k .last .1 .1 .1 .0) (c .before .before .before .before .before .before .before .before .before .before .before .before .before .before .before .before .before .if4 .left) (k .ensures)
     (c .before .before .line-at .ensures (k .ensures .few) .0) (c .before .before .line-at .ensures (k .ensures .few) .1) (c .before .spent .ensures) (c .outcome-of .ensures)
     (k .kept .1 .1 .1 .0 ∙ length-take-le _ _ (c .before .before .before .before .before .before .before .before .before .before .before .before .before .before .before .before .before .before .if3 .left)) (c .before .before .before .before .before .clear2 .ensures))
 

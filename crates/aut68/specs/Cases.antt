@@ -1,0 +1,44 @@
+-- Calls of the procedure with their outcomes, as tables that the checker computes.
+use Prim.Native.Nat.{ℕ}
+use Prim.Native.String.{String, [] as end, _∷_ as _then_}
+use Prim.Native.Char.{code}
+use mathlib.Core.Bool.{Bool, true, false, _&&_}
+use mathlib.Core.List.{List, [], _∷_}
+use lib.Dec.{eqb}
+use Rattle.aut68.specs.Language.{Language}
+use Rattle.aut68.specs.Procedure.Run.{run, codeAt, lineAt, stepsAt}
+
+-- the bytes of a text
+unfoldable pub bytesOf : String → List ℕ
+bytesOf end = []
+bytesOf (_then_ c s) = code c ∷ bytesOf s
+
+-- a call and its outcome
+pub record Case : Type 0 where
+  pub language : Language
+  pub book : List ℕ
+  pub N : ℕ
+  pub L : ℕ
+  pub table : ℕ
+  pub terms : ℕ
+  pub work : ℕ
+  pub endCode : ℕ
+  pub endLine : ℕ
+  pub endSteps : ℕ
+
+unfoldable pub holds : Case → Bool
+holds c =
+    let e = run (c .language) (c .book) (c .N) (c .L) (c .table) (c .terms) (c .work) in
+    eqb (codeAt e) (c .endCode) && eqb (lineAt e) (c .endLine) && eqb (stepsAt e) (c .endSteps)
+
+unfoldable pub allHold : List Case → Bool
+allHold [] = true
+allHold (c ∷ cs) = elim (holds c) [ true ↦ allHold cs | false ↦ false ]
+
+-- under the listing program's stores, and under its budget and limit too
+unfoldable pub within : Language → ℕ → ℕ → List ℕ → ℕ → ℕ → ℕ → Case
+within language N L book code line steps =
+    record { language = language; book = book; N = N; L = L; table = 16384; terms = 32768; work = 32768; endCode = code; endLine = line; endSteps = steps }
+
+unfoldable pub usual : Language → List ℕ → ℕ → ℕ → ℕ → Case
+usual language book code line steps = within language 100000 256 book code line steps

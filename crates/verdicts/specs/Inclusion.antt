@@ -1,0 +1,15 @@
+-- AUT-68 inside AUT-QE.
+use Rattle.aut68.specs.Language.{aut68, autQE}
+use Rattle.aut68.specs.Bytes.{Bytes, lines}
+use Rattle.aut68.specs.Rules.Derivation.{Correct}
+use Rattle.aut68.specs.Rules.WithoutProp.{BookWithoutProp}
+use Rattle.aut68.specs.Demands.{Soundness, AcceptedInside}
+use Rattle.inclusion.specs.Derivations.{book-inside}
+use Rattle.verdicts.specs.BookVerdicts.{soundness}
+
+correct-inside : (book : Bytes) → Correct aut68 book → BookWithoutProp (lines book) → Correct autQE book
+correct-inside book h without = record { meanings = h .meanings; derived = book-inside (h .derived) without }
+
+pub accepted-inside : AcceptedInside
+unfolding AcceptedInside Soundness
+accepted-inside book N L table terms work a without = correct-inside book (soundness aut68 book N L table terms work a .0) without
