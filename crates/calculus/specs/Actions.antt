@@ -6,7 +6,7 @@ use Prim.Native.Nat.{ℕ, zero, suc, _<_}
 use native.Mathlib.Omega.{arith}
 use lib.Dec.{leb}
 use lib.ListN.{length}
-use Rattle.aut68.specs.Procedure.Answer.{done, andThen, ensure, Refusal, tooLarge}
+use Rattle.aut68.specs.Procedure.Answer.{Act, done, andThen, ensure, Refusal, tooLarge}
 use Rattle.aut68.specs.Expr.{Expr, type, prop, var, bound, const, app, abs, size, isType}
 use Rattle.aut68.specs.Lines.{Line, Lines}
 use Rattle.aut68.specs.Rules.Names.{IsLine, first, later}
@@ -24,6 +24,12 @@ the-line (later {k} {l} {ls} {v} h) b =
     go : (v : ℕ) → 0 < v → theLine ls v b ≡ done l b → nth (k ∷ ls) v b ≡ done l b
     go zero p q = absurd (omega arith)
     go (suc v) p q = q
+
+-- with the line of a name at hand
+pub judged-line : {B : Type 0} {Q : B → Type 0} {R : Refusal → Type 0} {ls : Lines} {v : ℕ} {l : Line} (f : Line → Act ℕ B) (b : ℕ) → IsLine ls v l → Judged Q R (f l b)
+    → Judged Q R (andThen f (theLine ls v b))
+unfolding andThen
+judged-line f b i h = rw (the-line i b) h
 
 pub nth-domain : (R : Refusal → Type 0) (sc : List Expr) (i : ℕ) → i < length sc → (b : ℕ) → Judged (λ p. DomainAt p sc i) R (nth sc i b)
 unfolding nth

@@ -1,28 +1,25 @@
 -- What the procedure finds as the category of a known expression is known.
 use mathlib.Core.Path.{_≡_, refl, subst, sym}
 use mathlib.Core.Bool.{Bool, true, false}
-use mathlib.Core.Option.{Option, none, some}
 use mathlib.Core.List.{List, _∷_}
-use Prim.Native.Nat.{ℕ, zero, suc, _≤_}
+use Prim.Native.Nat.{ℕ, suc, _≤_}
 use native.Mathlib.Omega.{arith}
-use lib.Dec.{leb}
 use lib.ListN.{length}
 use Rattle.aut68.specs.Language.{Language, aut68, autQE}
-use Rattle.aut68.specs.Procedure.Answer.{Answer, done, stop, andThen, _>>=_, Act, Refusal, tooLarge, outOfBudget, notFunction, refuse}
-use Rattle.aut68.specs.Expr.{Expr, type, prop, var, bound, const, app, abs, size, isSort, Shape, shape, abstraction, other, overBinding}
+use Rattle.aut68.specs.Procedure.Answer.{Answer, done, stop, _>>=_, Act, Refusal, notFunction, refuse}
+use Rattle.aut68.specs.Expr.{Expr, type, prop, var, bound, const, app, abs, isSort, Shape, shape, abstraction, other, overBinding}
 use Rattle.aut68.specs.Substitution.{lift, substitute, instantiate}
-use Rattle.aut68.specs.Lines.{Line, Lines}
-use Rattle.aut68.specs.Rules.Names.{IsLine}
+use Rattle.aut68.specs.Lines.{Lines}
 use Rattle.aut68.specs.Procedure.Compare.{compare}
-use Rattle.aut68.specs.Procedure.HeadStep.{headStep, left}
-use Rattle.aut68.specs.Procedure.Category.{Search, theLine, made, headForm, toFunction, secondChance, categoryAt, category}
-use Rattle.lookup.specs.Answers.{Judged, isDone, isStop, judged-done, judged-then, judged-sized}
+use Rattle.aut68.specs.Procedure.Category.{Search, made, headForm, toFunction, secondChance, categoryAt, category}
+use Rattle.lookup.specs.Answers.{Judged, isDone, isStop, judged-done, judged-map, judged-then}
 use Rattle.calculus.specs.Shapes.{shape-abs, false-not-true}
 use Rattle.calculus.specs.Scoped.{Scoped, ScopedScope, ScopedCategory, scoped-category, category-under, category-substitute}
 use Rattle.calculus.specs.Resolved.{VariableLine, ConstantOf, Known, KnownScope, KnownCategory, ResolvedLines, known-line}
-use Rattle.calculus.specs.Known.{known-category-head, known-wanted}
+use Rattle.calculus.specs.Known.{known-category-steps, known-wanted}
 use Rattle.calculus.specs.Bindings.{over-scoped, bound-scoped}
-use Rattle.calculus.specs.Actions.{the-line, nth-domain, made-judged}
+use Rattle.calculus.specs.Actions.{judged-line, nth-domain, made-judged}
+use Rattle.calculus.specs.HeadSearch.{head-reduces, headForm-finds}
 
 -- what holds anyway holds of an answer; a refusal is not looked at
 abbrev Any : Refusal → Type 0
@@ -35,41 +32,9 @@ anyway p (stop r s) = isStop tt
 whatever : {A : Type 0} (m : Answer ℕ A) → Judged (λ _. Unit {0}) Any m
 whatever m = anyway tt m
 
-module _ (ls : Lines) (W : ResolvedLines ls) (L : ℕ) where
-  -- head steps keep what is known
-  headForm-known : (k : ℕ) (f : Expr) → KnownCategory ls k f → (b : ℕ) → Judged (KnownCategory ls k) Any (headForm ls L f b)
-  unfolding headForm
-  headForm-known k f w zero = go (shape f)
-    where
-      next : (o : Option Expr) → Judged {S = ℕ} (KnownCategory ls k) Any (elim o [ none ↦ done f zero | some g ↦ stop outOfBudget zero ])
-      next none = isDone w
-      next (some g) = isStop tt
-
-      go : (s : Shape) → Judged {S = ℕ} (KnownCategory ls k) Any (elim s [
-        | abstraction p q ↦ done f zero
-        | other ↦ elim (left (headStep ls f)) [ none ↦ done f zero | some g ↦ stop outOfBudget zero ]
-      ])
-      go (abstraction p q) = isDone w
-      go other = next (left (headStep ls f))
-  headForm-known k f w (suc b) = go (λ g x. headForm-known k g x b) (shape f)
-    where
-      next : ((g : Expr) → KnownCategory ls k g → Judged (KnownCategory ls k) Any (headForm ls L g b)) → (o : Option Expr) → left (headStep ls f) ≡ o
-          → Judged {S = ℕ} (KnownCategory ls k) Any (elim o [
-            | none ↦ done f (suc b)
-            | some g ↦ elim (leb (size g) L) [ true ↦ headForm ls L g b | false ↦ stop tooLarge (suc b) ]
-          ])
-      next r none e = isDone w
-      next r (some g) e = judged-sized (leb (size g) L) (suc b) (r g (known-category-head ls W k f g e w)) tt
-
-      go : ((g : Expr) → KnownCategory ls k g → Judged (KnownCategory ls k) Any (headForm ls L g b)) → (s : Shape) → Judged {S = ℕ} (KnownCategory ls k) Any (elim s [
-        | abstraction p q ↦ done f (suc b)
-        | other ↦ elim (left (headStep ls f)) [
-          | none ↦ done f (suc b)
-          | some g ↦ elim (leb (size g) L) [ true ↦ headForm ls L g b | false ↦ stop tooLarge (suc b) ]
-        ]
-      ])
-      go r (abstraction p q) = isDone w
-      go r other = next r (left (headStep ls f)) refl
+-- head steps keep what is known
+headForm-known : (ls : Lines) → ResolvedLines ls → (L k : ℕ) (f : Expr) → KnownCategory ls k f → (b : ℕ) → Judged (KnownCategory ls k) Any (headForm ls L f b)
+headForm-known ls W L k f w b = judged-map (λ g h. known-category-steps ls W k (head-reduces ls (h .heads)) w) (λ r x. tt) (headForm-finds ls (Unit {0}) L f b)
 
 -- a category that is neither an abstraction nor `type` or `prop` is a known expression
 plain-known : (ls : Lines) (k : ℕ) (f : Expr) → KnownCategory ls k f → shape f ≡ other → isSort f ≡ false → Known ls k f
@@ -91,10 +56,6 @@ second-known autQE ls search k d sc f w s b = go (isSort f) refl
     go : (t : Bool) → isSort f ≡ t → Judged (λ _. Known ls k f) Any ((elim t as (λ _. Act ℕ Expr) [ true ↦ refuse notFunction | false ↦ search d sc f ]) b)
     go true q = isStop tt
     go false q = anyway (plain-known ls k f w s q) (search d sc f b)
-
-at-line : {B : Type 0} {Q : B → Type 0} {ls : Lines} {v : ℕ} {l : Line} (f : Line → Act ℕ B) (b : ℕ) → IsLine ls v l → Judged Q Any (f l b) → Judged Q Any (andThen f (theLine ls v b))
-unfolding andThen
-at-line f b i h = rw (the-line i b) h
 
 module _ (language : Language) (ls : Lines) (W : ResolvedLines ls) (L : ℕ) (search : Search) where
   -- a function's body with A put in
@@ -139,7 +100,7 @@ module _ (language : Language) (ls : Lines) (W : ResolvedLines ls) (L : ℕ) (se
   at-known d sc (var v) w s b =
       let z : 0 ≤ length sc = omega arith in
       judged-then _ (whatever _) (λ r x. x) (λ _ b₁ _.
-      at-line _ b₁ (w .isLine)
+      judged-line _ b₁ (w .isLine)
       (made-judged L (w .line .category) (category-under (VariableLine ls) (ConstantOf ls) z (w .line .category) (known-line ls W (w .isLine))) tt b₁))
   at-known d sc (bound i) w s b =
       judged-then _ (whatever _) (λ r x. x) (λ _ b₁ _.
@@ -148,7 +109,7 @@ module _ (language : Language) (ls : Lines) (W : ResolvedLines ls) (L : ℕ) (se
   at-known d sc (const v xs) w s b =
       let l = w .0 .line in
       judged-then _ (whatever _) (λ r x. x) (λ _ b₁ _.
-      at-line _ b₁ (w .0 .isLine)
+      judged-line _ b₁ (w .0 .isLine)
       (judged-then _ (whatever _) (λ r x. x) (λ _ b₂ _.
       made-judged L (instantiate (l .context) xs 0 (l .category)) (known-wanted ls W (length sc) (l .context) xs (w .0 .isLine) (w .1)) tt b₂)))
   at-known d sc (app a e) w s b =

@@ -15,7 +15,7 @@ use Rattle.aut68.specs.Procedure.HeadStep.{headStep, left}
 use Rattle.lookup.specs.LineNumbers.{line-lineOf, abbreviation-line}
 use Rattle.calculus.specs.Renaming.{arg, pick}
 use Rattle.calculus.specs.HeadForms.{head-step}
-use Rattle.calculus.specs.Scoped.{Scoped, ScopedCategory, KeptMiddles, scoped-map, scoped-step, scoped-steps, category-step, category-steps, category-map, category-instantiate}
+use Rattle.calculus.specs.Scoped.{Scoped, ScopedCategory, KeptMiddles, scoped-map, scoped-steps, category-step, category-steps, category-map, category-instantiate}
 use Rattle.calculus.specs.Resolved.{ConstantOf, Resolved, ResolvedLines, VariableLine, Known, AllKnown, KnownCategory, known-line}
 
 module _ (ls : Lines) (W : ResolvedLines ls) where
@@ -37,9 +37,6 @@ module _ (ls : Lines) (W : ResolvedLines ls) where
 
   pub known-steps : (k : ℕ) {m n : Expr} → Reduces ls m n → Known ls k m → Known ls k n
   known-steps k h w = scoped-steps ls (ConstantOf ls) (VariableLine ls) kept-middles k h w
-
-  pub known-head : (k : ℕ) (e n : Expr) → left (headStep ls e) ≡ some n → Known ls k e → Known ls k n
-  known-head k e n q w = scoped-step ls (ConstantOf ls) (VariableLine ls) kept-middles k (head-step ls e n q) w
 
   pub known-category-steps : (k : ℕ) {m n : Expr} → Reduces ls m n → KnownCategory ls k m → KnownCategory ls k n
   known-category-steps k h w = category-steps ls (ConstantOf ls) (VariableLine ls) kept-middles k h w

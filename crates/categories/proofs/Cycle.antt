@@ -11,8 +11,10 @@ use Rattle.aut68.specs.Procedure.Answer.{andThen, ensure, notType}
 use Rattle.aut68.specs.Expr.{Expr, Exprs, type, prop, var, bound, const, app, abs, nil, cons, sizes, cells, firstCell, countExprs, isType, overBinding}
 use Rattle.aut68.specs.Expr as Expr
 use Rattle.aut68.specs.Lines.{Line, Lines}
+use Rattle.aut68.specs.Rules.Serving.{Basic, aType, aProp, itself}
 use Rattle.aut68.specs.Procedure.Category.{made, toFunction}
-use Rattle.calculus.specs.Scoped.{Scoped}
+use Rattle.calculus.specs.Scoped.{Scoped, scoped-ends}
+use Rattle.calculus.specs.Resolved.{VariableLine, ConstantOf}
 use Rattle.calculus.specs.FoundKnown.{found-known}
 use Rattle.cells.specs.Cells.{rowCell}
 use Rattle.cells.specs.Layout.{unitAt, levelUnit, unit-below}
@@ -77,13 +79,12 @@ module _ {tb ts e : List ℕ} {scope : Scope} {w : List ℕ} {limit budget level
       spans = λ B room E. absurd (h (ap (λ (k : ℕ). k % 8) (sym (at-first x (E .at)))));
     }
 
-    no-type : Categorises tb ts e scope w limit budget level w′ code n extent left type
-    unfolding Scoped
-    no-type = record { finds = λ B room E. absurd (E .known); spans = λ B room E. absurd (E .known) }
-
-    no-prop : Categorises tb ts e scope w limit budget level w′ code n extent left prop
-    unfolding Scoped
-    no-prop = record { finds = λ B room E. absurd (E .known); spans = λ B room E. absurd (E .known) }
+    -- nor does `type` or `prop`, which are no known expressions
+    no-sort : {s : Expr} → Basic s → Categorises tb ts e scope w limit budget level w′ code n extent left s
+    no-sort {s} b = record {
+      finds = λ {ls} {sc} B room E. absurd (scoped-ends (VariableLine ls) (ConstantOf ls) (length sc) s b itself (E .known));
+      spans = λ {ls} {sc} B room E. absurd (scoped-ends (VariableLine ls) (ConstantOf ls) (length sc) s b itself (E .known));
+    }
 
     by-var : (v′ v : ℕ) → v ≡ getD e 0 0 / 8 → StoredPost tb ts w limit budget level v w′ code n extent left
         → Categorises tb ts e scope w limit budget level w′ code n extent left (var v′)
@@ -102,8 +103,8 @@ module _ {tb ts e : List ℕ} {scope : Scope} {w : List ℕ} {limit budget level
     by-variable {v} m h q P = record { frame = P .frame; within = omega (arith, P .spans .within); means = go }
       where
         go : (x : Expr) → Categorises tb ts e scope w limit budget level w′ code n extent left x
-        go type = no-type
-        go prop = no-prop
+        go type = no-sort aType
+        go prop = no-sort aProp
         go (var v′) = by-var v′ v q P
         go (bound i) = other-kind (bound i) (λ z. omega arith)
         go (const u xs) = other-kind (const u xs) (λ z. omega arith)
@@ -127,8 +128,8 @@ module _ {tb ts e : List ℕ} {scope : Scope} {w : List ℕ} {limit budget level
     by-bound {v} m h q P = record { frame = P .frame; within = omega (arith, P .spans .within); means = go }
       where
         go : (x : Expr) → Categorises tb ts e scope w limit budget level w′ code n extent left x
-        go type = no-type
-        go prop = no-prop
+        go type = no-sort aType
+        go prop = no-sort aProp
         go (var v′) = other-kind (var v′) (λ z. omega arith)
         go (bound i) = by-index i v q P
         go (const u xs) = other-kind (const u xs) (λ z. omega arith)
@@ -141,8 +142,8 @@ module _ {tb ts e : List ℕ} {scope : Scope} {w : List ℕ} {limit budget level
     by-application h P = record { frame = P .frame; within = P .within; means = go }
       where
         go : (x : Expr) → Categorises tb ts e scope w limit budget level w′ code n extent left x
-        go type = no-type
-        go prop = no-prop
+        go type = no-sort aType
+        go prop = no-sort aProp
         go (var v′) = other-kind (var v′) (λ z. omega arith)
         go (bound i) = other-kind (bound i) (λ z. omega arith)
         go (const u xs) = other-kind (const u xs) (λ z. omega arith)
@@ -155,8 +156,8 @@ module _ {tb ts e : List ℕ} {scope : Scope} {w : List ℕ} {limit budget level
     by-abstraction h P = record { frame = P .frame; within = P .within; means = go }
       where
         go : (x : Expr) → Categorises tb ts e scope w limit budget level w′ code n extent left x
-        go type = no-type
-        go prop = no-prop
+        go type = no-sort aType
+        go prop = no-sort aProp
         go (var v′) = other-kind (var v′) (λ z. omega arith)
         go (bound i) = other-kind (bound i) (λ z. omega arith)
         go (const u xs) = other-kind (const u xs) (λ z. omega arith)
@@ -167,8 +168,8 @@ module _ {tb ts e : List ℕ} {scope : Scope} {w : List ℕ} {limit budget level
     by-const : getD e 0 0 % 8 ≡ 3 → ((u : ℕ) (xs : Exprs) → Categorises tb ts e scope w limit budget level w′ code n extent left (const u xs)) → (x : Expr)
         → Categorises tb ts e scope w limit budget level w′ code n extent left x
     unfolding firstCell
-    by-const h f type = no-type
-    by-const h f prop = no-prop
+    by-const h f type = no-sort aType
+    by-const h f prop = no-sort aProp
     by-const h f (var v′) = other-kind (var v′) (λ z. omega arith)
     by-const h f (bound i) = other-kind (bound i) (λ z. omega arith)
     by-const h f (const u xs) = f u xs
@@ -240,8 +241,8 @@ module _ {tb ts e : List ℕ} {scope : Scope} {w : List ℕ} {limit budget level
     by-nothing h₁ h₂ h₃ h₄ h₅ s q = record { frame = λ small. rw q outside-same; within = omega arith; means = go }
       where
         go : (x : Expr) → Categorises tb ts e scope w limit budget level w′ code n extent left x
-        go type = no-type
-        go prop = no-prop
+        go type = no-sort aType
+        go prop = no-sort aProp
         go (var v′) = other-kind (var v′) (λ z. h₁ (omega arith))
         go (bound i) = other-kind (bound i) (λ z. h₂ (omega arith))
         go (const u xs) = other-kind (const u xs) (λ z. h₃ (omega arith))

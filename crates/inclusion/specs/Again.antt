@@ -20,7 +20,7 @@ use Rattle.calculus.specs.Resolved.{VariableLine, ConstantOf, Known, KnownScope
 use Rattle.calculus.specs.Known.{known-category-steps}
 use Rattle.inclusion.specs.Knowing.{reaches-ends}
 use Rattle.calculus.specs.Bindings.{bound-scoped}
-use Rattle.inclusion.specs.Liberal.{head-reduces}
+use Rattle.calculus.specs.HeadSearch.{head-reduces}
 use Rattle.inclusion.specs.HeadKept.{ends-back}
 use Rattle.inclusion.specs.Inside.{known-category}
 

@@ -25,7 +25,8 @@ use Rattle.calculus.specs.Scoped.{Scoped, ScopedScope, scoped-ends}
 use Rattle.calculus.specs.Resolved.{VariableOf, ConstantOf, KnownScope, KnownCategory, Resolved, AllResolved, ResolvedScope, ResolvedLines, lines-closed, resolved-known}
 use Rattle.inclusion.specs.Endings.{ends-steps}
 use Rattle.inclusion.specs.Serves.{equal-serves, serves-then-equal, equal-then-serves, serves-reached}
-use Rattle.inclusion.specs.Liberal.{Liberal, byVariable, byBound, byConstant, byApplication, byEqual, byAbstraction, Fits, noneFits, moreFits, InContext, NestedContext, known-liberal, resolved-liberal, in-context-steps, head-resolved, head-reduces}
+use Rattle.calculus.specs.HeadSearch.{head-reduces}
+use Rattle.inclusion.specs.Liberal.{Liberal, byVariable, byBound, byConstant, byApplication, byEqual, byAbstraction, Fits, noneFits, moreFits, InContext, NestedContext, known-liberal, resolved-liberal, in-context-steps, head-resolved}
 use Rattle.calculus.specs.Actions.{isType-true}
 use Rattle.inclusion.specs.Unique.{known-type, isType-false}
 use Rattle.inclusion.specs.Neutral.{equal-alike, alike-unique}

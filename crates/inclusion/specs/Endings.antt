@@ -57,11 +57,6 @@ module _ (language : Language) where
   drops-ends aProp (surplus x c e) itself = e
   drops-ends b (under d) (before h) = before (drops-ends b d h)
 
-  pub drops-keeps : {s a b : Expr} → Basic s → Drops language a b → Ends s a → Ends s b
-  drops-keeps b same h = h
-  drops-keeps {s} b (surplus x c e) h = subst (λ z. Ends s z) (ends-one b c h e) itself
-  drops-keeps b (under d) (before h) = before (drops-keeps b d h)
-
   -- what drops to an abstraction
   pub drops-abs : {a p t : Expr} → Drops language a (abs p t) → (t′ : Expr) × (a ≡ abs p t′) × Drops language t′ t
   drops-abs {t = t} same = (t, refl, same)

@@ -2,20 +2,20 @@
 use mathlib.Core.Path.{_≡_, refl, subst, sym, _∙_}
 use mathlib.Core.Logic.{_⊎_, inl, inr}
 use mathlib.Core.Bool.{Bool, true, false, _||_}
-use mathlib.Core.Option.{Option, none, some}
-use Prim.Native.Nat.{ℕ, zero, suc}
-use lib.Dec.{leb, ltb}
+use mathlib.Core.Option.{none}
+use Prim.Native.Nat.{ℕ}
+use lib.Dec.{ltb}
 use Rattle.aut68.specs.Language.{Language, aut68, autQE, extended}
-use Rattle.aut68.specs.Procedure.Answer.{Answer, done, stop, ensure, Refusal, notType, tooLarge, outOfBudget}
-use Rattle.aut68.specs.Expr.{Expr, type, prop, abs, size, isType, endsInType, endsInProp, Shape, shape, abstraction, other}
+use Rattle.aut68.specs.Procedure.Answer.{done, ensure, Refusal, notType, tooLarge}
+use Rattle.aut68.specs.Expr.{Expr, type, prop, abs, isType, endsInType, endsInProp, Shape, shape, abstraction, other}
 use Rattle.aut68.specs.Lines.{Lines}
 use Rattle.aut68.specs.Rules.Steps.{Reduces, Equal}
 use Rattle.aut68.specs.Rules.Serving.{Basic, aType, aProp, Ends, IsType, theType, aSupertype}
 use Rattle.aut68.specs.Rules.Categories.{HeadReduces}
 use Rattle.aut68.specs.Rules.Categories
 use Rattle.aut68.specs.Procedure.HeadStep.{headStep, left}
-use Rattle.aut68.specs.Procedure.Category.{Function, headForm, parts, toFunction, servesAsType, opens}
-use Rattle.lookup.specs.Answers.{Judged, isDone, isStop, Finding, noFunction, large, spent, judged-map, judged-then, judged-sized}
+use Rattle.aut68.specs.Procedure.Category.{Function, parts, toFunction, servesAsType, opens}
+use Rattle.lookup.specs.Answers.{Judged, isDone, isStop, Finding, noFunction, large, judged-then}
 use Rattle.calculus.specs.Star.{Star, done, more}
 use Rattle.calculus.specs.Star
 use Rattle.calculus.specs.Equality.{abs-steps, equal-after}
@@ -24,7 +24,7 @@ use Rattle.calculus.specs.HeadForms.{Neutral, head-none, shape-other, normal-ne
 use Rattle.calculus.specs.HeadFirst.{HeadsTo, head-to}
 use Rattle.calculus.specs.Resolved.{ResolvedLines, lines-closed}
 use Rattle.calculus.specs.Actions.{isType-true}
-use Rattle.inclusion.specs.Liberal.{head-reduces}
+use Rattle.calculus.specs.HeadSearch.{head-reduces, Ended, isFunction, isOther, headForm-finds}
 use Rattle.inclusion.specs.Comparing.{type-ends, prop-ends, ends-type, ends-prop}
 
 pub opens-judged : (language : Language) (X : Type 0) (d b : ℕ) → Judged (λ _. Unit {0}) (Finding X) (opens language d b)
@@ -85,55 +85,6 @@ module _ (ls : Lines) where
   heads-to Categories.done = Star.done
   heads-to (Categories.step {a} {b} q h) = Star.more (head-to ls a b q) (heads-to h)
 
-  -- no head step is left
-  pub data Ended (f : Expr) : Type 0 where
-    isFunction : {p q : Expr} → shape f ≡ abstraction p q → Ended f
-    isOther : shape f ≡ other → left (headStep ls f) ≡ none → Ended f
-
-  pub record Formed (c f : Expr) : Type 0 where
-    pub heads : HeadReduces ls c f
-    pub ended : Ended f
-
-  stepped : {X : Type 0} {f g : Expr} {m : Answer ℕ Expr} → left (headStep ls f) ≡ some g → Judged (Formed g) (Finding X) m → Judged (Formed f) (Finding X) m
-  stepped q h = judged-map (λ e x. record { heads = Categories.step q (x .heads); ended = x .ended }) (λ r x. x) h
-
-  pub headForm-finds : (X : Type 0) (L : ℕ) (f : Expr) (b : ℕ) → Judged (Formed f) (Finding X) (headForm ls L f b)
-  unfolding headForm
-  headForm-finds X L f zero = go (shape f) refl
-    where
-      next : (o : Option Expr) → left (headStep ls f) ≡ o → shape f ≡ other
-          → Judged {S = ℕ} (Formed f) (Finding X) (elim o [ none ↦ Answer.done f zero | some g ↦ stop outOfBudget zero ])
-      next none e s = isDone (record { heads = Categories.done; ended = isOther s e })
-      next (some g) e s = isStop spent
-
-      go : (s : Shape) → shape f ≡ s
-          → Judged {S = ℕ} (Formed f) (Finding X) (elim s [
-            | abstraction p q ↦ Answer.done f zero
-            | other ↦ elim (left (headStep ls f)) [ none ↦ Answer.done f zero | some g ↦ stop outOfBudget zero ]
-          ])
-      go (abstraction p q) e = isDone (record { heads = Categories.done; ended = isFunction e })
-      go other e = next (left (headStep ls f)) refl e
-  headForm-finds X L f (suc b) = go (λ g. headForm-finds X L g b) (shape f) refl
-    where
-      next : ((g : Expr) → Judged (Formed g) (Finding X) (headForm ls L g b)) → (o : Option Expr) → left (headStep ls f) ≡ o → shape f ≡ other
-          → Judged {S = ℕ} (Formed f) (Finding X) (elim o [
-            | none ↦ Answer.done f (suc b)
-            | some g ↦ elim (leb (size g) L) [ true ↦ headForm ls L g b | false ↦ stop tooLarge (suc b) ]
-          ])
-      next ih none e s = isDone (record { heads = Categories.done; ended = isOther s e })
-      next ih (some g) e s = judged-sized (leb (size g) L) (suc b) (stepped e (ih g)) large
-
-      go : ((g : Expr) → Judged (Formed g) (Finding X) (headForm ls L g b)) → (s : Shape) → shape f ≡ s
-          → Judged {S = ℕ} (Formed f) (Finding X) (elim s [
-            | abstraction p q ↦ Answer.done f (suc b)
-            | other ↦ elim (left (headStep ls f)) [
-              | none ↦ Answer.done f (suc b)
-              | some g ↦ elim (leb (size g) L) [ true ↦ headForm ls L g b | false ↦ stop tooLarge (suc b) ]
-            ]
-          ])
-      go ih (abstraction p q) e = isDone (record { heads = Categories.done; ended = isFunction e })
-      go ih other e = next ih (left (headStep ls f)) refl e
-
   pub ended-neutral : {f : Expr} → shape f ≡ other → left (headStep ls f) ≡ none → Neutral ls f
   ended-neutral {f} o n = normal-neutral ls (head-none ls f n) (shape-other f o)
 
@@ -148,9 +99,9 @@ module _ (ls : Lines) where
     pub toFunction-finds : (L : ℕ) (f : Expr) (b : ℕ)
         → Judged (λ (g : Function). HeadReduces ls f (abs (g .domain) (g .body))) (Finding ((p q : Expr) → ¬ Equal ls f (abs p q))) (toFunction ls L f b)
     unfolding toFunction parts
-    toFunction-finds L f b = judged-then _ (headForm-finds _ L f b) (λ r x. x) (λ g b′ h. at g b′ (h .heads) (h .ended) (shape g) refl)
+    toFunction-finds L f b = judged-then _ (headForm-finds ls _ L f b) (λ r x. x) (λ g b′ h. at g b′ (h .heads) (h .ended) (shape g) refl)
       where
-        at : (g : Expr) (b′ : ℕ) → HeadReduces ls f g → Ended g → (s : Shape) → shape g ≡ s
+        at : (g : Expr) (b′ : ℕ) → HeadReduces ls f g → Ended ls g → (s : Shape) → shape g ≡ s
             → Judged (λ (g : Function). HeadReduces ls f (abs (g .domain) (g .body))) (Finding ((p q : Expr) → ¬ Equal ls f (abs p q))) (parts s b′)
         at g b′ h e (abstraction p q) i = isDone (subst (λ z. HeadReduces ls f z) (shape-abs g i) h)
         at g b′ h (isFunction j) other i = absurd (other-not (sym j ∙ i))

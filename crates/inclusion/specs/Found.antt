@@ -9,7 +9,7 @@ use Prim.Native.Nat.{ℕ, zero, suc}
 use native.Mathlib.Omega.{arith}
 use lib.ListN.{length}
 use Rattle.aut68.specs.Language.{Language, aut68, autQE, Extended, extended}
-use Rattle.aut68.specs.Procedure.Answer.{Act, Answer, andThen, refuse, Refusal, notFunction}
+use Rattle.aut68.specs.Procedure.Answer.{Act, Answer, andThen, refuse, notFunction}
 use Rattle.aut68.specs.Expr.{Expr, Exprs, type, prop, var, bound, const, app, abs, nil, cons, snoc, countExprs, isSort, Shape, shape, abstraction, other}
 use Rattle.aut68.specs.Substitution.{substitute, instantiate}
 use Rattle.aut68.specs.Lines.{Line, Lines}
@@ -18,7 +18,7 @@ use Rattle.aut68.specs.Rules.Serving.{Basic, aType, aProp, Ends, itself, before
 use Rattle.aut68.specs.Rules.Categories.{HeadReduces, Category, ofVariable, ofBound, ofConstant, ofApplication, ofSecondChance, ofAbstraction, Fit, allFit, oneFits}
 use Rattle.aut68.specs.Procedure.HeadStep.{headStep, left}
 use Rattle.aut68.specs.Procedure.Compare.{compare}
-use Rattle.aut68.specs.Procedure.Category.{Search, theLine, made, toFunction, secondChance, categoryAt, arguments, searches, category}
+use Rattle.aut68.specs.Procedure.Category.{Search, made, toFunction, secondChance, categoryAt, arguments, searches, category}
 use Rattle.lookup.specs.Contexts.{RightContexts}
 use Rattle.lookup.specs.Answers.{Judged, isDone, isStop, Finding, noFunction, noType, large, finding-map, judged-map, judged-then}
 use Rattle.calculus.specs.Equality.{equal-sym, equal-trans, equal-steps, equal-abs-inv}
@@ -31,7 +31,8 @@ use Rattle.inclusion.specs.Endings.{ends-steps}
 use Rattle.inclusion.specs.Serves.{equal-serves, equal-then-serves, serves-then-equal}
 use Rattle.calculus.specs.Known.{known-category-steps, known-wanted}
 use Rattle.inclusion.specs.Knowing.{equal-ends}
-use Rattle.inclusion.specs.Liberal.{Liberal, byVariable, byBound, byConstant, byApplication, byEqual, byAbstraction, Fits, noneFits, moreFits, InContext, NestedContext, known-liberal, resolved-liberal, in-context-steps, head-reduces}
+use Rattle.calculus.specs.HeadSearch.{head-reduces, Ended, isFunction, isOther, headForm-finds}
+use Rattle.inclusion.specs.Liberal.{Liberal, byVariable, byBound, byConstant, byApplication, byEqual, byAbstraction, Fits, noneFits, moreFits, InContext, NestedContext, known-liberal, resolved-liberal, in-context-steps}
 use Rattle.inclusion.specs.Unique.{liberal-unique}
 use Rattle.inclusion.specs.Keeping.{isType-served}
 use Rattle.inclusion.specs.HeadKept.{heads-kept, resolved-steps}
@@ -39,8 +40,8 @@ use Rattle.inclusion.specs.Validity.{Sorted, Valid, SortedScope, oneBind
 use Rattle.inclusion.specs.Substituted.{all-snoc}
 use Rattle.inclusion.specs.Embedding.{scope-known}
 use Rattle.inclusion.specs.Comparing.{Categorical, compare-settles}
-use Rattle.calculus.specs.Actions.{the-line, nth-domain, made-judged}
-use Rattle.inclusion.specs.Forms.{opens-judged, ensure-type, heads-to, Ended, isFunction, isOther, headForm-finds, ended-neutral, toFunction-finds}
+use Rattle.calculus.specs.Actions.{judged-line, nth-domain, made-judged}
+use Rattle.inclusion.specs.Forms.{opens-judged, ensure-type, heads-to, ended-neutral, toFunction-finds}
 use Rattle.inclusion.specs.Denying.{constant-fits, function-category, argument-category, domain-category, body-category, first-fits, others-fit, no-argument, no-function, sort-apart, second-agrees}
 
 sort-true : (e : Expr) → isSort e ≡ true → Basic e
@@ -141,11 +142,6 @@ module _ (ls : Lines) (W : ResolvedLines ls) (contexts : RightContexts ls) (ctx 
 
 module _ (language : Language) (ls : Lines) (W : ResolvedLines ls) (contexts : RightContexts ls) (right : RightLines language ls)
     (ctx : List ℕ) {n : ℕ} (C : Context ls n ctx) (N : NestedContext ls ctx) (L : ℕ) (search : Search) (sf : SearchFinds language ls ctx search) where
-  -- with the line of a name at hand
-  at-line : {B : Type 0} {Q : B → Type 0} {R : Refusal → Type 0} {v : ℕ} {l : Line} (f : Line → Act ℕ B) (b : ℕ) → IsLine ls v l → Judged Q R (f l b) → Judged Q R (andThen f (theLine ls v b))
-  unfolding andThen
-  at-line {Q = Q} {R} f b i h = rw (the-line i b) h
-
   categorical : {sc : List Expr} {e c : Expr} → Liberal language ls ctx sc e c → Resolved ls ctx (length sc) e → ResolvedScope ls ctx sc → Categorical ls c
   categorical {sc} {e} h w s = record { depth = length sc; known = known-liberal language ls ctx W h (resolved-known ls ctx (length sc) e w) (scope-known ls ctx sc s) }
 
@@ -251,7 +247,7 @@ module _ (language : Language) (ls : Lines) (W : ResolvedLines ls) (contexts : R
     categoryAt-finds d sc prop w s T b = absurd w
     categoryAt-finds d sc (var v) w s T b =
         judged-then _ (opens-judged language _ d b) (λ r x. x) (λ _ b₁ _.
-        at-line _ b₁ (w .isLine)
+        judged-line _ b₁ (w .isLine)
         (made-judged L _
         (record { strict = ofVariable (w .isLine) refl; liberal = byVariable (w .isLine) refl; valid = valid-variable language ls W contexts right ctx C w (w .isLine) (scope-known ls ctx sc s); byHeads = λ x. headsVariable (w .isLine) refl }) large b₁))
     categoryAt-finds d sc (bound i) w s T b =
@@ -261,7 +257,7 @@ module _ (language : Language) (ls : Lines) (W : ResolvedLines ls) (contexts : R
     categoryAt-finds d sc (const v xs) w s T b =
         let i = w .0 .isLine in
         judged-then _ (opens-judged language _ d b) (λ r x. x) (λ _ b₁ _.
-        at-line _ b₁ i
+        judged-line _ b₁ i
         (judged-then _ (arguments-find (suc d) sc xs (w .1) s T _ _ nil tt (w .0 .asMany) (λ u m. variable-line (W .at i .context m)) b₁)
         (finding-map (λ deny c h. deny (constant-fits language ls ctx i h)))
         (λ _ b₂ f.
@@ -296,7 +292,7 @@ module _ (language : Language) (ls : Lines) (W : ResolvedLines ls) (contexts : R
     arguments-find d sc (cons a xs) w s T (u ∷ us) context earlier x n m b =
         let i = m u here .isLine in
         judged-then _ (categoryAt-finds d sc a (w .0) s T b) (finding-map (λ deny h. let (k, y, z) = first-fits language ls ctx i h in deny k y)) (λ k b₁ hk.
-        at-line _ b₁ i
+        judged-line _ b₁ i
         (judged-then _ (made-judged {P = λ c. c ≡ instantiate context earlier 0 (m u here .line .category)} {R = Finding (¬ Fits language ls ctx sc context (u ∷ us) earlier (cons a xs))} L _ refl large b₁) (λ r y. y) (λ c b₂ q.
         judged-then _ (compare-settles ls language W L k c (categorical (hk .liberal) (w .0) s)
         (record { depth = length sc; known = subst (KnownCategory ls (length sc)) (sym q) (known-wanted ls W (length sc) context earlier i x) }) b₂)

@@ -20,7 +20,7 @@ use Rattle.inclusion.specs.Serves.{equal-serves, serves-refl, serves-abs
 use Rattle.calculus.specs.Known.{constant-count, line-in-context, known-category-steps}
 use Rattle.inclusion.specs.Knowing.{serves-ends}
 use Rattle.calculus.specs.Bindings.{bound-scoped, over-scoped}
-use Rattle.inclusion.specs.Liberal.{head-reduces}
+use Rattle.calculus.specs.HeadSearch.{head-reduces}
 use Rattle.calculus.specs.Actions.{isType-true}
 use Rattle.inclusion.specs.Keeping.{serves-substitute}
 

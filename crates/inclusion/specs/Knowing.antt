@@ -11,7 +11,7 @@ use Rattle.calculus.specs.Reductions.{steps-eq}
 use Rattle.calculus.specs.Scoped.{Scoped, category-cases, scoped-ends}
 use Rattle.calculus.specs.Resolved.{ResolvedLines, Known, KnownCategory}
 use Rattle.calculus.specs.Known.{known-steps}
-use Rattle.inclusion.specs.Endings.{ends-steps, ends-one, drops-ends, drops-keeps}
+use Rattle.inclusion.specs.Endings.{ends-steps, ends-one, drops-ends}
 
 module _ (ls : Lines) (W : ResolvedLines ls) where
   -- what reaches something that ends in s ends in s
@@ -26,9 +26,6 @@ module _ (ls : Lines) (W : ResolvedLines ls) where
     -- what serves for `type`, `prop` or what ends in one of them ends in it too
     pub serves-ends : {s : Expr} (k : ℕ) {c d : Expr} → Basic s → KnownCategory ls k c → Serves language ls c d → Ends s d → Ends s c
     serves-ends k b w h e = reaches-ends k b w (h .fromFound) (drops-ends language b (h .drops) (ends-steps ls b e (h .fromWanted)))
-
-    pub ends-served : {s : Expr} (k : ℕ) {c d : Expr} → Basic s → KnownCategory ls k d → Serves language ls c d → Ends s c → Ends s d
-    ends-served k b w h e = reaches-ends k b w (h .fromWanted) (drops-keeps language b (h .drops) (ends-steps ls b e (h .fromFound)))
 
     drops-known : (k : ℕ) {a b : Expr} → Drops language a b → Known ls k b → a ≡ b
     unfolding Scoped
@@ -45,11 +42,3 @@ module _ (ls : Lines) (W : ResolvedLines ls) where
   -- equal categories end alike
   pub equal-ends : {s : Expr} (k : ℕ) {c d : Expr} → Basic s → KnownCategory ls k c → Equal ls c d → Ends s d → Ends s c
   equal-ends k b w h e = reaches-ends k b w (h .fromLeft) (ends-steps ls b e (h .fromRight))
-
-  -- what equals an expression is one
-  pub equal-known : (k : ℕ) {c d : Expr} → KnownCategory ls k c → Known ls k d → Equal ls c d → Known ls k c
-  equal-known k {c} {d} w x h = go (category-cases _ _ k c w)
-    where
-      go : Supertype c ⊎ Known ls k c → Known ls k c
-      go (inl y) = absurd (scoped-ends _ _ k (h .common) (y .isBasic) (ends-steps ls (y .isBasic) (y .ends) (h .fromLeft)) (known-steps ls W k (h .fromRight) x))
-      go (inr y) = y

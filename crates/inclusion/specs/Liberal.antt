@@ -13,11 +13,9 @@ use Rattle.aut68.specs.Lines.{Line, Lines}
 use Rattle.aut68.specs.Rules.Names.{IsLine, Context}
 use Rattle.lookup.specs.Contexts.{RightContexts, context-nested}
 use Rattle.aut68.specs.Rules.Steps.{Reduces, Equal}
-use Rattle.aut68.specs.Rules.Steps
 use Rattle.aut68.specs.Rules.Serving.{Basic, aType, aProp, Ends, itself, before, Supertype, Serves, IsType}
-use Rattle.aut68.specs.Rules.Categories.{DomainAt, HeadReduces, Category}
-use Rattle.aut68.specs.Rules.Categories
-use Rattle.calculus.specs.HeadForms.{head-step, shape-other}
+use Rattle.aut68.specs.Rules.Categories.{DomainAt, Category}
+use Rattle.calculus.specs.HeadForms.{shape-other}
 use Rattle.calculus.specs.Scoped.{Scoped, ScopedScope, ScopedCategory, category-cases, category-map, category-steps, scoped-map, scoped-category, scoped-arg, category-under, category-substitute, category-instantiate}
 use Rattle.calculus.specs.Resolved.{Resolved, ResolvedScope, ConstantOf, VariableOf, VariableLine, variable-line, Known, KnownScope, KnownCategory, ResolvedLines, known-line}
 use Rattle.calculus.specs.Known.{constant-count, line-in-context, kept-middles}
@@ -46,10 +44,6 @@ module _ (language : Language) (ls : Lines) (ctx : List ℕ) where
       moreFits : {sc : List Expr} {context vs : List ℕ} {v : ℕ} {l : Line} {earlier xs : Exprs} {a k : Expr}
           → IsLine ls v l → Liberal sc a k → Serves language ls k (instantiate context earlier 0 (l .category)) → Fits sc context vs (snoc earlier a) xs
           → Fits sc context (v ∷ vs) earlier (cons a xs)
-
-pub head-reduces : (ls : Lines) {a b : Expr} → HeadReduces ls a b → Reduces ls a b
-head-reduces ls Categories.done = Steps.done
-head-reduces ls (Categories.step {a} {b} q h) = Steps.step (head-step ls a b q) (head-reduces ls h)
 
 -- ---- categories are known
 

@@ -39,10 +39,6 @@ module _ (language : Language) (ls : Lines) (W : ResolvedLines ls) (contexts : R
   variables-stay : (sc : List Expr) (σ : ℕ → Expr) {v : ℕ} {l : Line} → IsLine ls v l → Kept language ls ctx sc (var v) (sub σ var (l .category))
   variables-stay sc σ {l = l} i = kept-path language ls W ctx (kept-same language ls W ctx (byVariable i refl)) (sym (sub-closed-id σ (l .category) (line-closed ls W i)))
 
-  domain-below : {p : Expr} {sc : List Expr} {i : ℕ} → DomainAt p sc i → i < length sc
-  domain-below innermost = omega arith
-  domain-below (outside d) = let l = domain-below d in omega arith
-
   -- ---- an argument for the innermost bound variable
 
   down : (a e : Expr) → sub (one a) var (raise e) ≡ e
@@ -92,26 +88,6 @@ module _ (language : Language) (ls : Lines) (W : ResolvedLines ls) (contexts : R
       (liberal-sub language ls W ctx ctx contexts ht (p′ ∷ sc) bound var (replaces-domain e wp′ s) wt (wp, s))
 
   -- ---- under bindings
-
-  replaces-none : {sc : List Expr} → KnownScope ls sc → Replaces language ls ctx ctx [] sc bound var
-  unfolding Scoped
-  replaces-none {sc} s =
-      record {
-        bounds = λ d. absurd (below d);
-        variables = λ u i. variables-stay sc bound i;
-        resolvedBounds = λ i l. absurd (omega arith);
-        resolvedVariables = λ v x. x;
-        knownVariables = λ v x. x;
-        knownScope = s;
-      }
-    where
-      below : {p : Expr} {i : ℕ} → DomainAt p [] i → ⊥
-      below d = elim d [ ]
-
-  pub liberal-under : {sc : List Expr} {e c : Expr} → Liberal language ls ctx [] e c → Resolved ls ctx 0 e → KnownScope ls sc → Kept language ls ctx sc e c
-  unfolding ScopedScope
-  liberal-under {sc} {e} {c} h w s =
-      rw (sub-id e, sub-id c) at (liberal-sub language ls W ctx ctx contexts h sc bound var (replaces-none s) w tt)
 
   -- an expression of a narrower context, in this one
   replaces-wider : {sc : List Expr} (narrow : List ℕ) → ((v : ℕ) → VariableOf ls narrow v → VariableOf ls ctx v) → KnownScope ls sc → Replaces language ls narrow ctx [] sc bound var

@@ -11,7 +11,7 @@ use Rattle.calculus.specs.Resolved.{ConstantOf, Known, AllKnown, KnownCategory,
 use Rattle.aut68.specs.Language.{Language}
 use Rattle.aut68.specs.Rules.Serving.{Serves}
 use Rattle.inclusion.specs.Endings.{drops-sub}
-use Rattle.calculus.specs.Known.{constant-count, known-steps, known-category-steps}
+use Rattle.calculus.specs.Known.{constant-count, known-category-steps}
 use Rattle.inclusion.specs.Agreeing.{sub-substitute, sub-instantiate}
 use Rattle.inclusion.specs.Prefixes.{covered-expression}
 
@@ -34,10 +34,6 @@ module _ (ls : Lines) (W : ResolvedLines ls) where
     stepIn-sub : {xs ys : Exprs} → StepIn ls xs ys → (σ θ : ℕ → Expr) (k : ℕ) → AllKnown ls k xs → StepIn ls (subs σ θ xs) (subs σ θ ys)
     stepIn-sub (inFirst s) σ θ k w = inFirst (step-sub s σ θ k (w .0))
     stepIn-sub (inRest s) σ θ k w = inRest (stepIn-sub s σ θ k (w .1))
-
-  pub reduces-sub : {a b : Expr} → Reduces ls a b → (σ θ : ℕ → Expr) (k : ℕ) → Known ls k a → Reduces ls (sub σ θ a) (sub σ θ b)
-  reduces-sub done σ θ k w = done
-  reduces-sub (step s h) σ θ k w = step (step-sub s σ θ k w) (reduces-sub h σ θ k (known-steps ls W k (steps-one ls s) w))
 
   pub step-sub-category : {e e′ : Expr} → Step ls e e′ → (σ θ : ℕ → Expr) (k : ℕ) → KnownCategory ls k e → Step ls (sub σ θ e) (sub σ θ e′)
   unfolding ScopedCategory sub Scoped

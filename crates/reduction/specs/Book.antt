@@ -42,13 +42,13 @@ module _ (X X′ : ℕ → Type 0) (C C′ : ℕ → ℕ → Type 0) (f : (v : �
     all-formed k (cons a xs) w = (scoped-formed k a (w .0), all-formed k xs (w .1))
 
   pub category-formed : (k : ℕ) (e : Expr) → ScopedCategory X C k e → Formed X′ C′ e
-  unfolding ScopedCategory Formed
+  unfolding Scoped ScopedCategory Formed
   category-formed k type w = tt
   category-formed k prop w = tt
-  category-formed k (var v) w = f v w
-  category-formed k (bound i) w = tt
-  category-formed k (const v xs) w = (g v (countExprs xs) (w .0), all-formed k xs (w .1))
-  category-formed k (app a b) w = (scoped-formed k a (w .0), scoped-formed k b (w .1))
+  category-formed k (var v) w = scoped-formed k (var v) w
+  category-formed k (bound i) w = scoped-formed k (bound i) w
+  category-formed k (const v xs) w = scoped-formed k (const v xs) w
+  category-formed k (app a b) w = scoped-formed k (app a b) w
   category-formed k (abs p t) w = (scoped-formed k p (w .0), category-formed (suc k) t (w .1))
 
 -- a constant's row has the count of its arguments

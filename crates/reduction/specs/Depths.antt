@@ -176,15 +176,13 @@ module _ (X : ℕ → Type 0) (C : ℕ → ℕ → Type 0) (n : ℕ) (f : (v : �
         below-append (8 * n) (cells a) (cellss xs) (deep-below k d a (w .0) (h .0) l) (all-deep-below k d xs (w .1) (h .1) l)
 
   pub category-below : (k d : ℕ) (e : Expr) → ScopedCategory X C k e → Deep d e → k + d ≤ n → Below (8 * n) (cells e)
-  unfolding ScopedCategory Deep cells Below
+  unfolding Scoped ScopedCategory Deep cells Below
   category-below k d type w h l = (omega arith, tt)
   category-below k d prop w h l = (omega arith, tt)
-  category-below k d (var v) w h l = let m = f v w in (omega arith, tt)
-  category-below k d (bound i) w h l = (omega arith, tt)
-  category-below k d (const v xs) w h l = let m = g v _ (w .0) in (omega arith, all-deep-below k d xs (w .1) h l)
-  category-below k d (app a b) w h l =
-      let q = below-append (8 * n) (cells a) (cells b) (deep-below k d a (w .0) (h .0) l) (deep-below k d b (w .1) (h .1) l) in
-      (omega arith, q)
+  category-below k d (var v) w h l = deep-below k d (var v) w h l
+  category-below k d (bound i) w h l = deep-below k d (bound i) w h l
+  category-below k d (const v xs) w h l = deep-below k d (const v xs) w h l
+  category-below k d (app a b) w h l = deep-below k d (app a b) w h l
   category-below k d (abs p t) w h l =
       let q = below-append (8 * n) (cells p) (cells t) (deep-below k d p (w .0) (h .0) l) (category-below (suc k) (d - 1) t (w .1) (h .2) (omega arith)) in
       (omega arith, q)
