@@ -1,5 +1,5 @@
 -- The sixteen outcomes that document 01 calls the proved ones, as one table under one theorem; books that tell its misreadings apart,
--- under another; and the example books in AUT-QE, under a third.
+-- under another; the example books in AUT-QE, under a third; and the lines that a book of three records.
 use mathlib.Core.Path.{_≡_, refl}
 use Prim.Native.Nat.{ℕ}
 use mathlib.Core.Bool.{true}
@@ -89,10 +89,22 @@ stepsRemain =
 unfoldable pub misreadings : List Case
 misreadings = selfNamed ++ swapped ++ renumbered ++ stepsRemain
 
+-- ---- what is recorded of a book
+
+unfoldable pub numbers : List ℕ
+numbers = bytesOf "*nat:=PN:type\n*one:=PN:nat\n*num:=nat:type\n"
+
+unfoldable pub numberLines : Lines.Lines
+numberLines =
+    record { identifier = bytesOf "nat"; indicator = 0; context = []; kind = Lines.primitive; category = Expr.type }
+    ∷ record { identifier = bytesOf "one"; indicator = 0; context = []; kind = Lines.primitive; category = Expr.const 1 Expr.nil }
+    ∷ record { identifier = bytesOf "num"; indicator = 0; context = []; kind = Lines.abbreviation (Expr.const 1 Expr.nil); category = Expr.type }
+    ∷ []
+
 -- ---- the tables, computed
 
-computed : (allHold (tableRows ++ fourOutcomes) ≡ true) × (allHold misreadings ≡ true) × (allHold examplesQE ≡ true)
-unfolding allHold holds within usual naturals families examplesQE sample longer tableRows fourOutcomes selfNamed swapped renumbered stepsRemain misreadings bytesOf
+computed : (allHold (tableRows ++ fourOutcomes) ≡ true) × (allHold misreadings ≡ true) × (allHold examplesQE ≡ true) × (Run.recordedAt (Run.run aut68 numbers 0 16 24 8 2048) .recorded ≡ numberLines)
+unfolding numbers numberLines allHold holds within usual naturals families examplesQE sample longer tableRows fourOutcomes selfNamed swapped renumbered stepsRemain misreadings bytesOf
     Answer.codeOf Answer.andThen Answer.when Answer.ensure
     Bytes.nameByte Bytes.opensExpression Bytes.sameBytes Bytes.wordType Bytes.wordPN Bytes.wordEB Bytes.wordProp Bytes.reserved Bytes.onto Bytes.lines
     Source.cellsOfSrc Source.countSrcs Source.middleCells
@@ -106,7 +118,7 @@ unfolding allHold holds within usual naturals families examplesQE sample longer 
     Category.nth Category.theLine Category.made Category.headForm Category.parts Category.toFunction Category.servesAsType Category.opens Category.secondChance Category.categoryAt Category.searches Category.category
     CheckLine.fromReading CheckLine.fromNames CheckLine.room CheckLine.checkDomain CheckLine.checkSupertype CheckLine.checkWritten CheckLine.checkMiddle CheckLine.checkLine
     Run.codeAt Run.lineAt Run.stepsAt Run.recordedAt Run.over Run.tableEnd Run.termsEnd Run.workEnd Run.checkLines Run.nothing Run.run
-computed = (refl, refl, refl)
+computed = (refl, refl, refl, refl)
 
 pub outcomes : allHold (tableRows ++ fourOutcomes) ≡ true
 outcomes = computed .0
@@ -116,3 +128,6 @@ misreadings-excluded = computed .1
 
 pub examples-hold : allHold examplesQE ≡ true
 examples-hold = computed .2
+
+pub numbers-recorded : Run.recordedAt (Run.run aut68 numbers 0 16 24 8 2048) .recorded ≡ numberLines
+numbers-recorded = computed .3

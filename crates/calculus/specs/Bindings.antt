@@ -9,8 +9,8 @@ use Rattle.aut68.specs.Expr.{Expr, type, abs, isType, overBinding}
 use Rattle.aut68.specs.Substitution.{lift}
 use Rattle.aut68.specs.Lines.{Lines}
 use Rattle.aut68.specs.Rules.Categories.{DomainAt, innermost, outside}
-use Rattle.calculus.specs.Scoped.{Scoped, ScopedScope, ScopedCategory, scoped-lift, scoped-under}
-use Rattle.calculus.specs.Resolved.{ConstantOf}
+use Rattle.aut68.specs.Rules.Resolved.{Scoped, ConstantOf}
+use Rattle.calculus.specs.Scoped.{ScopedScope, ScopedCategory, scoped-lift, scoped-under}
 
 module _ (language : Language) (ls : Lines) (X : ℕ → Type 0) where
   abbrev In : ℕ → Expr → Type 0

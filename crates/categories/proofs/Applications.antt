@@ -13,8 +13,9 @@ use Rattle.aut68.specs.Lines.{Lines}
 use Rattle.aut68.specs.Procedure.Category.{made}
 use Rattle.aut68.specs.Procedure.Category as Category
 use Rattle.aut68.specs.Procedure.Compare.{compare}
+use Rattle.aut68.specs.Rules.Resolved.{ConstantOf}
 use Rattle.calculus.specs.Scoped.{ScopedCategory, scoped-category, category-substitute}
-use Rattle.calculus.specs.Resolved.{VariableLine, ConstantOf, Known, KnownCategory}
+use Rattle.calculus.specs.Resolved.{VariableLine, Known, KnownCategory}
 use Rattle.cells.specs.Cells.{At, Outside, copyCells}
 use Rattle.cells.specs.Layout.{unitAt, levelUnit, sideUnit, scratchUnit, resultUnit, unit-below, result-ends}
 use Rattle.cells.specs.Forests.{size-is-length, at-inside}

@@ -13,8 +13,9 @@ use Rattle.aut68.specs.Expr as Expr
 use Rattle.aut68.specs.Lines.{Line, Lines}
 use Rattle.aut68.specs.Rules.Serving.{Basic, aType, aProp, itself}
 use Rattle.aut68.specs.Procedure.Category.{made, toFunction}
-use Rattle.calculus.specs.Scoped.{Scoped, scoped-ends}
-use Rattle.calculus.specs.Resolved.{VariableLine, ConstantOf}
+use Rattle.aut68.specs.Rules.Resolved.{Scoped, ConstantOf}
+use Rattle.calculus.specs.Scoped.{scoped-ends}
+use Rattle.calculus.specs.Resolved.{VariableLine}
 use Rattle.calculus.specs.FoundKnown.{found-known}
 use Rattle.cells.specs.Cells.{rowCell}
 use Rattle.cells.specs.Layout.{unitAt, levelUnit, unit-below}

@@ -12,8 +12,8 @@ use Rattle.aut68.specs.Substitution.{instantiate}
 use Rattle.aut68.specs.Lines.{Line, Lines}
 use Rattle.aut68.specs.Rules.Names.{IsLine}
 use Rattle.aut68.specs.Procedure.Compare.{compare}
-use Rattle.calculus.specs.Scoped.{Scoped}
-use Rattle.calculus.specs.Resolved.{VariableOf, KnownCategory}
+use Rattle.aut68.specs.Rules.Resolved.{Scoped, VariableOf}
+use Rattle.calculus.specs.Resolved.{KnownCategory}
 use Rattle.calculus.specs.Known.{known-wanted}
 use Rattle.cells.specs.Cells.{rowCell, At, AnyVariable, Outside}
 use Rattle.cells.specs.Layout.{unitAt, levelUnit, unit-below}

@@ -13,8 +13,9 @@ use Rattle.aut68.specs.Expr.{Expr, bound, size, cells}
 use Rattle.aut68.specs.Substitution.{lift}
 use Rattle.aut68.specs.Lines.{Lines}
 use Rattle.aut68.specs.Rules.Categories.{DomainAt, innermost, outside}
+use Rattle.aut68.specs.Rules.Resolved.{ConstantOf}
 use Rattle.calculus.specs.Scoped.{ScopedScope, scoped-lift, scoped-category}
-use Rattle.calculus.specs.Resolved.{VariableLine, ConstantOf, Known, KnownScope}
+use Rattle.calculus.specs.Resolved.{VariableLine, Known, KnownScope}
 use Rattle.cells.specs.Cells.{rowCell, At, Outside, copyCells}
 use Rattle.cells.specs.Layout.{unitAt, levelUnit, scratchUnit, resultUnit, unit-below, unit-inside, result-ends}
 use Rattle.cells.specs.Forests.{size-is-length, at-inside}

@@ -13,7 +13,7 @@ use Rattle.aut68.specs.Procedure.Answer.{Answer, done, andThen}
 use Rattle.aut68.specs.Expr.{Expr, Exprs, nil, cons, snoc, size, sizes, cells, cellss, countExprs}
 use Rattle.aut68.specs.Lines.{Line, Lines}
 use Rattle.aut68.specs.Rules.Names.{IsLine, Member, here, there}
-use Rattle.calculus.specs.Scoped.{Scoped}
+use Rattle.aut68.specs.Rules.Resolved.{Scoped}
 use Rattle.calculus.specs.Resolved.{AllKnown}
 use Rattle.cells.specs.Cells.{rowCell, At, copyCells}
 use Rattle.cells.specs.Layout.{unitAt, levelUnit}

@@ -9,7 +9,8 @@ use lib.Seq.{take-all, drop-drop, getD-drop, getD-set-same, getD-set-other}
 use Rattle.aut68.specs.Expr.{Expr, Exprs, type, prop, var, bound, const, app, abs, nil, cons, size, cells, cellss, parts, countExprs}
 use Rattle.aut68.specs.Lines.{Lines}
 use Rattle.aut68.specs.Rules.Categories.{DomainAt, innermost, outside}
-use Rattle.calculus.specs.Scoped.{Scoped, ScopedScope}
+use Rattle.aut68.specs.Rules.Resolved.{Scoped}
+use Rattle.calculus.specs.Scoped.{ScopedScope}
 use Rattle.cells.specs.Cells.{At, Formed, Wf}
 use Rattle.cells.specs.Forests.{at-inside, at-parts, at-front, at-second, at-one, cells-one, cells-long}
 use Rattle.cells.specs.Posts.{Skipped, Bindable, Bound}

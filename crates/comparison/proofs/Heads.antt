@@ -8,8 +8,9 @@ use native.Mathlib.Omega.{arith}
 use Rattle.aut68.specs.Expr.{Expr, Exprs, type, prop, var, bound, const, app, abs, nil, cons, size, parts}
 use Rattle.aut68.specs.Lines.{Lines}
 use Rattle.aut68.specs.Procedure.HeadStep.{headStep, left}
-use Rattle.calculus.specs.Scoped.{Scoped, ScopedCategory, scoped-category, scoped-under}
-use Rattle.calculus.specs.Resolved.{VariableLine, ConstantOf, Known, AllKnown, KnownCategory}
+use Rattle.aut68.specs.Rules.Resolved.{Scoped, ConstantOf}
+use Rattle.calculus.specs.Scoped.{ScopedCategory, scoped-category, scoped-under}
+use Rattle.calculus.specs.Resolved.{VariableLine, Known, AllKnown, KnownCategory}
 use Rattle.terms.specs.Made.{noRoom}
 use Rattle.reduction.specs.Frames.{Lies}
 use Rattle.reduction.specs.Heads.{HeadIs, no-head, contraction, unfolding-of}

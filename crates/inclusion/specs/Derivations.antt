@@ -21,8 +21,9 @@ use Rattle.aut68.specs.Rules.WithoutProp.{NotBound, NotBoundIn, NotBoundMiddle,
 use Rattle.lookup.specs.LineNumbers.{variable≢abbreviation, primitive≢abbreviation, line-snoc, no-line}
 use Rattle.lookup.specs.Contexts.{context-line}
 use Rattle.aut68.specs.Rules.Serving.{Supertype, IsType, theType, aSupertype}
-use Rattle.calculus.specs.Scoped.{Scoped, ScopedCategory, scoped-ends}
-use Rattle.calculus.specs.Resolved.{VariableOf, ConstantOf, Resolved, AllResolved, category-known, resolved-known}
+use Rattle.aut68.specs.Rules.Resolved.{Scoped, VariableOf, ConstantOf, Resolved}
+use Rattle.calculus.specs.Scoped.{ScopedCategory, scoped-ends}
+use Rattle.calculus.specs.Resolved.{AllResolved, category-known, resolved-known}
 use Rattle.inclusion.specs.Liberal.{InContext}
 use Rattle.inclusion.specs.Inside.{written-inside, middle-inside}
 use Rattle.inclusion.specs.Books.{resolved-more, MeetsRules, Built, noLine, oneMore, Right, built-right}

@@ -16,13 +16,14 @@ use Rattle.aut68.specs.Rules.Steps
 use Rattle.aut68.specs.Rules.Serving.{Serves, IsType}
 use Rattle.aut68.specs.Rules.Categories.{HeadReduces, Category, ofVariable, ofBound, ofConstant, ofApplication, ofSecondChance, ofAbstraction, Fit, allFit, oneFits}
 use Rattle.aut68.specs.Procedure.HeadStep.{headStep, left}
+use Rattle.aut68.specs.Rules.Resolved.{Scoped, VariableOf, ConstantOf, Resolved}
 use Rattle.lookup.specs.Contexts.{RightContexts}
 use Rattle.calculus.specs.Reductions.{steps-trans, steps-eq, steps-app, steps-abs, type-steps}
 use Rattle.calculus.specs.Equality.{equal-sym, equal-steps, equal-abs-inv, abs-steps}
 use Rattle.calculus.specs.HeadForms.{HeadNormal, habs, hneutral, Neutral, IsAbs, head-none, shape-other, normal-neutral, neutral-not-abs}
 use Rattle.calculus.specs.HeadFirst.{HeadsTo, HeadFirst, head-first}
-use Rattle.calculus.specs.Scoped.{Scoped, ScopedScope, scoped-ends}
-use Rattle.calculus.specs.Resolved.{VariableOf, ConstantOf, KnownScope, KnownCategory, Resolved, AllResolved, ResolvedScope, ResolvedLines, lines-closed, resolved-known}
+use Rattle.calculus.specs.Scoped.{ScopedScope, scoped-ends}
+use Rattle.calculus.specs.Resolved.{KnownScope, KnownCategory, AllResolved, ResolvedScope, ResolvedLines, lines-closed, resolved-known}
 use Rattle.inclusion.specs.Endings.{ends-steps}
 use Rattle.inclusion.specs.Serves.{equal-serves, serves-then-equal, equal-then-serves, serves-reached}
 use Rattle.calculus.specs.HeadSearch.{head-reduces}

@@ -9,10 +9,11 @@ use Rattle.aut68.specs.Expr.{Expr, Exprs, nil, snoc, countExprs}
 use Rattle.aut68.specs.Substitution.{instantiate}
 use Rattle.aut68.specs.Lines.{Line, Lines}
 use Rattle.aut68.specs.Rules.Names.{IsLine, Member, Context, noContext, within}
+use Rattle.aut68.specs.Rules.Resolved.{VariableOf, ConstantOf, Resolved}
 use Rattle.calculus.specs.Renaming.{sub, subs}
 use Rattle.lookup.specs.LineNumbers.{line-unique}
 use Rattle.calculus.specs.Scoped.{ScopedCategory, scoped-category, category-map}
-use Rattle.calculus.specs.Resolved.{VariableOf, ConstantOf, Resolved, ResolvedLines}
+use Rattle.calculus.specs.Resolved.{ResolvedLines}
 use Rattle.lookup.specs.Contexts.{RightContexts, context-unique}
 use Rattle.inclusion.specs.Agreeing.{Covers, covers-all, covers-more, count-snoc, sub-instantiate}
 

@@ -15,20 +15,23 @@ use Rattle.aut68.specs.Rules.Names.{IsLine, Context}
 use Rattle.aut68.specs.Rules.Steps.{Reduces, Equal}
 use Rattle.aut68.specs.Rules.Serving.{Supertype}
 use Rattle.aut68.specs.Rules.Categories.{Category, ofVariable, ofBound, ofConstant, ofApplication, ofAbstraction, Fit, allFit, oneFits}
-use Rattle.lookup.specs.Contexts.{context-nested}
+use Rattle.aut68.specs.Rules.CorrectExpressions.{CorrectAs, CorrectScope, noBindings, binding}
+use Rattle.aut68.specs.Demands.{CorrectLike}
+use Rattle.aut68.specs.Rules.Resolved.{Scoped, VariableOf, ConstantOf, Resolved}
+use Rattle.lookup.specs.Contexts.{RightContexts, context-nested}
 use Rattle.calculus.specs.Reductions.{type-no-abs}
 use Rattle.calculus.specs.Equality.{equal-trans}
-use Rattle.calculus.specs.Scoped.{Scoped, ScopedScope, scoped-map, scoped-under, scoped-steps, scoped-substitute, scoped-instantiate, scoped-arg, scoped-ends}
-use Rattle.calculus.specs.Resolved.{VariableOf, ConstantOf, Resolved, ResolvedScope, ResolvedLines, lines-closed, resolved-known}
+use Rattle.calculus.specs.Scoped.{ScopedScope, scoped-map, scoped-under, scoped-steps, scoped-substitute, scoped-instantiate, scoped-arg, scoped-ends}
+use Rattle.calculus.specs.Resolved.{KnownCategory, ResolvedScope, ResolvedLines, lines-closed, resolved-known}
 use Rattle.inclusion.specs.Endings.{ends-steps}
 use Rattle.inclusion.specs.Serves.{serves-68}
 use Rattle.calculus.specs.Known.{constant-count, kept-middles}
 use Rattle.calculus.specs.Bindings.{bound-scoped}
-use Rattle.inclusion.specs.Liberal.{resolved-liberal, Liberal, byVariable, byBound, byConstant, byApplication, byAbstraction, Fits, noneFits, moreFits, nested-context}
-use Rattle.inclusion.specs.Unique.{isType-false, liberal-unique}
+use Rattle.inclusion.specs.Liberal.{resolved-liberal, known-liberal, Liberal, byVariable, byBound, byConstant, byApplication, byAbstraction, Fits, noneFits, moreFits, nested-context}
+use Rattle.inclusion.specs.Unique.{isType-false, equal-types, liberal-unique}
 use Rattle.inclusion.specs.Keeping.{Kept}
 use Rattle.inclusion.specs.Preserved.{steps-kept}
-use Rattle.inclusion.specs.Validity.{Valid, SortedScope, kept-sorted, sorted-resolved}
+use Rattle.inclusion.specs.Validity.{Sorted, Valid, SortedScope, noBinding, oneBinding, type-super, kept-sorted, sorted-resolved}
 use Rattle.inclusion.specs.Embedding.{Embedded, embed, scope-known}
 use Rattle.inclusion.specs.Books.{Built, Right, built-right}
 
@@ -67,31 +70,6 @@ module _ (ls : Lines) (ctx : List ℕ) where
     fits-68 allFit = noneFits
     fits-68 (oneFits i h e f) = moreFits i (liberal-68 h) e (fits-68 f)
 
-pub record Stays (ls : Lines) (ctx : List ℕ) (sc : List Expr) (e c : Expr) : Type 0 where
-  pub category : Expr
-  pub has : Category aut68 ls sc e category
-  pub equal : (d : Expr) → Category aut68 ls sc e d → Equal ls d c
-  pub resolved : Resolved ls ctx (length sc) e
-
-pub steps-stay-inside : {ls : Lines} → Built aut68 ls → {n : ℕ} {ctx : List ℕ} → Context ls n ctx → (sc : List Expr) → ResolvedScope ls ctx sc
-    → (e e′ c : Expr) → Resolved ls ctx (length sc) e → Category aut68 ls sc e c → Reduces ls e e′ → Stays ls ctx sc e′ c
-steps-stay-inside {ls} B {ctx = ctx} C sc s e e′ c w h r =
-    record {
-      category = K .found;
-      has = strict-68 ls ctx (K .has);
-      equal = λ d x. equal-trans ls (lines-closed ls W) (liberal-unique ls W aut68 ctx (liberal-68 ls ctx x) (K .has) (resolved-known ls ctx (length sc) e′ w′) (scope-known ls ctx sc s)) (serves-68 ls (K .serves));
-      resolved = w′;
-    }
-  where
-    W : ResolvedLines ls
-    W = built-right B .resolvedLines
-
-    K : Kept aut68 ls ctx sc e′ c
-    K = liberal-stays B C sc s e e′ c w (liberal-68 ls ctx h) r
-
-    w′ : Resolved ls ctx (length sc) e′
-    w′ = scoped-steps ls (ConstantOf ls) (VariableOf ls ctx) (kept-middles ls W) (length sc) r w
-
 -- ---- categories of AUT-68
 
 -- `type`, or an expression
@@ -102,7 +80,10 @@ Plain ls ctx k c = (c ≡ type) ⊎ Resolved ls ctx k c
 abbrev pub PlainLines : Lines → Type 0
 PlainLines ls = (v : ℕ) (l : Line) → IsLine ls v l → Plain ls (l .context) 0 (l .category)
 
-module _ (ls : Lines) (W : ResolvedLines ls) (P : PlainLines ls) (ctx : List ℕ) (N : (v u : ℕ) (l : Line) → VariableOf ls ctx v → IsLine ls v l → VariableOf ls (l .context) u → VariableOf ls ctx u) where
+module _ (ls : Lines) (W : ResolvedLines ls) (contexts : RightContexts ls) (P : PlainLines ls) (ctx : List ℕ) {n : ℕ} (C : Context ls n ctx) where
+  nested : (v u : ℕ) (l : Line) → VariableOf ls ctx v → IsLine ls v l → VariableOf ls (l .context) u → VariableOf ls ctx u
+  nested v u l h i x = record { line = x .line; isLine = x .isLine; isVariable = x .isVariable; inContext = context-nested contexts C v u l (h .inContext) i (x .inContext) }
+
   plain-variable : (sc : List Expr) {v : ℕ} {l : Line} → VariableOf ls ctx v → IsLine ls v l → Plain ls ctx (length sc) (l .category)
   plain-variable sc {v} {l} x i = go (P v l i)
     where
@@ -110,7 +91,7 @@ module _ (ls : Lines) (W : ResolvedLines ls) (P : PlainLines ls) (ctx : List ℕ
       go (inl q) = inl q
       go (inr w) =
           let z : 0 ≤ length sc = omega arith in
-          inr (scoped-under (VariableOf ls ctx) (ConstantOf ls) z (l .category) (scoped-map _ _ _ _ (λ u y. N v u l x i y) (λ u k y. y) 0 (l .category) w))
+          inr (scoped-under (VariableOf ls ctx) (ConstantOf ls) z (l .category) (scoped-map _ _ _ _ (λ u y. nested v u l x i y) (λ u k y. y) 0 (l .category) w))
 
   plain-constant : (sc : List Expr) {v : ℕ} {l : Line} (xs : Exprs) → IsLine ls v l → Resolved ls ctx (length sc) (Expr.const v xs) → Plain ls ctx (length sc) (instantiate (l .context) xs 0 (l .category))
   unfolding Scoped instantiate
@@ -141,37 +122,76 @@ module _ (ls : Lines) (W : ResolvedLines ls) (P : PlainLines ls) (ctx : List ℕ
       go (inl x) false q = absurd (isType-false c q x)
       go (inr x) false q = inr (subst (Resolved ls ctx (length sc)) (sym (i ∙ ap (λ t. elim t as (λ _. Expr) [ true ↦ type | false ↦ abs p c ]) q)) (w .0, x))
 
--- the category of a correct expression is `type`, or has category `type`
-pub categories-stay-inside : {ls : Lines} → Built aut68 ls → PlainLines ls → {n : ℕ} {ctx : List ℕ} → Context ls n ctx → (sc : List Expr) → ResolvedScope ls ctx sc → SortedScope aut68 ls ctx sc
-    → (e c : Expr) → Resolved ls ctx (length sc) e → Category aut68 ls sc e c → (c ≡ type) ⊎ Category aut68 ls sc c type
-categories-stay-inside {ls} B P {ctx = ctx} C sc s T e c w h = go (plain-category ls W P ctx nested (liberal-68 ls ctx h) w s)
-  where
-    R : Right aut68 ls
-    R = built-right B
+  -- in which what ends in `type` or `prop` is `type`
+  plain-type : (k : ℕ) (c : Expr) → Plain ls ctx k c → Supertype c → c ≡ type
+  plain-type k c (inl q) y = q
+  plain-type k c (inr x) y = absurd (scoped-ends (VariableOf ls ctx) (ConstantOf ls) k c (y .isBasic) (y .ends) x)
 
-    W : ResolvedLines ls
-    W = R .resolvedLines
+  -- what has a category that ends in `type` or `prop` has category `type`
+  pub sorted-type : {sc : List Expr} {c : Expr} → Sorted aut68 ls ctx sc c → Resolved ls ctx (length sc) c → ResolvedScope ls ctx sc → CorrectAs aut68 ls ctx sc c type
+  sorted-type {sc} {c} Z w s =
+      record { resolved = w; hasCategory = subst (λ k. Category aut68 ls sc c k) (plain-type (length sc) (Z .category) (plain-category (Z .has) w s) (Z .super)) (strict-68 ls ctx (Z .has)) }
 
-    nested : (v u : ℕ) (l : Line) → VariableOf ls ctx v → IsLine ls v l → VariableOf ls (l .context) u → VariableOf ls ctx u
-    nested v u l h i x = record { line = x .line; isLine = x .isLine; isVariable = x .isVariable; inContext = context-nested (R .contexts) C v u l (h .inContext) i (x .inContext) }
+-- ---- correct expressions of AUT-68
 
-    E : Embedded aut68 ls ctx sc e c
-    E = embed aut68 ls W (R .contexts) (R .lines) ctx C (nested-context W (R .contexts) C) h w s T
+pub scope-resolved : {ls : Lines} {ctx : List ℕ} {sc : List Expr} → CorrectScope aut68 ls ctx sc → ResolvedScope ls ctx sc
+unfolding ScopedScope
+scope-resolved noBindings = tt
+scope-resolved (binding h t s) = (h .resolved, scope-resolved s)
 
-    plain-type : {k : Expr} → Plain ls ctx (length sc) k → Supertype k → k ≡ type
-    plain-type (inl q) y = q
-    plain-type {k} (inr x) y = absurd (scoped-ends (VariableOf ls ctx) (ConstantOf ls) (length sc) k (y .isBasic) (y .ends) x)
+scope-sorted : {ls : Lines} {ctx : List ℕ} {sc : List Expr} → CorrectScope aut68 ls ctx sc → SortedScope aut68 ls ctx sc
+scope-sorted noBindings = noBinding
+scope-sorted {ls} {ctx} (binding {k = k} h t s) = oneBinding (record { category = k; has = liberal-68 ls ctx (h .hasCategory); super = type-super t }) (scope-sorted s)
 
-    at : Resolved ls ctx (length sc) c → Valid aut68 ls ctx sc (E .category) → Category aut68 ls sc c type
-    at x (inl y) = absurd (scoped-ends (VariableOf ls ctx) (ConstantOf ls) (length sc) c (y .isBasic) (ends-steps ls (y .isBasic) (y .ends) (E .reaches)) x)
-    at x (inr S) =
-        let known = scope-known ls ctx sc s in
-        let w₀ = sorted-resolved aut68 ls W ctx (length sc) (resolved-liberal aut68 ls ctx W (nested-context W (R .contexts) C) (E .liberal) w s) S in
-        let K = steps-kept aut68 ls W (R .contexts) (R .lines .middles) ctx (E .reaches) sc (S .category) (S .has) w₀ known in
-        let Z = kept-sorted aut68 ls W ctx K (S .super) (resolved-known ls ctx (length sc) c x) known in
-        let q : Z .category ≡ type = plain-type (plain-category ls W P ctx nested (Z .has) x s) (Z .super) in
-        subst (λ k. Category aut68 ls sc c k) q (strict-68 ls ctx (Z .has))
+-- a category of a correct expression is known
+pub known-as : {ls : Lines} {ctx : List ℕ} {sc : List Expr} {e c : Expr} → ResolvedLines ls → CorrectScope aut68 ls ctx sc → CorrectAs aut68 ls ctx sc e c → KnownCategory ls (length sc) c
+known-as {ls} {ctx} {sc} {e} W S h =
+    known-liberal aut68 ls ctx W (liberal-68 ls ctx (h .hasCategory)) (resolved-known ls ctx (length sc) e (h .resolved)) (scope-known ls ctx sc (scope-resolved S))
 
-    go : Plain ls ctx (length sc) c → (c ≡ type) ⊎ Category aut68 ls sc c type
-    go (inl q) = inl q
-    go (inr x) = inr (at x (E .valid))
+module _ {ls : Lines} (B : Built aut68 ls) {n : ℕ} {ctx : List ℕ} (C : Context ls n ctx) {sc : List Expr} (S : CorrectScope aut68 ls ctx sc) where
+  W : ResolvedLines ls
+  W = built-right B .resolvedLines
+
+  pub steps-stay : {e e′ c : Expr} → CorrectAs aut68 ls ctx sc e c → Reduces ls e e′ → CorrectLike ls ctx sc e′ c
+  steps-stay {e} {e′} {c} h r =
+      record {
+        correct = record { category = K .found; correct = record { resolved = w; hasCategory = strict-68 ls ctx (K .has) } };
+        equal = same;
+        typeToo = λ d x. equal-types ls W (length sc) d c (known-as W S x) (known-as W S h) (same d x);
+      }
+    where
+      K : Kept aut68 ls ctx sc e′ c
+      K = liberal-stays B C sc (scope-resolved S) e e′ c (h .resolved) (liberal-68 ls ctx (h .hasCategory)) r
+
+      w : Resolved ls ctx (length sc) e′
+      w = scoped-steps ls (ConstantOf ls) (VariableOf ls ctx) (kept-middles ls W) (length sc) r (h .resolved)
+
+      same : (d : Expr) → CorrectAs aut68 ls ctx sc e′ d → Equal ls d c
+      same d x =
+          equal-trans ls (lines-closed ls W)
+          (liberal-unique ls W aut68 ctx (liberal-68 ls ctx (x .hasCategory)) (K .has) (resolved-known ls ctx (length sc) e′ w) (scope-known ls ctx sc (scope-resolved S)))
+          (serves-68 ls (K .serves))
+
+  pub categories-stay : PlainLines ls → {e c : Expr} → CorrectAs aut68 ls ctx sc e c → (c ≡ type) ⊎ CorrectAs aut68 ls ctx sc c type
+  categories-stay P {e} {c} h = go (plain-category ls W (R .contexts) P ctx C (liberal-68 ls ctx (h .hasCategory)) (h .resolved) s)
+    where
+      R : Right aut68 ls
+      R = built-right B
+
+      s : ResolvedScope ls ctx sc
+      s = scope-resolved S
+
+      E : Embedded aut68 ls ctx sc e c
+      E = embed aut68 ls W (R .contexts) (R .lines) ctx C (nested-context W (R .contexts) C) (h .hasCategory) (h .resolved) s (scope-sorted S)
+
+      at : Resolved ls ctx (length sc) c → Valid aut68 ls ctx sc (E .category) → CorrectAs aut68 ls ctx sc c type
+      at x (inl y) = absurd (scoped-ends (VariableOf ls ctx) (ConstantOf ls) (length sc) c (y .isBasic) (ends-steps ls (y .isBasic) (y .ends) (E .reaches)) x)
+      at x (inr Z) =
+          let known = scope-known ls ctx sc s in
+          let w₀ = sorted-resolved aut68 ls W ctx (length sc) (resolved-liberal aut68 ls ctx W (nested-context W (R .contexts) C) (E .liberal) (h .resolved) s) Z in
+          let K = steps-kept aut68 ls W (R .contexts) (R .lines .middles) ctx (E .reaches) sc (Z .category) (Z .has) w₀ known in
+          sorted-type ls W (R .contexts) P ctx C (kept-sorted aut68 ls W ctx K (Z .super) (resolved-known ls ctx (length sc) c x) known) x s
+
+      go : Plain ls ctx (length sc) c → (c ≡ type) ⊎ CorrectAs aut68 ls ctx sc c type
+      go (inl q) = inl q
+      go (inr x) = inr (at x (E .valid))

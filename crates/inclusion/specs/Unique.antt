@@ -1,5 +1,6 @@
 -- All categories of an expression are equal.
 use mathlib.Core.Path.{_≡_, refl, subst, sym, _∙_, ap}
+use mathlib.Core.Logic.{_↔_}
 use mathlib.Core.Bool.{Bool, true, false}
 use mathlib.Core.List.{List}
 use Prim.Native.Nat.{ℕ, suc}
@@ -12,10 +13,11 @@ use Rattle.aut68.specs.Lines.{Line, Lines}
 use Rattle.aut68.specs.Rules.Steps.{Reduces, Equal, beta}
 use Rattle.aut68.specs.Rules.Serving.{aType, Ends, itself, before}
 use Rattle.aut68.specs.Rules.Categories.{DomainAt, innermost, outside}
+use Rattle.aut68.specs.Rules.Resolved.{Scoped}
 use Rattle.lookup.specs.LineNumbers.{line-unique}
 use Rattle.calculus.specs.Reductions.{type-no-abs}
 use Rattle.calculus.specs.Equality.{equal-refl, equal-sym, equal-trans, equal-path, equal-step, equal-steps, equal-after, equal-app, equal-abs, equal-abs-inv, equal-substitute, abs-steps}
-use Rattle.calculus.specs.Scoped.{Scoped, ScopedScope}
+use Rattle.calculus.specs.Scoped.{ScopedScope}
 use Rattle.calculus.specs.Resolved.{Known, KnownScope, KnownCategory, ResolvedLines, lines-closed}
 use Rattle.calculus.specs.Actions.{isType-true}
 use Rattle.inclusion.specs.Knowing.{equal-ends}
@@ -50,6 +52,10 @@ module _ (ls : Lines) (W : ResolvedLines ls) where
       go : (c : Expr) → Ends type c → Equal ls c type → c ≡ type
       go c itself h = refl
       go c (before e) h = absurd (abs-not-type h)
+
+  -- equal categories are `type` together
+  pub equal-types : (k : ℕ) (c d : Expr) → KnownCategory ls k c → KnownCategory ls k d → Equal ls c d → (c ≡ type) ↔ (d ≡ type)
+  equal-types k c d w x h = ((λ q. known-type k d x (subst (λ z. Equal ls d z) q (equal-sym ls h))), (λ q. known-type k c w (subst (λ z. Equal ls c z) q h)))
 
   pub over-equal : (language : Language) (k : ℕ) (p c c′ : Expr) → KnownCategory ls k c → KnownCategory ls k c′ → Equal ls c c′ → Equal ls (overBinding language p c) (overBinding language p c′)
   unfolding overBinding

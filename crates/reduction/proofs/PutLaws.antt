@@ -11,9 +11,10 @@ use Rattle.aut68.specs.Substitution.{instantiate}
 use Rattle.aut68.specs.Lines.{Line, Lines, abbreviation, kindCells}
 use Rattle.aut68.specs.Rules.Names.{IsLine}
 use Rattle.aut68.specs.Procedure.HeadStep.{left}
-use Rattle.calculus.specs.Scoped.{Scoped, scoped-category}
+use Rattle.aut68.specs.Rules.Resolved.{Scoped, ConstantOf}
+use Rattle.calculus.specs.Scoped.{scoped-category}
 use Rattle.calculus.specs.Known.{known-category-head}
-use Rattle.calculus.specs.Resolved.{VariableLine, ConstantOf, KnownCategory}
+use Rattle.calculus.specs.Resolved.{VariableLine, KnownCategory}
 use Rattle.cells.specs.Cells.{rowCell, AllFormed, Wf, At, copyCells}
 use Rattle.cells.specs.CopyLaws.{copy-outside, copy-at}
 use Rattle.cells.specs.Forests.{at-inside, at-tail, at-front, at-second, at-one, cells-one, cells-long, size-is-length, sizes-is-length}

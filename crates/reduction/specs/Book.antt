@@ -6,8 +6,9 @@ use lib.ListN.{length}
 use Rattle.aut68.specs.Expr.{Expr, Exprs, type, prop, var, bound, const, app, abs, nil, cons, size, countExprs}
 use Rattle.aut68.specs.Lines.{Line, Lines, kindCells}
 use Rattle.aut68.specs.Rules.Names.{IsLine, Context}
-use Rattle.calculus.specs.Scoped.{Scoped, AllScoped, ScopedCategory}
-use Rattle.calculus.specs.Resolved.{ConstantOf, Known, AllKnown, KnownCategory, ResolvedLines}
+use Rattle.aut68.specs.Rules.Resolved.{Scoped, AllScoped, ConstantOf}
+use Rattle.calculus.specs.Scoped.{ScopedCategory}
+use Rattle.calculus.specs.Resolved.{Known, AllKnown, KnownCategory, ResolvedLines}
 use Rattle.cells.specs.Cells.{Formed, AllFormed, AnyVariable, RightCount, Wf, Wfs}
 use Rattle.cells.specs.Rows.{Rows, Stored}
 

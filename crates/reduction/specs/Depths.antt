@@ -11,9 +11,10 @@ use lib.ListN.{length}
 use Rattle.aut68.specs.Expr.{Expr, Exprs, type, prop, var, bound, const, app, abs, nil, cons, size, sizes, cells, cellss}
 use Rattle.aut68.specs.Substitution.{lift, lifts, substituteBound, substitute, substitutes, argumentFor, instantiateVariable, instantiate, instantiates}
 use Rattle.aut68.specs.Lines.{Lines}
+use Rattle.aut68.specs.Rules.Resolved.{Scoped, AllScoped, ConstantOf}
 use Rattle.lookup.specs.LineNumbers.{line-within}
-use Rattle.calculus.specs.Scoped.{Scoped, AllScoped, ScopedCategory}
-use Rattle.calculus.specs.Resolved.{VariableLine, ConstantOf, KnownCategory}
+use Rattle.calculus.specs.Scoped.{ScopedCategory}
+use Rattle.calculus.specs.Resolved.{VariableLine, KnownCategory}
 use Rattle.cells.specs.Cells.{Below}
 use Rattle.cells.specs.Forests.{size-positive}
 

@@ -10,11 +10,12 @@ use Rattle.aut68.specs.Expr.{Expr, Exprs, nil, cons}
 use Rattle.aut68.specs.Substitution.{argumentFor}
 use Rattle.aut68.specs.Lines.{Line, Lines, abbreviation}
 use Rattle.aut68.specs.Rules.Names.{IsLine, Member, here, there, Context, noContext, within}
+use Rattle.aut68.specs.Rules.Resolved.{VariableOf, ConstantOf, Resolved}
 use Rattle.lookup.specs.LineNumbers.{line-unique}
 use Rattle.lookup.specs.Lists.{member-snoc}
 use Rattle.lookup.specs.Contexts.{context-unique, context-nested}
 use Rattle.calculus.specs.Scoped.{category-map}
-use Rattle.calculus.specs.Resolved.{VariableOf, ConstantOf, Resolved, ResolvedCategory}
+use Rattle.calculus.specs.Resolved.{ResolvedCategory}
 use Rattle.cells.specs.Cells.{Formed, RightCount}
 use Rattle.terms.specs.Made.{argumentAt, Numbered}
 use Rattle.reduction.specs.Book.{Book, scoped-formed, category-formed, right-count}

@@ -1,44 +1,25 @@
--- Reduction stays inside AUT-68, over the lines of a correct book.
-use mathlib.Core.Path.{_≡_}
-use mathlib.Core.Logic.{_⊎_}
-use mathlib.Core.List.{List, [], _∷_}
-use Prim.Native.Nat.{ℕ}
-use lib.ListN.{length}
-use Rattle.aut68.specs.Language.{aut68}
-use Rattle.aut68.specs.Bytes.{Bytes}
-use Rattle.aut68.specs.Expr.{Expr, type}
-use Rattle.aut68.specs.Lines.{Lines}
-use Rattle.aut68.specs.Rules.Names.{Context}
-use Rattle.aut68.specs.Rules.Steps.{Reduces}
-use Rattle.aut68.specs.Rules.Serving.{aType, itself}
-use Rattle.aut68.specs.Rules.Categories.{Category}
-use Rattle.aut68.specs.Rules.Derivation.{Derived}
-use Rattle.calculus.specs.Scoped.{ScopedScope}
-use Rattle.calculus.specs.Resolved.{Resolved, ResolvedScope}
-use Rattle.inclusion.specs.Validity.{SortedScope, noBinding, oneBinding}
-use Rattle.inclusion.specs.StaysInside.{liberal-68}
-use Rattle.inclusion.specs.StaysInside as inclusion
+-- Reduction stays inside AUT-68 (paper 11), as closed theorems over the lines of a correct book.
+use Rattle.aut68.specs.Demands.{StepsStayInside, CategoriesStayInside, QuotedMiddles, QuotedCategories}
 use Rattle.inclusion.specs.Derivations.{derived-built, derived-plain}
+use Rattle.inclusion.specs.StaysInside.{steps-stay, categories-stay}
+use Rattle.inclusion.specs.QuotedLines.{quoted-middle, quoted-category}
 
--- each domain of the scope is an expression of category `type` in the scope before it
-pub data TypedScope (ls : Lines) (vs : List ℕ) : List Expr → Type 0 where
-  noBindings : TypedScope ls vs []
-  binding : {p : Expr} {sc : List Expr} → Resolved ls vs (length sc) p → Category aut68 ls sc p type → TypedScope ls vs sc → TypedScope ls vs (p ∷ sc)
+-- What is reached by steps from a correct expression is correct, and its category equals the earlier one.
+pub steps-stay-inside : StepsStayInside
+unfolding StepsStayInside
+steps-stay-inside pieces ls i vs sc e e′ c D C S h r = steps-stay (derived-built D) C S h r
 
-scope-resolved : {ls : Lines} {vs : List ℕ} {sc : List Expr} → TypedScope ls vs sc → ResolvedScope ls vs sc
-unfolding ScopedScope
-scope-resolved noBindings = tt
-scope-resolved (binding w h s) = (w, scope-resolved s)
+-- The category of a correct expression is `type` or itself correct.
+pub categories-stay-inside : CategoriesStayInside
+unfolding CategoriesStayInside
+categories-stay-inside pieces ls i vs sc e c D C S h = categories-stay (derived-built D) C S (derived-plain D) h
 
-scope-sorted : {ls : Lines} {vs : List ℕ} {sc : List Expr} → TypedScope ls vs sc → SortedScope aut68 ls vs sc
-scope-sorted noBindings = noBinding
-scope-sorted {ls} {vs} (binding w h s) = oneBinding (record { category = type; has = liberal-68 ls vs h; super = record { sort = type; isBasic = aType; ends = itself } }) (scope-sorted s)
+-- What is reached from a recorded middle has a category equal to the written one.
+pub quoted-middles : QuotedMiddles
+unfolding QuotedMiddles
+quoted-middles pieces ls v l m e D i q r = quoted-middle (derived-built D) i q r
 
-module _ (pieces : List Bytes) (ls : Lines) (D : Derived aut68 [] pieces ls) {i : ℕ} {vs : List ℕ} (C : Context ls i vs) (sc : List Expr) (S : TypedScope ls vs sc) where
-  -- What is reached by steps from an expression that has a category has one too, and every category of it equals the earlier one.
-  pub steps-stay-inside : (e e′ c : Expr) → Resolved ls vs (length sc) e → Category aut68 ls sc e c → Reduces ls e e′ → inclusion.Stays ls vs sc e′ c
-  steps-stay-inside = inclusion.steps-stay-inside (derived-built D) C sc (scope-resolved S)
-
-  -- A category is `type`, or has category `type`.
-  pub categories-stay-inside : (e c : Expr) → Resolved ls vs (length sc) e → Category aut68 ls sc e c → (c ≡ type) ⊎ Category aut68 ls sc c type
-  categories-stay-inside = inclusion.categories-stay-inside (derived-built D) (derived-plain D) C sc (scope-resolved S) (scope-sorted S)
+-- A recorded category is `type`, or what is reached from it has category `type`.
+pub quoted-categories : QuotedCategories
+unfolding QuotedCategories
+quoted-categories pieces ls v l e D i r = quoted-category (derived-built D) i (derived-plain D) r
