@@ -33,7 +33,7 @@ module _ {ls : Lines} (B : Built aut68 ls) {v : ℕ} {l : Line} (i : IsLine ls v
   quoted-middle {m} {e} q r =
       let M : RightMiddle aut68 ls l m = R .lines .middles v l m i q in
       let h : CorrectAs aut68 ls (l .context) [] m (M .found) = record { resolved = W .at i .middle m q; hasCategory = strict-68 ls (l .context) (M .has) } in
-      let K = steps-stay B (R .contexts v l i) noBindings h r in
+      let K = steps-stay B noBindings h r in
       let T : (M .found ≡ type) ↔ (l .category ≡ type) = equal-types ls W 0 (M .found) (l .category) (known-as W noBindings h) (known-line ls W i) (serves-68 ls (M .serves)) in
       record {
         correct = K .correct;
@@ -51,4 +51,4 @@ module _ {ls : Lines} (B : Built aut68 ls) {v : ℕ} {l : Line} (i : IsLine ls v
 
       go : Plain ls (l .context) 0 (l .category) → (l .category ≡ type) ⊎ CorrectLike ls (l .context) [] e type
       go (inl q) = inl q
-      go (inr w) = inr (steps-stay B (R .contexts v l i) noBindings (at w (R .lines .written v l i)) r)
+      go (inr w) = inr (steps-stay B noBindings (at w (R .lines .written v l i)) r)

@@ -37,9 +37,9 @@ use Rattle.inclusion.specs.Books.{Built, Right, built-right}
 
 -- ---- both languages, in the liberal relation
 
-pub liberal-stays : {language : Language} {ls : Lines} → Built language ls → {n : ℕ} {ctx : List ℕ} → Context ls n ctx → (sc : List Expr) → ResolvedScope ls ctx sc
-    → (e e′ c : Expr) → Resolved ls ctx (length sc) e → Liberal language ls ctx sc e c → Reduces ls e e′ → Kept language ls ctx sc e′ c
-liberal-stays {language} {ls} B {ctx = ctx} C sc s e e′ c w h r =
+pub liberal-stays : {language : Language} {ls : Lines} → Built language ls → {ctx : List ℕ} {sc : List Expr} → ResolvedScope ls ctx sc
+    → {e e′ c : Expr} → Resolved ls ctx (length sc) e → Liberal language ls ctx sc e c → Reduces ls e e′ → Kept language ls ctx sc e′ c
+liberal-stays {language} {ls} B {ctx} {sc} s {c = c} w h r =
     let R = built-right B in
     steps-kept language ls (R .resolvedLines) (R .contexts) (R .lines .middles) ctx r sc c h w (scope-known ls ctx sc s)
 
@@ -103,7 +103,7 @@ module _ (ls : Lines) (W : ResolvedLines ls) (contexts : RightContexts ls) (P : 
           inr (scoped-instantiate (VariableOf ls ctx) (ConstantOf ls) (VariableOf ls (l .context)) (length sc) (l .context) xs (l .category)
           (λ u y. scoped-arg (VariableOf ls ctx) (ConstantOf ls) (length sc) xs (l .context) u (w .1) (constant-count ls W (w .0) i) (y .inContext)) x)
 
-  pub plain-category : {sc : List Expr} {e c : Expr} → Liberal aut68 ls ctx sc e c → Resolved ls ctx (length sc) e → ResolvedScope ls ctx sc → Plain ls ctx (length sc) c
+  plain-category : {sc : List Expr} {e c : Expr} → Liberal aut68 ls ctx sc e c → Resolved ls ctx (length sc) e → ResolvedScope ls ctx sc → Plain ls ctx (length sc) c
   unfolding Scoped ScopedScope overBinding
   plain-category {sc} (byVariable i q) w s = subst (Plain ls ctx (length sc)) (sym q) (plain-variable sc w i)
   plain-category {sc} (byBound d q) w s = inr (subst (Resolved ls ctx (length sc)) (sym q) (bound-scoped aut68 ls (VariableOf ls ctx) d s))
@@ -134,7 +134,7 @@ module _ (ls : Lines) (W : ResolvedLines ls) (contexts : RightContexts ls) (P : 
 
 -- ---- correct expressions of AUT-68
 
-pub scope-resolved : {ls : Lines} {ctx : List ℕ} {sc : List Expr} → CorrectScope aut68 ls ctx sc → ResolvedScope ls ctx sc
+scope-resolved : {ls : Lines} {ctx : List ℕ} {sc : List Expr} → CorrectScope aut68 ls ctx sc → ResolvedScope ls ctx sc
 unfolding ScopedScope
 scope-resolved noBindings = tt
 scope-resolved (binding h t s) = (h .resolved, scope-resolved s)
@@ -148,7 +148,7 @@ pub known-as : {ls : Lines} {ctx : List ℕ} {sc : List Expr} {e c : Expr} → R
 known-as {ls} {ctx} {sc} {e} W S h =
     known-liberal aut68 ls ctx W (liberal-68 ls ctx (h .hasCategory)) (resolved-known ls ctx (length sc) e (h .resolved)) (scope-known ls ctx sc (scope-resolved S))
 
-module _ {ls : Lines} (B : Built aut68 ls) {n : ℕ} {ctx : List ℕ} (C : Context ls n ctx) {sc : List Expr} (S : CorrectScope aut68 ls ctx sc) where
+module _ {ls : Lines} (B : Built aut68 ls) {ctx : List ℕ} {sc : List Expr} (S : CorrectScope aut68 ls ctx sc) where
   W : ResolvedLines ls
   W = built-right B .resolvedLines
 
@@ -161,7 +161,7 @@ module _ {ls : Lines} (B : Built aut68 ls) {n : ℕ} {ctx : List ℕ} (C : Conte
       }
     where
       K : Kept aut68 ls ctx sc e′ c
-      K = liberal-stays B C sc (scope-resolved S) e e′ c (h .resolved) (liberal-68 ls ctx (h .hasCategory)) r
+      K = liberal-stays B (scope-resolved S) (h .resolved) (liberal-68 ls ctx (h .hasCategory)) r
 
       w : Resolved ls ctx (length sc) e′
       w = scoped-steps ls (ConstantOf ls) (VariableOf ls ctx) (kept-middles ls W) (length sc) r (h .resolved)
@@ -172,8 +172,8 @@ module _ {ls : Lines} (B : Built aut68 ls) {n : ℕ} {ctx : List ℕ} (C : Conte
           (liberal-unique ls W aut68 ctx (liberal-68 ls ctx (x .hasCategory)) (K .has) (resolved-known ls ctx (length sc) e′ w) (scope-known ls ctx sc (scope-resolved S)))
           (serves-68 ls (K .serves))
 
-  pub categories-stay : PlainLines ls → {e c : Expr} → CorrectAs aut68 ls ctx sc e c → (c ≡ type) ⊎ CorrectAs aut68 ls ctx sc c type
-  categories-stay P {e} {c} h = go (plain-category ls W (R .contexts) P ctx C (liberal-68 ls ctx (h .hasCategory)) (h .resolved) s)
+  pub categories-stay : PlainLines ls → {n : ℕ} → Context ls n ctx → {e c : Expr} → CorrectAs aut68 ls ctx sc e c → (c ≡ type) ⊎ CorrectAs aut68 ls ctx sc c type
+  categories-stay P C {e} {c} h = go (plain-category ls W (R .contexts) P ctx C (liberal-68 ls ctx (h .hasCategory)) (h .resolved) s)
     where
       R : Right aut68 ls
       R = built-right B

@@ -50,21 +50,21 @@ one = const 2 nil
 unfoldable num : Expr
 num = const 3 nil
 
-one-is : (sc : List Expr) → Category aut68 numberLines sc one nat
+one-is : Category aut68 numberLines [] one nat
 unfolding numberLines nat one instantiate
-one-is sc = ofConstant (later first) allFit refl
+one-is = ofConstant (later first) allFit refl
 
-num-is : (sc : List Expr) → Category aut68 numberLines sc num Expr.type
+num-is : Category aut68 numberLines [] num Expr.type
 unfolding numberLines num instantiate
-num-is sc = ofConstant (later (later first)) allFit refl
+num-is = ofConstant (later (later first)) allFit refl
 
 identity-is : Category aut68 numberLines [] (abs num (bound 0)) (abs num num)
 unfolding num lift overBinding isType
-identity-is = ofAbstraction (num-is []) theType (ofBound innermost refl) refl
+identity-is = ofAbstraction num-is theType (ofBound innermost refl) refl
 
 applied-is : Category aut68 numberLines [] (app one (abs num (bound 0))) num
 unfolding numberLines nat num substitute instantiate
-applied-is = ofApplication identity-is done (one-is []) (record { left = nat; right = nat; fromFound = done; fromWanted = step (delta (later (later first)) refl refl) done; drops = same }) refl
+applied-is = ofApplication identity-is done one-is (record { left = nat; right = nat; fromFound = done; fromWanted = step (delta (later (later first)) refl refl) done; drops = same }) refl
 
 one-constant : ConstantOf numberLines 2 0
 unfolding numberLines lineOf
@@ -87,6 +87,6 @@ category-changed =
       categoryBefore = num;
       categoryAfter = nat;
       correctBefore = record { resolved = ((one-constant, tt), ((num-constant, tt), omega arith)); hasCategory = applied-is };
-      correctAfter = record { resolved = (one-constant, tt); hasCategory = one-is [] };
+      correctAfter = record { resolved = (one-constant, tt); hasCategory = one-is };
       unlike = λ q. let z : _≡_ {A = ℕ} 1 3 = cc in omega arith;
     }

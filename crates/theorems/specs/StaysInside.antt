@@ -7,12 +7,12 @@ use Rattle.inclusion.specs.QuotedLines.{quoted-middle, quoted-category}
 -- What is reached by steps from a correct expression is correct, and its category equals the earlier one.
 pub steps-stay-inside : StepsStayInside
 unfolding StepsStayInside
-steps-stay-inside pieces ls i vs sc e e′ c D C S h r = steps-stay (derived-built D) C S h r
+steps-stay-inside pieces ls i vs sc e e′ c D C S h r = steps-stay (derived-built D) S h r
 
 -- The category of a correct expression is `type` or itself correct.
 pub categories-stay-inside : CategoriesStayInside
 unfolding CategoriesStayInside
-categories-stay-inside pieces ls i vs sc e c D C S h = categories-stay (derived-built D) C S (derived-plain D) h
+categories-stay-inside pieces ls i vs sc e c D C S h = categories-stay (derived-built D) S (derived-plain D) C h
 
 -- What is reached from a recorded middle has a category equal to the written one.
 pub quoted-middles : QuotedMiddles
