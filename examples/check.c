@@ -10,15 +10,25 @@
 #include <stdlib.h>
 
 enum { BUDGET = 100000, LIMIT = 256, LINES = 8191, TERMS = 1 << 20 };
+enum { TABLE = AUT68_ROW_WIDTH * LINES, WORK = AUT68_WORK_UNITS * LIMIT };
 
 static const char *const MEANINGS[] = {
-    "accepted", "working store too small", "limit out of range", "malformed", "identifier taken",
-    "unknown name, variable not in context, or indicator no EB line", "argument count",
-    "applied thing is no function", "domain or category is no type", "categories differ",
-    "larger than the limit", "budget spent", "table or shelf full",
+    [AUT68_ACCEPTED] = "accepted",
+    [AUT68_WORK_TOO_SMALL] = "working store too small",
+    [AUT68_LIMIT_OUT_OF_RANGE] = "limit out of range",
+    [AUT68_MALFORMED] = "malformed",
+    [AUT68_DUPLICATE] = "identifier taken",
+    [AUT68_UNKNOWN_NAME] = "unknown name, variable not in context, or indicator no EB line",
+    [AUT68_WRONG_ARITY] = "argument count",
+    [AUT68_NOT_FUNCTION] = "applied thing is no function",
+    [AUT68_NOT_TYPE] = "domain or category is no type",
+    [AUT68_MISMATCH] = "categories differ",
+    [AUT68_TOO_LARGE] = "larger than the limit",
+    [AUT68_OUT_OF_BUDGET] = "budget spent",
+    [AUT68_OUT_OF_SPACE] = "table or shelf full",
 };
 
-/* All of standard input; its length in *length. */
+/* All of standard input, its length in *length; no memory: NULL. */
 static uint8_t *read_all(size_t *length)
 {
     size_t room = 65536, n = 0;
@@ -41,21 +51,27 @@ int main(void)
 {
     size_t length;
     uint8_t *book = read_all(&length);
-    uint32_t *table = calloc(8 * LINES, sizeof *table);
-    uint16_t *terms = calloc(TERMS, sizeof *terms);
-    uint16_t *work = calloc(128 * LIMIT, sizeof *work);
+    if (ferror(stdin)) {
+        perror("reading the book");
+        free(book);
+        return 2;
+    }
+    uint32_t *table = calloc(TABLE, sizeof *table);
+    Aut68Cell *terms = calloc(TERMS, sizeof *terms);
+    Aut68Cell *work = calloc(WORK, sizeof *work);
     if (book == NULL || table == NULL || terms == NULL || work == NULL) {
         fputs("no memory\n", stderr);
         return 2;
     }
 
-    Aut68Outcome o = aut68_check(book, length, BUDGET, LIMIT, table, 8 * LINES, terms, TERMS, work, 128 * LIMIT);
+    Aut68Outcome o = aut68_check(book, length, BUDGET, LIMIT, table, TABLE, terms, TERMS, work, WORK);
 
     uint32_t recorded = o.code == AUT68_ACCEPTED ? o.line : o.line == 0 ? 0 : o.line - 1;
     for (uint32_t v = 0; v < recorded; v++) {
-        const uint32_t *row = table + 8 * v;
+        const uint32_t *row = table + AUT68_ROW_WIDTH * v;
+        Aut68Part name = aut68_identifier(book, length, table, TABLE, v + 1);
         printf("%6u  %.*s  kind %u, %u variables, %u and %u cells\n", v + 1,
-               (int)row[AUT68_NAME_LENGTH], (const char *)book + row[AUT68_NAME_START],
+               (int)name.length, (const char *)book + name.start,
                row[AUT68_KIND], row[AUT68_CONTEXT_LENGTH],
                row[AUT68_CATEGORY_START] - row[AUT68_MIDDLE_START],
                row[AUT68_CATEGORY_END] - row[AUT68_CATEGORY_START]);

@@ -8,6 +8,13 @@ use std::io::Read;
 use std::process::ExitCode;
 
 mod aut68 {
+    /// Table cells for each line.
+    pub const ROW_WIDTH: usize = 8;
+    /// Working cells for each cell of the limit.
+    pub const WORK_UNITS: usize = 128;
+    /// A cell of the term store and of the working store.
+    pub type Cell = u16;
+
     /// What the check of a book ends with; `include/aut68.h` lists the codes.
     #[repr(C)]
     #[derive(Clone, Copy, Debug, PartialEq, Eq)]
@@ -17,18 +24,26 @@ mod aut68 {
         pub steps: u64,
     }
 
+    /// Where an identifier stands in the book.
+    #[repr(C)]
+    struct Part {
+        start: u64,
+        length: u64,
+    }
+
     extern "C" {
         fn aut68_check(
             book: *const u8, book_length: usize,
             budget: u32, limit: u32,
             table: *mut u32, table_length: usize,
-            terms: *mut u16, terms_length: usize,
-            work: *mut u16, work_length: usize,
+            terms: *mut Cell, terms_length: usize,
+            work: *mut Cell, work_length: usize,
         ) -> Outcome;
+        fn aut68_identifier(book: *const u8, book_length: usize, table: *const u32, table_length: usize, line: u32) -> Part;
     }
 
     /// Checks a book. Every argument is permitted: the function requires nothing.
-    pub fn check(book: &[u8], budget: u32, limit: u32, table: &mut [u32], terms: &mut [u16], work: &mut [u16]) -> Outcome {
+    pub fn check(book: &[u8], budget: u32, limit: u32, table: &mut [u32], terms: &mut [Cell], work: &mut [Cell]) -> Outcome {
         // Sound: each pointer is valid for its length, and `&mut` slices do not overlap.
         unsafe {
             aut68_check(
@@ -36,6 +51,13 @@ mod aut68 {
                 table.as_mut_ptr(), table.len(), terms.as_mut_ptr(), terms.len(), work.as_mut_ptr(), work.len(),
             )
         }
+    }
+
+    /// The identifier of a line, from 1; empty if the table has no such row or the row points outside the book.
+    pub fn identifier<'a>(book: &'a [u8], table: &[u32], line: u32) -> &'a [u8] {
+        // Sound: each pointer is valid for its length.
+        let part = unsafe { aut68_identifier(book.as_ptr(), book.len(), table.as_ptr(), table.len(), line) };
+        &book[part.start as usize..(part.start + part.length) as usize]
     }
 
     impl Outcome {
@@ -55,19 +77,19 @@ const TERMS: usize = 1 << 20;
 fn main() -> ExitCode {
     let mut book = Vec::new();
     if let Err(e) = std::io::stdin().read_to_end(&mut book) {
-        eprintln!("{e}");
+        eprintln!("reading the book: {e}");
         return ExitCode::from(2);
     }
-    let mut table = vec![0; 8 * LINES];
+    let mut table = vec![0; aut68::ROW_WIDTH * LINES];
     let mut terms = vec![0; TERMS];
-    let mut work = vec![0; 128 * LIMIT];
+    let mut work = vec![0; aut68::WORK_UNITS * LIMIT];
 
     let o = aut68::check(&book, BUDGET, LIMIT as u32, &mut table, &mut terms, &mut work);
 
-    for (i, row) in table.chunks(8).take(o.recorded()).enumerate() {
-        let name = &book[row[0] as usize..(row[0] + row[1]) as usize];
-        let (middle, category) = (row[6] - row[5], row[7] - row[6]);
-        println!("{:6}  {}  kind {}, {} variables, {} and {} cells", i + 1, String::from_utf8_lossy(name), row[4], row[3], middle, category);
+    for (i, row) in table.chunks(aut68::ROW_WIDTH).take(o.recorded()).enumerate() {
+        let [_start, _length, _indicator, variables, kind, middle, category, end] = row.try_into().expect("a whole row");
+        let name = aut68::identifier(&book, &table, i as u32 + 1);
+        println!("{:6}  {}  kind {kind}, {variables} variables, {} and {} cells", i + 1, String::from_utf8_lossy(name), category - middle, end - category);
     }
     println!("{} {} {}", o.code, o.line, o.steps);
     if o.code == 0 { ExitCode::SUCCESS } else { ExitCode::from(1) }

@@ -11,16 +11,19 @@ mod lines;
 mod names;
 mod reader;
 
+use crate::sizes::{Cell, LARGEST_LIMIT, MOST_BYTES, MOST_LINES, ROW_WIDTH, SMALLEST_LIMIT, WORK_UNITS};
 use crate::Outcome;
 use category::Checker;
 use lines::Lines;
 use names::Names;
 use reader::Reader;
 
-/// Why a line is refused; the numbers are the specification's codes.
+/// Why a book is refused; the numbers are the specification's codes.
 #[derive(Clone, Copy, Debug, PartialEq, Eq)]
 #[repr(u8)]
 pub enum Refusal {
+    WorkTooSmall = 1,
+    LimitOutOfRange = 2,
     Malformed = 3,
     Duplicate = 4,
     UnknownName = 5,
@@ -33,21 +36,18 @@ pub enum Refusal {
     OutOfSpace = 12,
 }
 
-const MOST_BYTES: usize = 16_777_215;
-const MOST_LINES: usize = 8_191;
-const ROW: usize = 8;
-
-pub fn check(book: &[u8], budget: u32, limit: u32, table: &mut [u32], terms: &mut [u16], work: &mut [u16]) -> Outcome {
-    if !(16..=4096).contains(&limit) {
-        return Outcome { code: 2, line: 0, steps: 0 };
+pub fn check(book: &[u8], budget: u32, limit: u32, table: &mut [u32], terms: &mut [Cell], work: &mut [Cell]) -> Outcome {
+    let early = |refusal: Refusal| Outcome { code: refusal as u32, line: 0, steps: 0 };
+    if !(SMALLEST_LIMIT..=LARGEST_LIMIT).contains(&limit) {
+        return early(Refusal::LimitOutOfRange);
     }
     let limit = limit as usize;
-    if work.len() < 128 * limit {
-        return Outcome { code: 1, line: 0, steps: 0 };
+    if work.len() < WORK_UNITS * limit {
+        return early(Refusal::WorkTooSmall);
     }
-    work[..128 * limit].fill(0);
+    work[..WORK_UNITS * limit].fill(0);
     if book.len() > MOST_BYTES {
-        return Outcome { code: 12, line: 0, steps: 0 };
+        return early(Refusal::OutOfSpace);
     }
     let mut lines = Lines::new();
     let mut checker = Checker::new(budget, limit);
@@ -60,7 +60,7 @@ pub fn check(book: &[u8], budget: u32, limit: u32, table: &mut [u32], terms: &mu
 }
 
 fn check_lines(
-    book: &[u8], limit: usize, table: &mut [u32], terms: &mut [u16], lines: &mut Lines, checker: &mut Checker,
+    book: &[u8], limit: usize, table: &mut [u32], terms: &mut [Cell], lines: &mut Lines, checker: &mut Checker,
 ) -> Result<(), Refusal> {
     let mut names = Names::default();
     let mut reader = Reader::new(book);
@@ -79,7 +79,7 @@ fn check_lines(
             return Err(refusal);
         }
         let count = lines.count();
-        if count == MOST_LINES || table.len() / ROW <= count || terms.len() - used < cells.len() {
+        if count == MOST_LINES || table.len() / ROW_WIDTH <= count || terms.len() - used < cells.len() {
             return Err(Refusal::OutOfSpace);
         }
         checker.line(lines, &terms[..used], cells, line.middle)?;
@@ -90,7 +90,7 @@ fn check_lines(
             u32::from(line.context.length()), line.kind as u32,
             used as u32, (used + line.middle) as u32, (used + cells.len()) as u32,
         ];
-        table[ROW * count..ROW * (count + 1)].copy_from_slice(&row);
+        table[ROW_WIDTH * count..ROW_WIDTH * (count + 1)].copy_from_slice(&row);
         let number = lines.push(line.kind, line.context, [used, used + line.middle, used + cells.len()]);
         names.insert(line.identifier, number);
         used += cells.len();

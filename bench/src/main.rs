@@ -4,6 +4,7 @@ mod baseline;
 mod differential;
 mod generate;
 mod random;
+mod sizes;
 mod table;
 mod verified;
 

@@ -3,34 +3,34 @@
 use std::time::{Duration, Instant};
 
 use crate::generate::{self, Kind};
+use crate::sizes::{Cell, MOST_LINES, ROW_WIDTH, WORK_UNITS};
 use crate::{baseline, verified, Outcome};
 
 const SEED: u64 = 1;
-const MOST_LINES: usize = 8_191;
 const SIZES: [usize; 5] = [500, 1_000, 2_000, 4_000, 8_000];
 
 /// What stands in every lent cell before a run.
-const PATTERN: u16 = 7;
+const PATTERN: Cell = 7;
 
 /// Runs of a book are repeated until they took this long, or there are enough of them.
 const TIME_FOR_BOOK: Duration = Duration::from_millis(1_200);
 const MOST_RUNS: usize = 101;
 const TIME_TO_PROFILE: Duration = Duration::from_secs(2);
 
-pub type Check = fn(&[u8], u32, u32, &mut [u32], &mut [u16], &mut [u16]) -> Outcome;
+pub type Check = fn(&[u8], u32, u32, &mut [u32], &mut [Cell], &mut [Cell]) -> Outcome;
 
 /// The lent stores.
 #[derive(PartialEq)]
 struct Stores {
     table: Vec<u32>,
-    terms: Vec<u16>,
-    work: Vec<u16>,
+    terms: Vec<Cell>,
+    work: Vec<Cell>,
 }
 
 impl Stores {
     /// Stores in which a book of this many bytes fits.
     fn new(bytes: usize, limit: u32) -> Self {
-        Stores { table: vec![0; 8 * MOST_LINES], terms: vec![0; bytes], work: vec![0; 128 * limit as usize] }
+        Stores { table: vec![0; ROW_WIDTH * MOST_LINES], terms: vec![0; bytes], work: vec![0; WORK_UNITS * limit as usize] }
     }
 
     fn reset(&mut self) {

@@ -1,5 +1,6 @@
 //! The verified program, linked from its archive.
 
+use crate::sizes::Cell;
 use crate::Outcome;
 
 extern "C" {
@@ -7,12 +8,12 @@ extern "C" {
         book: *const u8, book_length: usize,
         budget: u32, limit: u32,
         table: *mut u32, table_length: usize,
-        terms: *mut u16, terms_length: usize,
-        work: *mut u16, work_length: usize,
+        terms: *mut Cell, terms_length: usize,
+        work: *mut Cell, work_length: usize,
     ) -> Outcome;
 }
 
-pub fn check(book: &[u8], budget: u32, limit: u32, table: &mut [u32], terms: &mut [u16], work: &mut [u16]) -> Outcome {
+pub fn check(book: &[u8], budget: u32, limit: u32, table: &mut [u32], terms: &mut [Cell], work: &mut [Cell]) -> Outcome {
     // Sound: each pointer is valid for its length, and `&mut` slices do not overlap.
     unsafe {
         aut68_check(

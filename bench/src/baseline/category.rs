@@ -4,18 +4,18 @@ use super::cells::{self, Output};
 use super::comparison::{abstraction, compare, Book, Budget, Levels, Versions};
 use super::lines::Lines;
 use super::Refusal;
+use crate::sizes::{Cell, NESTING};
 
 /// Nesting of a line is at most this.
-const DEEPEST: usize = 32;
 
 /// A category: cells that lie in the term store or the line, or that were written behind an output.
 enum Category<'a> {
-    Stored(&'a [u16]),
+    Stored(&'a [Cell]),
     Made,
 }
 
 impl<'a> Category<'a> {
-    fn cells<'c>(&self, made: &'c [u16]) -> &'c [u16]
+    fn cells<'c>(&self, made: &'c [Cell]) -> &'c [Cell]
     where
         'a: 'c,
     {
@@ -29,8 +29,8 @@ impl<'a> Category<'a> {
 /// The stores of one level of nesting.
 #[derive(Default)]
 struct Frame {
-    found: Vec<u16>,
-    wanted: Vec<u16>,
+    found: Vec<Cell>,
+    wanted: Vec<Cell>,
     versions: Versions,
 }
 
@@ -40,7 +40,7 @@ pub struct Checker {
     limit: usize,
     levels: Levels,
     frames: Vec<Frame>,
-    out: Vec<u16>,
+    out: Vec<Cell>,
     /// The starts and ends of the arguments that are being checked.
     arguments: Vec<(u32, u32)>,
     /// The starts and ends of the domains around the current place, outermost first.
@@ -53,7 +53,7 @@ impl Checker {
             budget: Budget { steps: 0, most: budget },
             limit,
             levels: Levels::new(),
-            frames: (0..DEEPEST).map(|_| Frame::default()).collect(),
+            frames: (0..NESTING).map(|_| Frame::default()).collect(),
             out: Vec::new(),
             arguments: Vec::new(),
             domains: Vec::new(),
@@ -65,7 +65,7 @@ impl Checker {
     }
 
     /// The written category, the middle, their comparison. The first `middle` cells are the middle's.
-    pub fn line(&mut self, lines: &Lines, terms: &[u16], cells: &[u16], middle: usize) -> Result<(), Refusal> {
+    pub fn line(&mut self, lines: &Lines, terms: &[Cell], cells: &[Cell], middle: usize) -> Result<(), Refusal> {
         let Checker { budget, limit, levels, frames, out, arguments, domains } = self;
         arguments.clear();
         domains.clear();
@@ -87,7 +87,7 @@ impl Checker {
 /// The check of one line.
 struct Check<'a, 'b> {
     book: Book<'a>,
-    cells: &'a [u16],
+    cells: &'a [Cell],
     budget: &'b mut Budget,
     levels: &'b mut Levels,
     arguments: &'b mut Vec<(u32, u32)>,
@@ -95,12 +95,12 @@ struct Check<'a, 'b> {
 }
 
 impl<'a> Check<'a, '_> {
-    fn compare(&mut self, found: &[u16], wanted: &[u16]) -> Result<(), Refusal> {
+    fn compare(&mut self, found: &[Cell], wanted: &[Cell]) -> Result<(), Refusal> {
         compare(found, wanted, self.levels, &self.book, self.budget)
     }
 
     /// The category of the expression at `at`, made behind `out` if it is not stored, and the expression's end.
-    fn category(&mut self, at: usize, out: &mut Vec<u16>, frames: &mut [Frame]) -> Result<(Category<'a>, usize), Refusal> {
+    fn category(&mut self, at: usize, out: &mut Vec<Cell>, frames: &mut [Frame]) -> Result<(Category<'a>, usize), Refusal> {
         let c = self.cells[at];
         let line = cells::value(c);
         match cells::kind(c) {
@@ -113,7 +113,7 @@ impl<'a> Check<'a, '_> {
     }
 
     /// The domain of a bound variable, with `between` bindings between.
-    fn domain(&self, between: usize, out: &mut Vec<u16>) -> Result<Category<'a>, Refusal> {
+    fn domain(&self, between: usize, out: &mut Vec<Cell>) -> Result<Category<'a>, Refusal> {
         let (start, end) = self.domains[self.domains.len() - 1 - between];
         let domain = &self.cells[start as usize..end as usize];
         if !cells::has_bound(domain) {
@@ -126,7 +126,7 @@ impl<'a> Check<'a, '_> {
 
     /// A constant whose arguments begin at `at`.
     fn constant(
-        &mut self, line: u16, mut at: usize, out: &mut Vec<u16>, frames: &mut [Frame],
+        &mut self, line: Cell, mut at: usize, out: &mut Vec<Cell>, frames: &mut [Frame],
     ) -> Result<(Category<'a>, usize), Refusal> {
         let Book { lines, terms, limit } = self.book;
         let category = lines.category(line, terms);
@@ -157,7 +157,7 @@ impl<'a> Check<'a, '_> {
     }
 
     /// `<A>B` whose A begins at `at`.
-    fn application(&mut self, at: usize, out: &mut Vec<u16>, frames: &mut [Frame]) -> Result<(Category<'a>, usize), Refusal> {
+    fn application(&mut self, at: usize, out: &mut Vec<Cell>, frames: &mut [Frame]) -> Result<(Category<'a>, usize), Refusal> {
         let Book { lines, limit, .. } = self.book;
         let (Frame { found, wanted, versions }, deeper) = frames.split_first_mut().unwrap();
         let function = cells::end(self.cells, at, lines);
@@ -172,7 +172,7 @@ impl<'a> Check<'a, '_> {
     }
 
     /// The abstraction at `at`.
-    fn abstraction(&mut self, at: usize, out: &mut Vec<u16>, frames: &mut [Frame]) -> Result<(Category<'a>, usize), Refusal> {
+    fn abstraction(&mut self, at: usize, out: &mut Vec<Cell>, frames: &mut [Frame]) -> Result<(Category<'a>, usize), Refusal> {
         let (Frame { found, .. }, deeper) = frames.split_first_mut().unwrap();
         let body = self.is_type(at + 1, found, deeper)?;
         self.domains.push((at as u32 + 1, body as u32));
@@ -194,7 +194,7 @@ impl<'a> Check<'a, '_> {
     }
 
     /// Refuses the expression at `at` unless its category is `type`; gives its end.
-    fn is_type(&mut self, at: usize, out: &mut Vec<u16>, frames: &mut [Frame]) -> Result<usize, Refusal> {
+    fn is_type(&mut self, at: usize, out: &mut Vec<Cell>, frames: &mut [Frame]) -> Result<usize, Refusal> {
         out.clear();
         let (category, end) = self.category(at, out, frames)?;
         if category.cells(out)[0] != cells::TYPE {

@@ -2,33 +2,33 @@
 
 use super::lines::Lines;
 use super::Refusal;
+use crate::sizes::{Cell, CELL_FACTOR};
 
-/// A cell is 8 × value + kind.
-pub const TYPE: u16 = 0;
-pub const VARIABLE: u16 = 1;
-pub const BOUND: u16 = 2;
-pub const CONSTANT: u16 = 3;
-pub const APPLICATION: u16 = 4;
-pub const ABSTRACTION: u16 = 5;
+pub const TYPE: Cell = 0;
+pub const VARIABLE: Cell = 1;
+pub const BOUND: Cell = 2;
+pub const CONSTANT: Cell = 3;
+pub const APPLICATION: Cell = 4;
+pub const ABSTRACTION: Cell = 5;
 
 #[inline]
-pub fn cell(kind: u16, value: u16) -> u16 {
-    8 * value + kind
+pub fn cell(kind: Cell, value: Cell) -> Cell {
+    CELL_FACTOR * value + kind
 }
 
 #[inline]
-pub fn kind(cell: u16) -> u16 {
-    cell & 7
+pub fn kind(cell: Cell) -> Cell {
+    cell % CELL_FACTOR
 }
 
 #[inline]
-pub fn value(cell: u16) -> u16 {
-    cell >> 3
+pub fn value(cell: Cell) -> Cell {
+    cell / CELL_FACTOR
 }
 
 /// How many expressions follow the cell as its parts.
 #[inline]
-pub fn parts(cell: u16, lines: &Lines) -> usize {
+pub fn parts(cell: Cell, lines: &Lines) -> usize {
     match kind(cell) {
         CONSTANT => lines.context_length(value(cell)),
         APPLICATION | ABSTRACTION => 2,
@@ -38,7 +38,7 @@ pub fn parts(cell: u16, lines: &Lines) -> usize {
 
 /// Where the expression that begins at `at` ends.
 #[inline]
-pub fn end(cells: &[u16], mut at: usize, lines: &Lines) -> usize {
+pub fn end(cells: &[Cell], mut at: usize, lines: &Lines) -> usize {
     let mut open = 1;
     while open > 0 {
         open += parts(cells[at], lines);
@@ -49,24 +49,24 @@ pub fn end(cells: &[u16], mut at: usize, lines: &Lines) -> usize {
 }
 
 #[inline]
-pub fn has_bound(cells: &[u16]) -> bool {
+pub fn has_bound(cells: &[Cell]) -> bool {
     cells.iter().any(|&c| kind(c) == BOUND)
 }
 
 /// A store that takes at most so many cells.
 pub struct Output<'o> {
-    cells: &'o mut Vec<u16>,
+    cells: &'o mut Vec<Cell>,
     most: usize,
 }
 
 impl<'o> Output<'o> {
     /// Takes `limit` cells behind those that are there.
-    pub fn new(cells: &'o mut Vec<u16>, limit: usize) -> Self {
+    pub fn new(cells: &'o mut Vec<Cell>, limit: usize) -> Self {
         Output { most: cells.len() + limit, cells }
     }
 
     #[inline]
-    pub fn push(&mut self, cell: u16) -> Result<(), Refusal> {
+    pub fn push(&mut self, cell: Cell) -> Result<(), Refusal> {
         if self.cells.len() >= self.most {
             return Err(Refusal::TooLarge);
         }
@@ -75,7 +75,7 @@ impl<'o> Output<'o> {
     }
 
     #[inline]
-    pub fn copy(&mut self, cells: &[u16]) -> Result<(), Refusal> {
+    pub fn copy(&mut self, cells: &[Cell]) -> Result<(), Refusal> {
         if self.cells.len() + cells.len() > self.most {
             return Err(Refusal::TooLarge);
         }
@@ -86,12 +86,12 @@ impl<'o> Output<'o> {
 
 /// What becomes of the variables of an expression, `depth` bindings inside it.
 trait Replace {
-    fn variable(&self, line: u16, depth: usize, lines: &Lines, out: &mut Output) -> Result<(), Refusal>;
+    fn variable(&self, line: Cell, depth: usize, lines: &Lines, out: &mut Output) -> Result<(), Refusal>;
     fn bound(&self, between: usize, depth: usize, lines: &Lines, out: &mut Output) -> Result<(), Refusal>;
 
     /// The expression that fills `cells`.
     #[inline]
-    fn whole(&self, cells: &[u16], lines: &Lines, out: &mut Output) -> Result<(), Refusal> {
+    fn whole(&self, cells: &[Cell], lines: &Lines, out: &mut Output) -> Result<(), Refusal> {
         let mut at = 0;
         while at < cells.len() {
             let c = cells[at];
@@ -111,7 +111,7 @@ trait Replace {
     }
 
     /// The expression that begins at `at`; gives its end.
-    fn one(&self, cells: &[u16], mut at: usize, depth: usize, lines: &Lines, out: &mut Output) -> Result<usize, Refusal> {
+    fn one(&self, cells: &[Cell], mut at: usize, depth: usize, lines: &Lines, out: &mut Output) -> Result<usize, Refusal> {
         let mut open = 1;
         while open > 0 {
             let c = cells[at];
@@ -142,18 +142,18 @@ struct Lift {
 
 impl Replace for Lift {
     #[inline]
-    fn variable(&self, line: u16, _: usize, _: &Lines, out: &mut Output) -> Result<(), Refusal> {
+    fn variable(&self, line: Cell, _: usize, _: &Lines, out: &mut Output) -> Result<(), Refusal> {
         out.push(cell(VARIABLE, line))
     }
 
     #[inline]
     fn bound(&self, between: usize, depth: usize, _: &Lines, out: &mut Output) -> Result<(), Refusal> {
         let by = if between < depth { 0 } else { self.by };
-        out.push(cell(BOUND, (between + by) as u16))
+        out.push(cell(BOUND, (between + by) as Cell))
     }
 }
 
-pub fn lift(cells: &[u16], by: usize, lines: &Lines, out: &mut Output) -> Result<(), Refusal> {
+pub fn lift(cells: &[Cell], by: usize, lines: &Lines, out: &mut Output) -> Result<(), Refusal> {
     if by == 0 || !has_bound(cells) {
         out.copy(cells)
     } else {
@@ -163,12 +163,12 @@ pub fn lift(cells: &[u16], by: usize, lines: &Lines, out: &mut Output) -> Result
 
 /// Puts an expression in for the outermost bound variable of a body.
 struct Substitute<'a> {
-    argument: &'a [u16],
+    argument: &'a [Cell],
 }
 
 impl Replace for Substitute<'_> {
     #[inline]
-    fn variable(&self, line: u16, _: usize, _: &Lines, out: &mut Output) -> Result<(), Refusal> {
+    fn variable(&self, line: Cell, _: usize, _: &Lines, out: &mut Output) -> Result<(), Refusal> {
         out.push(cell(VARIABLE, line))
     }
 
@@ -178,36 +178,36 @@ impl Replace for Substitute<'_> {
             return lift(self.argument, depth, lines, out);
         }
         let removed = usize::from(between > depth);
-        out.push(cell(BOUND, (between - removed) as u16))
+        out.push(cell(BOUND, (between - removed) as Cell))
     }
 }
 
-pub fn substitute(body: &[u16], argument: &[u16], lines: &Lines, out: &mut Output) -> Result<(), Refusal> {
+pub fn substitute(body: &[Cell], argument: &[Cell], lines: &Lines, out: &mut Output) -> Result<(), Refusal> {
     Substitute { argument }.whole(body, lines, out)
 }
 
 /// Puts arguments in for the variables of a context, all at once.
 struct Instantiate<'a> {
-    cells: &'a [u16],
+    cells: &'a [Cell],
     arguments: &'a [(u32, u32)],
 }
 
 impl Replace for Instantiate<'_> {
     #[inline]
-    fn variable(&self, line: u16, depth: usize, lines: &Lines, out: &mut Output) -> Result<(), Refusal> {
+    fn variable(&self, line: Cell, depth: usize, lines: &Lines, out: &mut Output) -> Result<(), Refusal> {
         let (start, end) = self.arguments[lines.context_length(line)];
         lift(&self.cells[start as usize..end as usize], depth, lines, out)
     }
 
     #[inline]
     fn bound(&self, between: usize, _: usize, _: &Lines, out: &mut Output) -> Result<(), Refusal> {
-        out.push(cell(BOUND, between as u16))
+        out.push(cell(BOUND, between as Cell))
     }
 }
 
 /// The arguments are parts of `cells`, each with its start and end.
 pub fn instantiate(
-    template: &[u16], cells: &[u16], arguments: &[(u32, u32)], lines: &Lines, out: &mut Output,
+    template: &[Cell], cells: &[Cell], arguments: &[(u32, u32)], lines: &Lines, out: &mut Output,
 ) -> Result<(), Refusal> {
     Instantiate { cells, arguments }.whole(template, lines, out)
 }

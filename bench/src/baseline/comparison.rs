@@ -3,14 +3,14 @@
 use super::cells::{self, Output};
 use super::lines::{Kind, Lines};
 use super::Refusal;
+use crate::sizes::{Cell, NESTING};
 
-const DEEPEST: usize = 32;
 
 /// The accepted lines with their cells, and the size that an expression may have.
 #[derive(Clone, Copy)]
 pub struct Book<'a> {
     pub lines: &'a Lines,
-    pub terms: &'a [u16],
+    pub terms: &'a [Cell],
     pub limit: usize,
 }
 
@@ -25,10 +25,10 @@ pub struct Budget {
 enum Head {
     None,
     Contract { at: usize, function: usize },
-    Unfold { at: usize, line: u16 },
+    Unfold { at: usize, line: Cell },
 }
 
-fn head(cells: &[u16], lines: &Lines) -> Head {
+fn head(cells: &[Cell], lines: &Lines) -> Head {
     let mut at = 0;
     loop {
         let c = cells[at];
@@ -51,26 +51,26 @@ fn head(cells: &[u16], lines: &Lines) -> Head {
 /// The two cell stores in which the versions of an expression follow each other.
 #[derive(Default)]
 pub struct Versions {
-    current: Vec<u16>,
-    next: Vec<u16>,
+    current: Vec<Cell>,
+    next: Vec<Cell>,
     arguments: Vec<(u32, u32)>,
 }
 
 /// An expression that head steps are made in.
 struct Side<'s> {
-    given: &'s [u16],
+    given: &'s [Cell],
     stepped: bool,
     head: Head,
     versions: &'s mut Versions,
 }
 
 impl<'s> Side<'s> {
-    fn new(given: &'s [u16], versions: &'s mut Versions, lines: &Lines) -> Self {
+    fn new(given: &'s [Cell], versions: &'s mut Versions, lines: &Lines) -> Self {
         Side { given, stepped: false, head: head(given, lines), versions }
     }
 
     #[inline]
-    fn cells(&self) -> &[u16] {
+    fn cells(&self) -> &[Cell] {
         if self.stepped { &self.versions.current } else { self.given }
     }
 
@@ -112,8 +112,8 @@ impl<'s> Side<'s> {
 
 /// The domain and body of the abstraction that head steps lead to; `given` or a version holds it.
 pub fn abstraction<'s>(
-    given: &'s [u16], versions: &'s mut Versions, book: &Book, budget: &mut Budget,
-) -> Result<(&'s [u16], &'s [u16]), Refusal> {
+    given: &'s [Cell], versions: &'s mut Versions, book: &Book, budget: &mut Budget,
+) -> Result<(&'s [Cell], &'s [Cell]), Refusal> {
     let mut side = Side::new(given, versions, book.lines);
     while side.cells()[0] != cells::ABSTRACTION {
         if let Head::None = side.head {
@@ -134,17 +134,17 @@ pub struct Levels {
 
 impl Levels {
     pub fn new() -> Self {
-        Levels { levels: (0..DEEPEST).map(|_| Default::default()).collect() }
+        Levels { levels: (0..NESTING).map(|_| Default::default()).collect() }
     }
 }
 
-pub fn compare(left: &[u16], right: &[u16], levels: &mut Levels, book: &Book, budget: &mut Budget) -> Result<(), Refusal> {
+pub fn compare(left: &[Cell], right: &[Cell], levels: &mut Levels, book: &Book, budget: &mut Budget) -> Result<(), Refusal> {
     if left == right { Ok(()) } else { differing(left, right, &mut levels.levels, book, budget) }
 }
 
 /// Compares sides that are not identical.
 fn differing(
-    left: &[u16], right: &[u16], levels: &mut [(Versions, Versions)], book: &Book, budget: &mut Budget,
+    left: &[Cell], right: &[Cell], levels: &mut [(Versions, Versions)], book: &Book, budget: &mut Budget,
 ) -> Result<(), Refusal> {
     let ((lefts, rights), deeper) = levels.split_first_mut().unwrap();
     let mut left = Side::new(left, lefts, book.lines);

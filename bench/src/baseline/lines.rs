@@ -1,5 +1,7 @@
 //! What is kept of the accepted lines, and their contexts.
 
+use crate::sizes::Cell;
+
 #[derive(Clone, Copy, Debug, PartialEq, Eq)]
 #[repr(u8)]
 pub enum Kind {
@@ -24,20 +26,20 @@ const NOWHERE: u32 = u32::MAX;
 pub struct Lines {
     lines: Vec<Line>,
     kinds: Vec<Kind>,
-    lengths: Vec<u16>,
+    lengths: Vec<Cell>,
     /// The variables of contexts, in order. A context may begin with the cells of another.
-    contexts: Vec<u16>,
+    contexts: Vec<Cell>,
 }
 
 /// Part of `contexts`: the variables that a line may use.
 #[derive(Clone, Copy)]
 pub struct Context {
     start: u32,
-    length: u16,
+    length: Cell,
 }
 
 impl Context {
-    pub fn length(&self) -> u16 {
+    pub fn length(&self) -> Cell {
         self.length
     }
 }
@@ -53,49 +55,49 @@ impl Lines {
     }
 
     /// Adds a line whose middle, category and end stand at these places of the term store.
-    pub fn push(&mut self, kind: Kind, context: Context, [middle, category, end]: [usize; 3]) -> u16 {
+    pub fn push(&mut self, kind: Kind, context: Context, [middle, category, end]: [usize; 3]) -> Cell {
         self.lines.push(Line {
             middle: middle as u32, category: category as u32, end: end as u32,
             context: context.start, extended: NOWHERE,
         });
         self.kinds.push(kind);
         self.lengths.push(context.length);
-        self.count() as u16
+        self.count() as Cell
     }
 
     #[inline]
-    pub fn kind(&self, line: u16) -> Kind {
+    pub fn kind(&self, line: Cell) -> Kind {
         self.kinds[line as usize]
     }
 
     /// How many variables the line's context has: as many arguments a constant takes, and a variable has this place
     /// in every context that it is in.
     #[inline]
-    pub fn context_length(&self, line: u16) -> usize {
+    pub fn context_length(&self, line: Cell) -> usize {
         self.lengths[line as usize] as usize
     }
 
     #[inline]
-    pub fn middle<'t>(&self, line: u16, terms: &'t [u16]) -> &'t [u16] {
+    pub fn middle<'t>(&self, line: Cell, terms: &'t [Cell]) -> &'t [Cell] {
         let l = &self.lines[line as usize];
         &terms[l.middle as usize..l.category as usize]
     }
 
     #[inline]
-    pub fn category<'t>(&self, line: u16, terms: &'t [u16]) -> &'t [u16] {
+    pub fn category<'t>(&self, line: Cell, terms: &'t [Cell]) -> &'t [Cell] {
         let l = &self.lines[line as usize];
         &terms[l.category as usize..l.end as usize]
     }
 
     /// The variables of the line's context.
     #[inline]
-    pub fn variables(&self, line: u16) -> &[u16] {
+    pub fn variables(&self, line: Cell) -> &[Cell] {
         let start = self.lines[line as usize].context as usize;
         &self.contexts[start..start + self.context_length(line)]
     }
 
     /// The context of a line with this indicator: a variable, or 0 for none.
-    pub fn extend(&mut self, indicator: u16) -> Context {
+    pub fn extend(&mut self, indicator: Cell) -> Context {
         if indicator == 0 {
             return Context { start: 0, length: 0 };
         }
@@ -116,7 +118,7 @@ impl Lines {
     }
 
     #[inline]
-    pub fn in_context(&self, context: Context, variable: u16) -> bool {
+    pub fn in_context(&self, context: Context, variable: Cell) -> bool {
         let place = self.context_length(variable);
         place < context.length as usize && self.contexts[context.start as usize + place] == variable
     }

@@ -3,14 +3,16 @@
 use std::collections::HashMap;
 use std::hash::{BuildHasherDefault, Hasher};
 
+use crate::sizes::Cell;
+
 #[derive(Default)]
 pub struct Names<'b> {
-    lines: HashMap<&'b [u8], u16, BuildHasherDefault<WordHasher>>,
+    lines: HashMap<&'b [u8], Cell, BuildHasherDefault<WordHasher>>,
 }
 
 impl<'b> Names<'b> {
     #[inline]
-    pub fn find(&self, name: &[u8]) -> Option<u16> {
+    pub fn find(&self, name: &[u8]) -> Option<Cell> {
         self.lines.get(name).copied()
     }
 
@@ -18,7 +20,7 @@ impl<'b> Names<'b> {
         self.lines.contains_key(name)
     }
 
-    pub fn insert(&mut self, name: &'b [u8], line: u16) {
+    pub fn insert(&mut self, name: &'b [u8], line: Cell) {
         self.lines.insert(name, line);
     }
 }

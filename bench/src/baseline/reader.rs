@@ -4,9 +4,8 @@ use super::cells;
 use super::lines::{Context, Kind, Lines};
 use super::names::Names;
 use super::Refusal;
+use crate::sizes::{Cell, LONGEST_NAME, NESTING};
 
-const DEEPEST: usize = 32;
-const LONGEST_NAME: usize = 32;
 
 /// Which bytes are letters, digits or underscore.
 const NAME_BYTE: [bool; 256] = {
@@ -23,7 +22,7 @@ const NAME_BYTE: [bool; 256] = {
 pub struct Line<'b> {
     pub start: usize,
     pub identifier: &'b [u8],
-    pub indicator: u16,
+    pub indicator: Cell,
     pub context: Context,
     pub kind: Kind,
     pub middle: usize,
@@ -32,7 +31,7 @@ pub struct Line<'b> {
 pub struct Reader<'b> {
     book: &'b [u8],
     at: usize,
-    cells: Vec<u16>,
+    cells: Vec<Cell>,
     /// The bound names around the current place, outermost first.
     bound: Vec<&'b [u8]>,
     /// The leftmost refusal of a name or argument count, and the place of that name.
@@ -48,14 +47,14 @@ struct Scope<'s, 'b> {
 
 impl<'b> Reader<'b> {
     pub fn new(book: &'b [u8]) -> Self {
-        Reader { book, at: 0, cells: Vec::new(), bound: Vec::with_capacity(DEEPEST), refused: None }
+        Reader { book, at: 0, cells: Vec::new(), bound: Vec::with_capacity(NESTING), refused: None }
     }
 
     pub fn at_end(&self) -> bool {
         self.at == self.book.len()
     }
 
-    pub fn cells(&self) -> &[u16] {
+    pub fn cells(&self) -> &[Cell] {
         &self.cells
     }
 
@@ -136,7 +135,7 @@ impl<'b> Reader<'b> {
         self.spaces();
         let first = self.peek();
         if NAME_BYTE[first as usize] {
-            if depth > DEEPEST {
+            if depth > NESTING {
                 return Err(Refusal::TooLarge);
             }
             let start = self.at;
@@ -144,7 +143,7 @@ impl<'b> Reader<'b> {
             return self.named(scope, start, name, depth);
         }
         match first {
-            b'<' | b'[' if depth > DEEPEST => Err(Refusal::TooLarge),
+            b'<' | b'[' if depth > NESTING => Err(Refusal::TooLarge),
             b'<' => {
                 self.at += 1;
                 self.cells.push(cells::APPLICATION);
@@ -203,9 +202,9 @@ impl<'b> Reader<'b> {
 
     /// The cell of a name and how many arguments it takes.
     #[inline]
-    fn meaning(&self, scope: &Scope<'_, 'b>, name: &[u8]) -> Option<(u16, usize)> {
+    fn meaning(&self, scope: &Scope<'_, 'b>, name: &[u8]) -> Option<(Cell, usize)> {
         if let Some(between) = self.bound.iter().rev().position(|&b| b == name) {
-            return Some((cells::cell(cells::BOUND, between as u16), 0));
+            return Some((cells::cell(cells::BOUND, between as Cell), 0));
         }
         let line = scope.names.find(name)?;
         if scope.lines.kind(line) != Kind::Variable {

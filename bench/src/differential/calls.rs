@@ -1,9 +1,9 @@
 //! Calls with the same limits and stores, and what they leave in every cell.
 
 use crate::random::Random;
+use crate::sizes::{Cell, CODES, LARGEST_LIMIT, MOST_BYTES, MOST_LINES, ROW_WIDTH, SMALLEST_LIMIT, WORK_UNITS};
 use crate::{baseline, verified, Outcome};
 
-const LARGEST_LIMIT: usize = 4_096;
 const USUAL_LIMIT: u32 = 256;
 const MOST_SHOWN: usize = 5;
 
@@ -21,20 +21,20 @@ impl Call {
     /// Stores in which the book fits, and all the budget.
     fn ample(book: &[u8], limit: u32) -> Call {
         let lines = book.iter().filter(|&&b| b == b'\n').count() + 1;
-        Call { budget: u32::MAX, limit, table: 8 * lines, terms: book.len() + 1, work: 128 * limit as usize }
+        Call { budget: u32::MAX, limit, table: ROW_WIDTH * lines, terms: book.len() + 1, work: WORK_UNITS * limit as usize }
     }
 }
 
 /// Books at the largest sizes.
 pub fn largest() -> Vec<(Vec<u8>, Call)> {
-    let call = Call { budget: 9, limit: 16, table: 8 * 8_193, terms: 8_193, work: 2_050 };
+    let call = Call { budget: 9, limit: SMALLEST_LIMIT, table: ROW_WIDTH * (MOST_LINES + 2), terms: MOST_LINES + 2, work: 2_050 };
     let lines = |count: usize| -> Vec<u8> { (0..count).flat_map(|i| format!("*n{i}:=PN:type\n").into_bytes()).collect() };
-    let with = |line: &str| [&lines(8_191)[..], line.as_bytes()].concat();
-    let mut books = vec![lines(8_190), lines(8_191), lines(8_192)];
+    let with = |line: &str| [&lines(MOST_LINES)[..], line.as_bytes()].concat();
+    let mut books = vec![lines(MOST_LINES - 1), lines(MOST_LINES), lines(MOST_LINES + 1)];
     for last in ["*a:=PN:b\n", "*n7:=PN:type\n", "*a:=n0(n1):type\n", "*a:=n0:n1\n", "*a:=PN:type", "a*b:=PN:type\n"] {
         books.push(with(last));
     }
-    for bytes in [16_777_214, 16_777_215, 16_777_216] {
+    for bytes in [MOST_BYTES - 1, MOST_BYTES, MOST_BYTES + 1] {
         let mut book = vec![b' '; bytes];
         let line = b"*a:=PN:type\n";
         book[bytes - line.len()..].copy_from_slice(line);
@@ -46,16 +46,16 @@ pub fn largest() -> Vec<(Vec<u8>, Call)> {
 #[derive(Default)]
 struct Stores {
     table: Vec<u32>,
-    terms: Vec<u16>,
-    work: Vec<u16>,
+    terms: Vec<Cell>,
+    work: Vec<Cell>,
 }
 
 fn table_pattern(at: usize) -> u32 {
     (at as u32).wrapping_mul(0x9e37_79b1) ^ 0x5555_aaaa
 }
 
-fn cell_pattern(at: usize) -> u16 {
-    (at as u16).wrapping_mul(0x9e37) ^ 0x5a5a
+fn cell_pattern(at: usize) -> Cell {
+    (at as Cell).wrapping_mul(0x9e37) ^ 0x5a5a
 }
 
 impl Stores {
@@ -72,9 +72,9 @@ impl Stores {
     /// Whether every cell that the outcome leaves alone has its pattern, and the working cells are zero.
     fn left_alone(&self, call: &Call, outcome: &Outcome) -> bool {
         let recorded = if outcome.code == 0 { outcome.line as usize } else { outcome.line.saturating_sub(1) as usize };
-        let cells = if recorded == 0 { 0 } else { self.table[8 * recorded - 1] as usize };
-        let cleared = if outcome.code == 1 || outcome.code == 2 { 0 } else { 128 * call.limit as usize };
-        (8 * recorded..self.table.len()).all(|i| self.table[i] == table_pattern(i))
+        let cells = if recorded == 0 { 0 } else { self.table[ROW_WIDTH * recorded - 1] as usize };
+        let cleared = if outcome.code == 1 || outcome.code == 2 { 0 } else { WORK_UNITS * call.limit as usize };
+        (ROW_WIDTH * recorded..self.table.len()).all(|i| self.table[i] == table_pattern(i))
             && (cells..self.terms.len()).all(|i| self.terms[i] == cell_pattern(i))
             && self.work[..cleared].iter().all(|&c| c == 0)
             && (cleared..self.work.len()).all(|i| self.work[i] == cell_pattern(i))
@@ -85,35 +85,35 @@ impl Stores {
 pub struct Comparison {
     ours: Stores,
     theirs: Stores,
-    codes: [usize; 13],
+    codes: [usize; CODES],
     steps: u64,
     differences: usize,
 }
 
 impl Comparison {
     pub fn new() -> Self {
-        Comparison { ours: Stores::default(), theirs: Stores::default(), codes: [0; 13], steps: 0, differences: 0 }
+        Comparison { ours: Stores::default(), theirs: Stores::default(), codes: [0; CODES], steps: 0, differences: 0 }
     }
 
     /// Limits and store lengths for a book, often where it just fits or just does not.
     pub fn call(&mut self, random: &mut Random, book: &[u8]) -> Call {
         let limit = match random.below(100) {
-            0..=2 => *random.choose(&[15, 4_097, 0, u32::MAX]),
-            3..=4 => LARGEST_LIMIT as u32,
+            0..=2 => *random.choose(&[SMALLEST_LIMIT - 1, LARGEST_LIMIT + 1, 0, u32::MAX]),
+            3..=4 => LARGEST_LIMIT,
             5..=14 => *random.choose(&[16, 17, 18, 20, 32]),
             15..=24 => random.between(16, 80) as u32,
-            25..=44 => (self.least_limit(book) - random.below(2) as u32).max(16),
+            25..=44 => (self.least_limit(book) - random.below(2) as u32).max(SMALLEST_LIMIT),
             45..=54 => 64,
             _ => USUAL_LIMIT,
         };
         let mut call = Call::ample(book, limit);
-        if !(16..=LARGEST_LIMIT as u32).contains(&limit) {
-            call.work = random.between(0, 128 * 20);
+        if !(SMALLEST_LIMIT..=LARGEST_LIMIT).contains(&limit) {
+            call.work = random.between(0, WORK_UNITS * 20);
             return call;
         }
         let outcome = self.probe(book, &call);
         let recorded = if outcome.code == 0 { outcome.line as usize } else { outcome.line as usize - 1 };
-        let cells = if recorded == 0 { 0 } else { self.theirs.table[8 * recorded - 1] as usize };
+        let cells = if recorded == 0 { 0 } else { self.theirs.table[ROW_WIDTH * recorded - 1] as usize };
         let steps = outcome.steps as usize;
         call.budget = match random.below(10) {
             0..=4 => u32::MAX,
@@ -124,9 +124,9 @@ impl Comparison {
         };
         call.table = match random.below(20) {
             0..=16 => call.table,
-            17 => (8 * recorded + random.below(9)).saturating_sub(1),
-            18 => 8 * recorded,
-            _ => random.between(0, 8 * recorded + 8),
+            17 => (ROW_WIDTH * recorded + random.below(ROW_WIDTH + 1)).saturating_sub(1),
+            18 => ROW_WIDTH * recorded,
+            _ => random.between(0, ROW_WIDTH * recorded + ROW_WIDTH),
         };
         call.terms = match random.below(20) {
             0..=16 => call.terms,

@@ -1,6 +1,7 @@
 //! Changes to a book: of its bytes, its symbols, its lines.
 
 use crate::random::Random;
+use crate::sizes::LONGEST_NAME;
 
 /// Bytes that stand in books, and some that do not.
 const BYTES: &[u8] = b" \n*:=(),<>[]_aEPNTBtype019Zz\t\r\0@{}\x7f\x80\xff";
@@ -80,7 +81,7 @@ fn symbol(random: &mut Random, book: &mut Vec<u8>) {
         8 => all[at] = random.choose(&WORDS).as_bytes().to_vec(),
         9 => nest(random, &mut all[at], &other),
         10 => {
-            let missing = random.between(32, 33).saturating_sub(all[at].len());
+            let missing = random.between(LONGEST_NAME, LONGEST_NAME + 1).saturating_sub(all[at].len());
             let long = [&all[at][..], &vec![b'q'; missing]].concat();
             let old = all[at].clone();
             all.iter_mut().filter(|s| **s == old).for_each(|s| *s = long.clone());

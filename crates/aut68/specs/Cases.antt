@@ -6,6 +6,7 @@ use mathlib.Core.Bool.{Bool, true, false, _&&_}
 use mathlib.Core.List.{List, [], _∷_}
 use lib.Dec.{eqb}
 use Rattle.aut68.specs.Language.{Language}
+use Rattle.aut68.specs.Stores.{Limits}
 use Rattle.aut68.specs.Procedure.Run.{run, codeAt, lineAt, stepsAt}
 
 -- the bytes of a text
@@ -17,28 +18,26 @@ bytesOf (_then_ c s) = code c ∷ bytesOf s
 pub record Case : Type 0 where
   pub language : Language
   pub book : List ℕ
-  pub N : ℕ
-  pub L : ℕ
-  pub table : ℕ
-  pub terms : ℕ
-  pub work : ℕ
+  pub limits : Limits
   pub endCode : ℕ
   pub endLine : ℕ
   pub endSteps : ℕ
 
 unfoldable pub holds : Case → Bool
 holds c =
-    let e = run (c .language) (c .book) (c .N) (c .L) (c .table) (c .terms) (c .work) in
+    let e = run (c .language) (c .book) (c .limits) in
     eqb (codeAt e) (c .endCode) && eqb (lineAt e) (c .endLine) && eqb (stepsAt e) (c .endSteps)
 
 unfoldable pub allHold : List Case → Bool
 allHold [] = true
 allHold (c ∷ cs) = elim (holds c) [ true ↦ allHold cs | false ↦ false ]
 
+unfoldable pub under : Language → Limits → List ℕ → ℕ → ℕ → ℕ → Case
+under language m book code line steps = record { language = language; book = book; limits = m; endCode = code; endLine = line; endSteps = steps }
+
 -- under the listing program's stores, and under its budget and limit too
 unfoldable pub within : Language → ℕ → ℕ → List ℕ → ℕ → ℕ → ℕ → Case
-within language N L book code line steps =
-    record { language = language; book = book; N = N; L = L; table = 16384; terms = 32768; work = 32768; endCode = code; endLine = line; endSteps = steps }
+within language N L = under language (record { budget = N; limit = L; table = 16384; terms = 32768; work = 32768 })
 
 unfoldable pub usual : Language → List ℕ → ℕ → ℕ → ℕ → Case
-usual language book code line steps = within language 100000 256 book code line steps
+usual language = within language 100000 256

@@ -1,7 +1,7 @@
 -- The sixteen outcomes that document 01 calls the proved ones, as one table under one theorem; books that tell its misreadings apart,
 -- under another; the example books in AUT-QE, under a third; and the lines that a book of three records.
 use mathlib.Core.Path.{_≡_, refl}
-use Prim.Native.Nat.{ℕ}
+use Prim.Native.Nat.{ℕ, zero, suc}
 use mathlib.Core.Bool.{true}
 use mathlib.Core.List.{List, [], _∷_, _++_}
 use Rattle.aut68.specs.Language.{aut68}
@@ -19,7 +19,7 @@ use Rattle.aut68.specs.Procedure.Compare
 use Rattle.aut68.specs.Procedure.Category
 use Rattle.aut68.specs.Procedure.CheckLine
 use Rattle.aut68.specs.Procedure.Run
-use Rattle.aut68.specs.Cases.{Case, bytesOf, holds, allHold, within, usual}
+use Rattle.aut68.specs.Cases.{Case, bytesOf, holds, allHold, under, within, usual}
 use Rattle.aut68.specs.ExamplesQE.{naturals, families, examplesQE}
 
 unfoldable pub sample : List ℕ
@@ -29,9 +29,9 @@ sample = bytesOf "*nat:=PN:type\n*one:=PN:nat\n*n:=EB:nat\nn*suc:=PN:nat\n*two:=
 
 unfoldable pub tableRows : List Case
 tableRows =
-    record { language = aut68; book = sample; N = 100000; L = 16; table = 16384; terms = 32768; work = 2047; endCode = 1; endLine = 0; endSteps = 0 }
-    ∷ record { language = aut68; book = sample; N = 100000; L = 15; table = 16384; terms = 32768; work = 32768; endCode = 2; endLine = 0; endSteps = 0 }
-    ∷ record { language = aut68; book = sample; N = 100000; L = 4097; table = 16384; terms = 32768; work = 1000000; endCode = 2; endLine = 0; endSteps = 0 }
+    under aut68 (record { budget = 100000; limit = 16; table = 16384; terms = 32768; work = 2047 }) sample 1 0 0
+    ∷ within aut68 100000 15 sample 2 0 0
+    ∷ under aut68 (record { budget = 100000; limit = 4097; table = 16384; terms = 32768; work = 1000000 }) sample 2 0 0
     ∷ usual aut68 (bytesOf "*a:=:type\n") 3 1 0
     ∷ usual aut68 (bytesOf "*nat:=PN:type\n*nat:=PN:type\n") 4 2 0
     ∷ usual aut68 (bytesOf "*a:=b:type\n") 5 1 0
@@ -39,9 +39,9 @@ tableRows =
     ∷ usual aut68 (sample ++ bytesOf "*u:=<one>one:nat\n") 7 9 2
     ∷ usual aut68 (sample ++ bytesOf "*u:=PN:one\n") 8 9 2
     ∷ usual aut68 (sample ++ bytesOf "*u:=one:F\n") 9 9 3
-    ∷ record { language = aut68; book = bytesOf "*u:=a(b,b,b,b,b,b,b,b,b,b,b,b,b,b,b,b):type\n"; N = 100000; L = 16; table = 16384; terms = 32768; work = 32768; endCode = 10; endLine = 1; endSteps = 0 }
-    ∷ record { language = aut68; book = sample; N = 1; L = 256; table = 16384; terms = 32768; work = 32768; endCode = 11; endLine = 8; endSteps = 1 }
-    ∷ record { language = aut68; book = sample; N = 100000; L = 256; table = 56; terms = 32768; work = 32768; endCode = 12; endLine = 8; endSteps = 1 }
+    ∷ within aut68 100000 16 (bytesOf "*u:=a(b,b,b,b,b,b,b,b,b,b,b,b,b,b,b,b):type\n") 10 1 0
+    ∷ within aut68 1 256 sample 11 8 1
+    ∷ under aut68 (record { budget = 100000; limit = 256; table = 56; terms = 32768; work = 32768 }) sample 12 8 1
     ∷ []
 
 -- ---- the four outcomes after the sample
@@ -52,8 +52,8 @@ longer = sample ++ bytesOf "n*is:=PN:type\n*p:=PN:is(<two>plus2)\n*q:=p:is(suc(s
 unfoldable pub fourOutcomes : List Case
 fourOutcomes =
     usual aut68 longer 0 11 5
-    ∷ record { language = aut68; book = longer; N = 4; L = 256; table = 16384; terms = 32768; work = 32768; endCode = 11; endLine = 11; endSteps = 4 }
-    ∷ record { language = aut68; book = longer; N = 2; L = 256; table = 16384; terms = 32768; work = 32768; endCode = 11; endLine = 10; endSteps = 2 }
+    ∷ within aut68 4 256 longer 11 11 4
+    ∷ within aut68 2 256 longer 11 10 2
     ∷ usual aut68 (sample ++ bytesOf "n*is:=PN:type\n*p:=PN:is(<two>plus2)\n*q:=p:is(suc(two))\n") 9 11 7
     ∷ []
 
@@ -89,6 +89,58 @@ stepsRemain =
 unfoldable pub misreadings : List Case
 misreadings = selfNamed ++ swapped ++ renumbered ++ stepsRemain
 
+-- ---- the order of the procedure, its limits: a book for each whose outcome another order or limit changes
+
+unfoldable pub equality : List ℕ
+equality = sample ++ bytesOf "n*is:=PN:type\n"
+
+unfoldable pub pairs : List ℕ
+pairs = equality ++ bytesOf "n*m:=EB:nat\nm*pair:=PN:nat\nn*twice:=pair(n,n):nat\nn*ax:=PN:is(pair(n,n))\n"
+
+-- n times the bytes
+unfoldable pub repeated : ℕ → List ℕ → List ℕ
+repeated zero s = []
+repeated (suc n) s = s ++ repeated n s
+
+-- a line whose middle is n times `suc` around the inner expression
+unfoldable pub nested : List ℕ → ℕ → List ℕ → List ℕ
+nested identifier n inner = identifier ++ repeated n (bytesOf "suc(") ++ inner ++ repeated n (bytesOf ")") ++ bytesOf ":nat\n"
+
+unfoldable pub deep : List ℕ
+deep = equality ++ bytesOf "*two2:=suc(one):nat\n" ++ nested (bytesOf "*d:=") 30 (bytesOf "two") ++ nested (bytesOf "*e:=") 30 (bytesOf "two2")
+
+unfoldable pub procedureOrder : List Case
+procedureOrder =
+    -- of two unfoldings the constant of the larger line; a contraction before an unfolding; of two contractions the left
+    usual aut68 (bytesOf "*nat:=PN:type\n*a:=nat:type\n*b:=a:type\n*p:=PN:a\n*q:=p:b\n") 0 5 1
+    ∷ usual aut68 (equality ++ bytesOf "*p:=PN:is(two)\n*q:=p:is(<one>[x,nat]two)\n") 0 11 3
+    ∷ usual aut68 (equality ++ bytesOf "*p:=PN:is(<one>[x,nat]<x>[y,nat]y)\n*q:=p:is(<one>[y,nat]y)\n") 0 11 3
+    -- the found category is on the left: A's and an argument's, a middle's
+    ∷ usual aut68 (bytesOf "*nat:=PN:type\n*x:=EB:type\nx*I:=x:type\n*i:=PN:I(I(nat))\n*f:=EB:[z,I(nat)]nat\nf*u:=<i>f:nat\n") 0 6 1
+    ∷ usual aut68 (bytesOf "*nat:=PN:type\n*x:=EB:type\nx*I:=x:type\n*i:=PN:I(I(nat))\n*y:=EB:I(nat)\ny*g:=PN:nat\n*v:=g(i):nat\n") 0 7 1
+    ∷ usual aut68 (equality ++ bytesOf "n*I:=n:nat\n*p:=PN:is(I(I(one)))\n*q:=p:is(I(one))\n") 0 12 3
+    -- nesting of 32 and 33; comparison at depth 32 and 33
+    ∷ usual aut68 (sample ++ nested (bytesOf "*u:=") 31 (bytesOf "one")) 0 9 2
+    ∷ usual aut68 (sample ++ nested (bytesOf "*u:=") 32 (bytesOf "one")) 10 9 2
+    ∷ usual aut68 (deep ++ bytesOf "*p:=PN:is(d)\n*q:=p:is(e)\n") 0 14 6
+    ∷ usual aut68 (deep ++ bytesOf "*p:=PN:is(suc(d))\n*q:=p:is(suc(e))\n") 10 14 4
+    -- the indicator before the identifier, this before the sizes; a count before what stands inside, the middle's names before the
+    -- category's; the written category before the middle
+    ∷ usual aut68 (bytesOf "*nat:=PN:type\nq*nat:=PN:type\n") 5 2 0
+    ∷ within aut68 100000 16 (bytesOf "*nat:=PN:type\n*nat:=a(b,b,b,b,b,b,b,b,b,b,b,b,b,b,b,b):type\n") 4 2 0
+    ∷ usual aut68 (sample ++ bytesOf "*u:=suc(b,b):nat\n") 6 9 2
+    ∷ usual aut68 (sample ++ bytesOf "*u:=suc:b\n") 6 9 2
+    ∷ usual aut68 (sample ++ bytesOf "*u:=<one>one:one\n") 8 9 2
+    -- a variable outside its context; the innermost binding; a name of 33 bytes
+    ∷ usual aut68 (sample ++ bytesOf "*u:=n:nat\n") 5 9 2
+    ∷ usual aut68 (sample ++ bytesOf "*u:=[x,F][x,nat]x:[x,F]F\n") 0 9 3
+    ∷ usual aut68 (bytesOf "*" ++ repeated 33 (bytesOf "a") ++ bytesOf ":=PN:type\n") 3 1 0
+    -- a step past the budget is looked at before the size; a category of exactly L cells is made
+    ∷ within aut68 2 16 (pairs ++ bytesOf "*p:=PN:is(twice(suc(pair(pair(one,one),pair(one,one)))))\n*q:=p:is(one)\n") 11 15 2
+    ∷ within aut68 100000 16 (pairs ++ bytesOf "*p:=PN:is(twice(suc(pair(pair(one,one),pair(one,one)))))\n*q:=p:is(one)\n") 10 15 2
+    ∷ within aut68 100000 16 (pairs ++ bytesOf "*u:=ax(pair(pair(one,one),pair(one,one))):is(one)\n") 9 14 2
+    ∷ []
+
 -- ---- what is recorded of a book
 
 unfoldable pub numbers : List ℕ
@@ -103,31 +155,31 @@ numberLines =
 
 -- ---- the tables, computed
 
-computed : (allHold (tableRows ++ fourOutcomes) ≡ true) × (allHold misreadings ≡ true) × (allHold examplesQE ≡ true) × (Run.recordedAt (Run.run aut68 numbers 0 16 24 8 2048) .recorded ≡ numberLines)
-unfolding numbers numberLines allHold holds within usual naturals families examplesQE sample longer tableRows fourOutcomes selfNamed swapped renumbered stepsRemain misreadings bytesOf
-    Answer.codeOf Answer.andThen Answer.when Answer.ensure
+computed : (allHold (tableRows ++ fourOutcomes) ≡ true) × (allHold (misreadings ++ procedureOrder) ≡ true) × (allHold examplesQE ≡ true) × (Run.recordedAt (Run.run aut68 numbers (record { budget = 0; limit = 16; table = 24; terms = 8; work = 2048 })) .recorded ≡ numberLines)
+unfolding numbers numberLines allHold holds under within usual naturals families examplesQE sample longer tableRows fourOutcomes selfNamed swapped renumbered stepsRemain misreadings equality pairs repeated nested deep procedureOrder bytesOf
+    Answer.codeOf Answer.andThen Answer.when Answer.ensure Answer.aside
     Bytes.nameByte Bytes.opensExpression Bytes.sameBytes Bytes.wordType Bytes.wordPN Bytes.wordEB Bytes.wordProp Bytes.reserved Bytes.onto Bytes.lines
     Source.cellsOfSrc Source.countSrcs Source.middleCells
     Parse.spaces Parse.byte Parse.symbol Parse.starts Parse.wordOf Parse.afterWord Parse.wordAhead Parse.pastWord Parse.nameFits Parse.aName Parse.commaOrClose Parse.arguments Parse.argumentsIfAny Parse.named Parse.application Parse.abstraction Parse.anExpression Parse.anIndicator Parse.aMiddle Parse.propOrName Parse.wordAt Grammar.below Parse.bytesLeft Parse.lineEnd Parse.aLine
     Expr.size Expr.firstCell Expr.parts Expr.cells Expr.snoc Expr.countExprs Expr.shape Expr.isType Expr.isSort Expr.endsInType Expr.endsInProp Expr.overBinding Expr.firstPart Expr.secondPart Expr.identical
     Substitution.liftIndex Substitution.lift Substitution.substituteBound Substitution.substitute Substitution.argumentFor Substitution.instantiateVariable Substitution.instantiate
     Lines.noLine Lines.lineOf Lines.numberFrom Lines.numberOf Lines.kindCells Lines.lineCells Lines.termsOf Lines.kindNumber Lines.rowOf Lines.rowsFrom Lines.tableOf
-    Resolve._>>=_ Resolve.ensure Resolve.member Resolve.placeFrom Resolve.lineMeaning Resolve.meaning Resolve.wanted Resolve.build Resolve.resolve Resolve.resolveMiddle Resolve.indicatorLine Resolve.contextAt Resolve.unused
+    Resolve.member Resolve.placeFrom Resolve.answered Resolve.lookUp Resolve.sought Resolve.wanted Resolve.build Resolve.resolve Resolve.resolveMiddle Resolve.indicatorLine Resolve.contextAt Resolve.unused
     HeadStep.under HeadStep.headStep HeadStep.left
     Compare.choose Compare.next Compare.each Compare.endsAs Compare.hasSurplus Compare.compareParts Compare.sides Compare.compareAt Compare.compare
     Category.nth Category.theLine Category.made Category.headForm Category.parts Category.toFunction Category.servesAsType Category.opens Category.secondChance Category.categoryAt Category.searches Category.category
-    CheckLine.fromReading CheckLine.fromNames CheckLine.room CheckLine.checkDomain CheckLine.checkSupertype CheckLine.checkWritten CheckLine.checkMiddle CheckLine.checkLine
-    Run.codeAt Run.lineAt Run.stepsAt Run.recordedAt Run.over Run.tableEnd Run.termsEnd Run.workEnd Run.checkLines Run.nothing Run.run
+    CheckLine.readLine CheckLine.room CheckLine.store CheckLine.checkDomain CheckLine.checkSupertype CheckLine.checkWritten CheckLine.checkMiddle CheckLine.checkCategories CheckLine.checkLine
+    Run.codeAt Run.lineAt Run.stepsAt Run.recordedAt Run.over Run.tableEnd Run.termsEnd Run.workEnd Run.oneMore Run.checkLines Run.nothing Run.run
 computed = (refl, refl, refl, refl)
 
 pub outcomes : allHold (tableRows ++ fourOutcomes) ≡ true
 outcomes = computed .0
 
-pub misreadings-excluded : allHold misreadings ≡ true
+pub misreadings-excluded : allHold (misreadings ++ procedureOrder) ≡ true
 misreadings-excluded = computed .1
 
 pub examples-hold : allHold examplesQE ≡ true
 examples-hold = computed .2
 
-pub numbers-recorded : Run.recordedAt (Run.run aut68 numbers 0 16 24 8 2048) .recorded ≡ numberLines
+pub numbers-recorded : Run.recordedAt (Run.run aut68 numbers (record { budget = 0; limit = 16; table = 24; terms = 8; work = 2048 })) .recorded ≡ numberLines
 numbers-recorded = computed .3

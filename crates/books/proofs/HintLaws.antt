@@ -6,10 +6,12 @@ use Prim.Native.Nat.{ℕ, suc, _+_, _-_, _*_, _≤_, _<_}
 use native.Mathlib.Omega.{arith}
 use lib.ListN.{length, take, drop, length-append, length-drop}
 use lib.Seq.{sets, length-sets, take-at, drop-at, take-take, length-take-le}
-use Rattle.cells.specs.Cells.{rowCell, Outside}
+use Rattle.aut68.specs.Lines.{identifierPart, partOf, rowCell}
+use Rattle.aut68.specs.Sizes.{lineLimit, rowWidth}
+use Rattle.cells.specs.Layout.{lineUnit, readerUnits}
+use Rattle.cells.specs.Cells.{Outside}
 use Rattle.cells.specs.Stores.{sets-elsewhere, outside-below}
 use Rattle.cells.specs.RowLaws.{row-cell-is}
-use Rattle.names.specs.Known.{partOf, identifierPart}
 use Rattle.names.specs.Hints.{slots, Noted, nameAt}
 use Rattle.names.specs.HintLaws.{slots-fit, identifier-name, hinted-same, hinted-more}
 use Rattle.names.specs.Posts.{NotePost}
@@ -18,22 +20,22 @@ use Rattle.books.specs.Progress.{NotedLine, HintedIn}
 -- ---- a line that is noted
 
 -- the identifier that is noted is the one that the row points to
-name-is : (book tb : List ℕ) (n : ℕ) → 8 * suc n ≤ length tb → identifierPart book tb (n + 1) ≡ nameAt book tb (suc n)
+name-is : (book tb : List ℕ) (n : ℕ) → rowWidth * suc n ≤ length tb → identifierPart book tb (n + 1) ≡ nameAt book tb (suc n)
 name-is book tb n h =
     let e : n + 1 ≡ suc n = omega arith in
     ap (identifierPart book tb) e ∙ identifier-name book tb (suc n) (omega arith) h
 
-pub not-noted : {book tb : List ℕ} (n limit : ℕ) {w : List ℕ} → (n ≤ 8190 → 26 * limit ≤ length w → ⊥) → NotedLine book tb n limit w w
+pub not-noted : {book tb : List ℕ} (n limit : ℕ) {w : List ℕ} → (suc n < lineLimit → readerUnits * limit ≤ length w → ⊥) → NotedLine book tb n limit w w
 not-noted n limit f = record { long = refl; behind = refl; noted = λ l r e. absurd (f l e) }
 
-pub line-noted : {book tb : List ℕ} (n limit : ℕ) (w part : List ℕ) {word : List ℕ} → 26 * limit ≤ length w → word ≡ identifierPart book tb (n + 1)
-    → NotePost (take (26 * limit) w) part word (n + 1) → NotedLine book tb n limit w (part ++ drop (26 * limit) w)
+pub line-noted : {book tb : List ℕ} (n limit : ℕ) (w part : List ℕ) {word : List ℕ} → readerUnits * limit ≤ length w → word ≡ identifierPart book tb (n + 1)
+    → NotePost (take (readerUnits * limit) w) part word (n + 1) → NotedLine book tb n limit w (part ++ drop (readerUnits * limit) w)
 line-noted {book} {tb} n limit w part fits e post =
-    let m : length part ≡ 26 * limit = post .long ∙ length-take-le (26 * limit) w fits in
+    let m : length part ≡ readerUnits * limit = post .long ∙ length-take-le (readerUnits * limit) w fits in
     record {
-      long = length-append part (drop (26 * limit) w) ∙ omega (arith, length-drop (26 * limit) w);
-      behind = drop-at part (drop (26 * limit) w) (26 * limit) m;
-      noted = λ l r f. noted-as (sym (take-at part (drop (26 * limit) w) (26 * limit) m)) (e ∙ name-is book tb n r) (omega arith) (post .is (omega arith));
+      long = length-append part (drop (readerUnits * limit) w) ∙ omega (arith, length-drop (readerUnits * limit) w);
+      behind = drop-at part (drop (readerUnits * limit) w) (readerUnits * limit) m;
+      noted = λ l r f. noted-as (sym (take-at part (drop (readerUnits * limit) w) (readerUnits * limit) m)) (e ∙ name-is book tb n r) (omega arith) (post .is (omega arith));
     }
   where
     noted-as : {u v v′ : List ℕ} {x x′ : List ℕ} {i i′ : ℕ} → v ≡ v′ → x ≡ x′ → i ≡ i′ → Noted u v x i → Noted u v′ x′ i′
@@ -43,37 +45,37 @@ line-noted {book} {tb} n limit w part fits e post =
 
 -- the rows of the lines before it are as they were
 module _ (tb row : List ℕ) (n : ℕ) where
-  row-stays : (v k : ℕ) → 1 ≤ v → v ≤ n → k < 8 → rowCell (sets tb (8 * n) row) v k ≡ rowCell tb v k
+  row-stays : (v k : ℕ) → 1 ≤ v → v ≤ n → k < 8 → rowCell (sets tb (rowWidth * n) row) v k ≡ rowCell tb v k
   row-stays v k a b l =
-      row-cell-is (sets tb (8 * n) row) v k (λ z. omega arith)
-      ∙ sets-elsewhere row tb (8 * n) (8 * v + k - 8) (inl (omega arith))
+      row-cell-is (sets tb (rowWidth * n) row) v k (λ z. omega arith)
+      ∙ sets-elsewhere row tb (rowWidth * n) (rowWidth * v + k - 8) (inl (omega arith))
       ∙ sym (row-cell-is tb v k (λ z. omega arith))
 
-  name-stays : (book : List ℕ) (v : ℕ) → 1 ≤ v → v ≤ n → nameAt book (sets tb (8 * n) row) v ≡ nameAt book tb v
+  name-stays : (book : List ℕ) (v : ℕ) → 1 ≤ v → v ≤ n → nameAt book (sets tb (rowWidth * n) row) v ≡ nameAt book tb v
   unfolding nameAt
   name-stays book v a b = ap₂ (partOf book) (row-stays v 0 a b (omega arith)) (row-stays v 1 a b (omega arith))
 
-module _ {limit : ℕ} (large : 16 ≤ limit) {book tb : List ℕ} {n : ℕ} {w w₁ : List ℕ} (w₂ : List ℕ) (enough : 26 * limit ≤ length w) where
+module _ {limit : ℕ} (large : 16 ≤ limit) {book tb : List ℕ} {n : ℕ} {w w₁ : List ℕ} (w₂ : List ℕ) (enough : readerUnits * limit ≤ length w) where
   -- what is read and stored leaves the hints
-  hints-kept : Outside (23 * limit) (26 * limit) w w₁ → length w₂ ≡ length w₁ → take (24 * limit) w₂ ≡ take (24 * limit) w₁
+  hints-kept : Outside (23 * limit) (readerUnits * limit) w w₁ → length w₂ ≡ length w₁ → take (lineUnit * limit) w₂ ≡ take (lineUnit * limit) w₁
       → HintedIn limit book tb n w → HintedIn limit book tb n w₂
   hints-kept o l e h =
-      let m : length (take (26 * limit) w) ≡ 26 * limit = length-take-le (26 * limit) w enough in
-      let m₂ : length (take (26 * limit) w₂) ≡ 26 * limit = length-take-le (26 * limit) w₂ (omega (arith, o .long)) in
+      let m : length (take (readerUnits * limit) w) ≡ readerUnits * limit = length-take-le (readerUnits * limit) w enough in
+      let m₂ : length (take (readerUnits * limit) w₂) ≡ readerUnits * limit = length-take-le (readerUnits * limit) w₂ (omega (arith, o .long)) in
       hinted-same (23 * limit) (omega (arith, ap slots m, slots-fit limit large)) (m₂ ∙ sym m)
-      (take-take (23 * limit) (26 * limit) w₂ (omega arith)
-      ∙ sym (take-take (23 * limit) (24 * limit) w₂ (omega arith))
+      (take-take (23 * limit) (readerUnits * limit) w₂ (omega arith)
+      ∙ sym (take-take (23 * limit) (lineUnit * limit) w₂ (omega arith))
       ∙ ap (take (23 * limit)) e
-      ∙ take-take (23 * limit) (24 * limit) w₁ (omega arith)
+      ∙ take-take (23 * limit) (lineUnit * limit) w₁ (omega arith)
       ∙ outside-below {n = 23 * limit} (omega arith) o
-      ∙ sym (take-take (23 * limit) (26 * limit) w (omega arith))) h
+      ∙ sym (take-take (23 * limit) (readerUnits * limit) w (omega arith))) h
 
   -- and the line itself is noted
-  pub hinted-on : (row : List ℕ) {tb′ w₃ : List ℕ} → Outside (23 * limit) (26 * limit) w w₁ → length w₂ ≡ length w₁ → take (24 * limit) w₂ ≡ take (24 * limit) w₁
-      → tb′ ≡ sets tb (8 * n) row → n ≤ 8190 → 8 * suc n ≤ length tb → NotedLine book tb′ n limit w₂ w₃
+  pub hinted-on : (row : List ℕ) {tb′ w₃ : List ℕ} → Outside (23 * limit) (readerUnits * limit) w w₁ → length w₂ ≡ length w₁ → take (lineUnit * limit) w₂ ≡ take (lineUnit * limit) w₁
+      → tb′ ≡ sets tb (rowWidth * n) row → suc n < lineLimit → rowWidth * suc n ≤ length tb → NotedLine book tb′ n limit w₂ w₃
       → HintedIn limit book tb n w → HintedIn limit book tb′ (n + 1) w₃
   hinted-on row {tb′} {w₃} o l e t few room noted h =
       let same : (v : ℕ) → 1 ≤ v → v ≤ n → nameAt book tb′ v ≡ nameAt book tb v = λ v a b. ap (λ (x : List ℕ). nameAt book x v) t ∙ name-stays tb row n book v a b in
-      let here = noted .noted few (omega (arith, ap length t, length-sets tb (8 * n) row)) (omega (arith, o .long)) in
+      let here = noted .noted few (omega (arith, ap length t, length-sets tb (rowWidth * n) row)) (omega (arith, o .long)) in
       let q : suc n ≡ n + 1 = omega arith in
       subst (λ (i : ℕ). HintedIn limit book tb′ i w₃) q (hinted-more same refl here (hints-kept o l e h))

@@ -5,3 +5,4 @@ pub mod ReadLaws
 pub mod HintLaws
 pub mod LineLaws
 pub mod LoopLaws
+pub mod AdmissionLaws

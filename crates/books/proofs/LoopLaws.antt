@@ -1,46 +1,47 @@
 -- The lines of a book, one after the other.
 use mathlib.Core.Path.{_≡_, refl, sym, ap, _∙_}
-use mathlib.Core.Logic.{_≢_, inl, inr}
+use mathlib.Core.Logic.{_≢_}
 use mathlib.Core.List.{List, _∷_}
 use Prim.Native.Nat.{ℕ, suc, _+_, _-_, _*_, _≤_}
 use native.Mathlib.Omega.{arith}
 use lib.ListN.{length, take, drop, drop-of-length-le}
 use Rattle.aut68.specs.Language.{aut68}
+use Rattle.aut68.specs.Stores.{Stores, limitsOf}
 use Rattle.aut68.specs.Bytes.{Bytes, lines}
 use Rattle.aut68.specs.Procedure.Answer.{done, stop, Refusal}
 use Rattle.aut68.specs.Procedure.CheckLine.{Passed, checkLine}
-use Rattle.aut68.specs.Procedure.Run.{Recorded, Ending, refusedAt, nothing, checkLines, codeAt, lineAt, stepsAt, recordedAt, tableEnd, termsEnd}
+use Rattle.aut68.specs.Procedure.Run.{Recorded, Ending, refusedAt, nothing, oneMore, checkLines, codeAt, lineAt, stepsAt, recordedAt, tableEnd, termsEnd}
+use Rattle.cells.specs.Layout.{readerUnits}
 use Rattle.cells.specs.Results.{code-nonzero}
 use Rattle.names.specs.HintLaws.{no-line-hinted}
-use Rattle.records.specs.Reached.{reached-nothing, oneMore}
-use Rattle.records.specs.Refusals.{refusal-code, code-most}
+use Rattle.records.specs.Reached.{reached-nothing}
 use Rattle.books.specs.Progress.{LineResult, passed, refused, Going, LinesPost, Fitting}
 
-module _ (book : Bytes) (limit N : ℕ) (tb₀ ts₀ : List ℕ) where
+module _ (book : Bytes) (N limit : ℕ) (s : Stores) where
   abbrev ending : Ending
-  ending = checkLines aut68 N limit (length tb₀) (length ts₀) nothing 0 N (lines book)
+  ending = checkLines aut68 (limitsOf N limit s) nothing 0 N (lines book)
 
   abbrev from : Recorded → ℕ → ℕ → List Bytes → Ending
-  from k at b pieces = checkLines aut68 N limit (length tb₀) (length ts₀) k at b pieces
+  from k at b pieces = checkLines aut68 (limitsOf N limit s) k at b pieces
 
-  one-passes : (k : Recorded) (at b : ℕ) (bytes : Bytes) (more : List Bytes) {p : Passed} {b′ : ℕ} → checkLine aut68 (k .recorded) limit (length tb₀) (length ts₀) bytes b ≡ done p b′
+  one-passes : (k : Recorded) (at b : ℕ) (bytes : Bytes) (more : List Bytes) {p : Passed} {b′ : ℕ} → checkLine aut68 (k .recorded) (limitsOf N limit s) bytes b ≡ done p b′
       → from k at b (bytes ∷ more) ≡ from (oneMore k at p) (at + length bytes) b′ more
-  unfolding checkLines oneMore
+  unfolding checkLines
   one-passes k at b bytes more e = rw (e, checkLines) refl
 
-  one-stops : (k : Recorded) (at b : ℕ) (bytes : Bytes) (more : List Bytes) {r : Refusal} {b′ : ℕ} → checkLine aut68 (k .recorded) limit (length tb₀) (length ts₀) bytes b ≡ stop r b′
+  one-stops : (k : Recorded) (at b : ℕ) (bytes : Bytes) (more : List Bytes) {r : Refusal} {b′ : ℕ} → checkLine aut68 (k .recorded) (limitsOf N limit s) bytes b ≡ stop r b′
       → from k at b (bytes ∷ more) ≡ refusedAt r (suc (length (k .recorded))) (N - b′) k
   unfolding checkLines
   one-stops k at b bytes more e = rw (e, checkLines) refl
 
-  pub going-starts : (w : List ℕ) → Going book limit N tb₀ ts₀ 0 0 0 N tb₀ ts₀ w
+  pub going-starts : (w : List ℕ) → Going book N limit s 0 0 0 N (s .table) (s .terms) w
   going-starts w =
-      record { recorded = nothing; reached = reached-nothing aut68 book limit tb₀ ts₀; hinted = no-line-hinted book tb₀ (take (26 * limit) w); goes = refl }
+      record { recorded = nothing; reached = reached-nothing aut68 book N limit s; hinted = no-line-hinted book (s .table) (take (readerUnits * limit) w); goes = refl }
 
-  module _ {at n used b : ℕ} {tb ts w : List ℕ} (g : Going book limit N tb₀ ts₀ at n used b tb ts w) where
+  module _ {at n used b : ℕ} {tb ts w : List ℕ} (g : Going book N limit s at n used b tb ts w) where
     -- a line that passes
     pub going-on : {code next n′ used′ left : ℕ} {tb′ ts′ w′ : List ℕ} → code ≡ 0
-        → LineResult book limit tb₀ ts₀ (g .recorded) at n b tb ts code next n′ used′ left tb′ ts′ w′ → Going book limit N tb₀ ts₀ next n′ used′ left tb′ ts′ w′
+        → LineResult book N limit s (g .recorded) at n b tb ts code next n′ used′ left tb′ ts′ w′ → Going book N limit s next n′ used′ left tb′ ts′ w′
     going-on {next = next} {left = left} z (passed {bytes} {p} cut e d c r i) =
         record {
           recorded = oneMore (g .recorded) at p;
@@ -56,26 +57,24 @@ module _ (book : Bytes) (limit N : ℕ) (tb₀ ts₀ : List ℕ) where
 
     -- a line that is refused
     pub going-stops : {code next n′ used′ left : ℕ} {tb′ ts′ w′ : List ℕ} → code ≢ 0
-        → LineResult book limit tb₀ ts₀ (g .recorded) at n b tb ts code next n′ used′ left tb′ ts′ w′ → LinesPost ending N tb₀ ts₀ code n′ left tb′ ts′
+        → LineResult book N limit s (g .recorded) at n b tb ts code next n′ used′ left tb′ ts′ w′ → LinesPost ending N (s .table) (s .terms) code n′ left tb′ ts′
     unfolding codeAt lineAt stepsAt tableEnd termsEnd recordedAt
     going-stops z (passed cut e d c r i) = absurd (z c)
     going-stops z (refused {bytes} {more} {r} cut d c l t u) =
         let R = g .reached in
         let q = g .goes ∙ ap (from (g .recorded) at b) cut ∙ one-stops (g .recorded) at b bytes more d in
-        let low = refusal-code aut68 (g .recorded .recorded) (R .derived) limit (length tb₀) (length ts₀) bytes b d in
         record {
           codeIs = c ∙ sym (ap codeAt q);
           acceptedLine = λ x. absurd (z x);
           refusedLine = λ x. (let i = R .linesAre in let j : n + 1 ≡ suc (length (g .recorded .recorded)) = omega arith in ap (λ (y : ℕ). y + 1) l ∙ j) ∙ sym (ap lineAt q);
-          published = inr (omega arith, omega (arith, code-most r));
           few = (let i = R .few in omega arith);
           stepsAre = sym (ap stepsAt q);
-          tableIs = t ∙ R .tableIs ∙ sym (ap (λ e. tableEnd e tb₀) q);
-          termsAre = u ∙ R .termsAre ∙ sym (ap (λ e. termsEnd e ts₀) q);
+          tableIs = t ∙ R .tableIs ∙ sym (ap (λ e. tableEnd e (s .table)) q);
+          termsAre = u ∙ R .termsAre ∙ sym (ap (λ e. termsEnd e (s .terms)) q);
         }
 
     -- no line is left
-    pub going-ends : length book ≤ at → LinesPost ending N tb₀ ts₀ 0 n b tb ts
+    pub going-ends : length book ≤ at → LinesPost ending N (s .table) (s .terms) 0 n b tb ts
     unfolding codeAt lineAt stepsAt tableEnd termsEnd recordedAt checkLines lines
     going-ends h =
         let R = g .reached in
@@ -84,11 +83,10 @@ module _ (book : Bytes) (limit N : ℕ) (tb₀ ts₀ : List ℕ) where
           codeIs = sym (ap codeAt q);
           acceptedLine = λ x. R .linesAre ∙ sym (ap lineAt q);
           refusedLine = λ x. absurd (x refl);
-          published = inl refl;
           few = R .few;
           stepsAre = sym (ap stepsAt q);
-          tableIs = R .tableIs ∙ sym (ap (λ e. tableEnd e tb₀) q);
-          termsAre = R .termsAre ∙ sym (ap (λ e. termsEnd e ts₀) q);
+          tableIs = R .tableIs ∙ sym (ap (λ e. tableEnd e (s .table)) q);
+          termsAre = R .termsAre ∙ sym (ap (λ e. termsEnd e (s .terms)) q);
         }
 
 -- the same code, under another name

@@ -7,6 +7,7 @@ use native.Mathlib.Omega.{arith}
 use lib.Dec.{leb, ltb}
 use lib.ListN.{set}
 use lib.Seq.{sets}
+use Rattle.aut68.specs.Sizes.{lineLimit, rowWidth}
 use borrow.Author.Tests.{not-false, ltb-true, lt-ltb, le-ltb, le-leb, lt-leb, leb-true, leb-false}
 
 -- ---- room
@@ -17,30 +18,30 @@ and-false false = refl
 
 module _ (table terms lines used size : ℕ) where
   abbrev fits : Bool
-  fits = ltb (suc lines) 8192 && leb (8 * suc lines) table && leb (used + size) terms
+  fits = ltb (suc lines) lineLimit && leb (rowWidth * suc lines) table && leb (used + size) terms
 
-  pub too-many-lines : 8191 ≤ lines → false ≡ fits
-  too-many-lines h = rw (le-ltb (suc lines) 8192 (omega arith))
+  pub too-many-lines : lineLimit ≤ suc lines → false ≡ fits
+  too-many-lines h = rw (le-ltb (suc lines) lineLimit (omega arith))
 
-  pub no-row : table < 8 * (lines + 1) → false ≡ fits
-  no-row h = rw (lt-leb (8 * suc lines) table (omega arith), and-false (ltb (suc lines) 8192))
+  pub no-row : table < rowWidth * (lines + 1) → false ≡ fits
+  no-row h = rw (lt-leb (rowWidth * suc lines) table (omega arith), and-false (ltb (suc lines) lineLimit))
 
   pub no-cells : terms < used → false ≡ fits
-  no-cells h = rw (lt-leb (used + size) terms (omega arith), and-false (ltb (suc lines) 8192 && leb (8 * suc lines) table))
+  no-cells h = rw (lt-leb (used + size) terms (omega arith), and-false (ltb (suc lines) lineLimit && leb (rowWidth * suc lines) table))
 
-  pub room-by-size : lines < 8191 → 8 * (lines + 1) ≤ table → used ≤ terms → leb size (terms - used) ≡ fits
-  room-by-size h k l = rw (lt-ltb (suc lines) 8192 (omega arith), le-leb (8 * suc lines) table (omega arith)) (at (leb size (terms - used)) refl)
+  pub room-by-size : suc lines < lineLimit → rowWidth * (lines + 1) ≤ table → used ≤ terms → leb size (terms - used) ≡ fits
+  room-by-size h k l = rw (lt-ltb (suc lines) lineLimit (omega arith), le-leb (rowWidth * suc lines) table (omega arith)) (at (leb size (terms - used)) refl)
     where
       at : (t : Bool) → leb size (terms - used) ≡ t → leb size (terms - used) ≡ leb (used + size) terms
       at true e = e ∙ sym (le-leb (used + size) terms (let q = leb-true size (terms - used) e in omega arith))
       at false e = e ∙ sym (lt-leb (used + size) terms (let q = leb-false size (terms - used) e in omega arith))
 
   -- what room means
-  pub room-facts : {t : Bool} → not t ≡ false → t ≡ fits → (suc lines < 8192) × (8 * suc lines ≤ table) × (used + size ≤ terms)
-  room-facts {t} flag e = at (ltb (suc lines) 8192) (leb (8 * suc lines) table) (leb (used + size) terms) refl refl refl (sym (not-false t flag) ∙ e)
+  pub room-facts : {t : Bool} → not t ≡ false → t ≡ fits → (suc lines < lineLimit) × (rowWidth * suc lines ≤ table) × (used + size ≤ terms)
+  room-facts {t} flag e = at (ltb (suc lines) lineLimit) (leb (rowWidth * suc lines) table) (leb (used + size) terms) refl refl refl (sym (not-false t flag) ∙ e)
     where
-      at : (a b c : Bool) → ltb (suc lines) 8192 ≡ a → leb (8 * suc lines) table ≡ b → leb (used + size) terms ≡ c → true ≡ (a && b && c)
-          → (suc lines < 8192) × (8 * suc lines ≤ table) × (used + size ≤ terms)
+      at : (a b c : Bool) → ltb (suc lines) lineLimit ≡ a → leb (rowWidth * suc lines) table ≡ b → leb (used + size) terms ≡ c → true ≡ (a && b && c)
+          → (suc lines < lineLimit) × (rowWidth * suc lines ≤ table) × (used + size ≤ terms)
       at true true true p q r e = (ltb-true _ _ p, leb-true _ _ q, leb-true _ _ r)
       at false b c p q r e = absurd (true≢false e)
       at true false c p q r e = absurd (true≢false e)
@@ -53,11 +54,11 @@ one-put : (t t′ : List ℕ) (m k i v : ℕ) (vs : List ℕ) → m + k ≡ i �
 one-put t t′ m k i v vs e h = ap (λ (x : List ℕ). sets x (suc i) vs) (h ∙ ap (λ (j : ℕ). set t j v) e)
 
 pub row-put : (n a b c d e f g h : ℕ) (t₀ t₁ t₂ t₃ t₄ t₅ t₆ t₇ t₈ : List ℕ)
-    → t₁ ≡ set t₀ (8 * n + 0) a → t₂ ≡ set t₁ (8 * n + 1) b → t₃ ≡ set t₂ (8 * n + 2) c → t₄ ≡ set t₃ (8 * n + 3) d
-    → t₅ ≡ set t₄ (8 * n + 4) e → t₆ ≡ set t₅ (8 * n + 5) f → t₇ ≡ set t₆ (8 * n + 6) g → t₈ ≡ set t₇ (8 * n + 7) h
-    → t₈ ≡ sets t₀ (8 * n) (a ∷ b ∷ c ∷ d ∷ e ∷ f ∷ g ∷ h ∷ [])
+    → t₁ ≡ set t₀ (rowWidth * n + 0) a → t₂ ≡ set t₁ (rowWidth * n + 1) b → t₃ ≡ set t₂ (rowWidth * n + 2) c → t₄ ≡ set t₃ (rowWidth * n + 3) d
+    → t₅ ≡ set t₄ (rowWidth * n + 4) e → t₆ ≡ set t₅ (rowWidth * n + 5) f → t₇ ≡ set t₆ (rowWidth * n + 6) g → t₈ ≡ set t₇ (rowWidth * n + 7) h
+    → t₈ ≡ sets t₀ (rowWidth * n) (a ∷ b ∷ c ∷ d ∷ e ∷ f ∷ g ∷ h ∷ [])
 row-put n a b c d e f g h t₀ t₁ t₂ t₃ t₄ t₅ t₆ t₇ t₈ p₁ p₂ p₃ p₄ p₅ p₆ p₇ p₈ =
-    let m = 8 * n in
+    let m = rowWidth * n in
     one-put t₇ t₈ m 7 (suc (suc (suc (suc (suc (suc (suc m))))))) h [] (omega arith) p₈
     ∙ one-put t₆ t₇ m 6 (suc (suc (suc (suc (suc (suc m)))))) g (h ∷ []) (omega arith) p₇
     ∙ one-put t₅ t₆ m 5 (suc (suc (suc (suc (suc m))))) f (g ∷ h ∷ []) (omega arith) p₆

@@ -6,11 +6,12 @@ use Prim.Native.Nat.{ℕ, _+_, _*_, _≤_, _<_}
 use native.Mathlib.Omega.{arith}
 use lib.ListN.{length, take, drop, length-append, take-append-drop}
 use lib.Seq.{sets, sets-eq, length-sets, take-at, drop-at, take-add, length-take-le}
+use Rattle.aut68.specs.Sizes.{largestLimit}
 use Rattle.aut68.specs.Language.{aut68}
 use Rattle.aut68.specs.Expr.{Expr, size, cells}
 use Rattle.aut68.specs.Lines.{Line, Lines, Kind, variable, primitive, abbreviation, kindCells, lineCells}
 use Rattle.aut68.specs.Procedure.Answer.{Answer, _>>=_}
-use Rattle.aut68.specs.Procedure.CheckLine.{checkWritten, checkMiddle}
+use Rattle.aut68.specs.Procedure.CheckLine.{checkCategories}
 use Rattle.cells.specs.Cells.{At, Outside, Below, copyCells}
 use Rattle.cells.specs.Layout.{unitAt, lineUnit}
 use Rattle.cells.specs.Results.{Result, passed, refused}
@@ -78,20 +79,20 @@ module _ (ts w : List ℕ) (used size to : ℕ) (h : used + size ≤ length ts) 
 
 -- ---- the hints lie below all that is exchanged and checked
 
-module _ (limit to used size : ℕ) (t : limit ≤ 4096 → to ≡ unitAt limit lineUnit) where
-  below-exchange : (ts w : List ℕ) {w′ : List ℕ} → w′ ≡ copyCells ts used size w to → limit ≤ 4096 → take (24 * limit) w′ ≡ take (24 * limit) w
+module _ (limit to used size : ℕ) (t : limit ≤ largestLimit → to ≡ unitAt limit lineUnit) where
+  below-exchange : (ts w : List ℕ) {w′ : List ℕ} → w′ ≡ copyCells ts used size w to → limit ≤ largestLimit → take (lineUnit * limit) w′ ≡ take (lineUnit * limit) w
   unfolding unitAt
   below-exchange ts w e small =
-      let q : to ≡ 24 * limit = t small in
-      ap (take (24 * limit)) e ∙ outside-below {n = 24 * limit} (omega arith) (copy-outside ts used size w to)
+      let q : to ≡ lineUnit * limit = t small in
+      ap (take (lineUnit * limit)) e ∙ outside-below {n = lineUnit * limit} (omega arith) (copy-outside ts used size w to)
 
   module _ (ts w : List ℕ) {w′ w″ : List ℕ} (e : w′ ≡ copyCells ts used size w to)
       {tb s : List ℕ} {start at budget code left : ℕ} (post : CheckCellsPost tb s start at w′ limit budget w″ code left) where
-    pub hints-stay : limit ≤ 4096 → take (24 * limit) w″ ≡ take (24 * limit) w
+    pub hints-stay : limit ≤ largestLimit → take (lineUnit * limit) w″ ≡ take (lineUnit * limit) w
     unfolding unitAt
-    hints-stay small = outside-below {n = 24 * limit} (omega arith) (post .frame small) ∙ below-exchange ts w e small
+    hints-stay small = outside-below {n = lineUnit * limit} (omega arith) (post .frame small) ∙ below-exchange ts w e small
 
-    pub hints-stay-back : (ts′ : List ℕ) {w‴ : List ℕ} → w‴ ≡ copyCells ts′ used size w″ to → limit ≤ 4096 → take (24 * limit) w‴ ≡ take (24 * limit) w
+    pub hints-stay-back : (ts′ : List ℕ) {w‴ : List ℕ} → w‴ ≡ copyCells ts′ used size w″ to → limit ≤ largestLimit → take (lineUnit * limit) w‴ ≡ take (lineUnit * limit) w
     hints-stay-back ts′ f small = below-exchange ts′ w″ f small ∙ hints-stay small
 
 -- ---- the check between them
@@ -111,8 +112,8 @@ kind-small limit primitive h = omega arith
 kind-small limit (abbreviation m) h = omega (arith, h m refl, size-is-length m)
 
 module _ {ls : Lines} {l : Line} {limit used middle size : ℕ} {tb ts w : List ℕ} (s : ToStore ls l limit used middle size tb ts w) (h : used + size ≤ length ts)
-    {to : ℕ} (t : limit ≤ 4096 → to ≡ unitAt limit lineUnit) where
-  place : to ≡ 24 * limit
+    {to : ℕ} (t : limit ≤ largestLimit → to ≡ unitAt limit lineUnit) where
+  place : to ≡ lineUnit * limit
   unfolding unitAt
   place = t (s .book .limit)
 
@@ -144,7 +145,8 @@ module _ {ls : Lines} {l : Line} {limit used middle size : ℕ} {tb ts w : List 
   pub checked : (ts′ w′ w″ : List ℕ) (category budget code left : ℕ) → ts′ ≡ copyCells w to size ts used → w′ ≡ copyCells ts used size w to
       → (used + middle < 4294967296 → category ≡ used + middle)
       → CheckCellsPost tb (take (used + size) ts′) used category w′ limit budget w″ code left
-      → Result (λ _. Unit {0}) code left ((checkWritten aut68 ls limit (l .category) >>= λ _. checkMiddle aut68 ls limit (l .kind) (l .category)) budget)
+      → Result (λ _. Unit {0}) code left (checkCategories aut68 ls limit l budget)
+  unfolding checkCategories
   checked ts′ w′ w″ category budget code left p q r post =
       post .means {ls = ls} {l = l} (rw (cells-stored ts′ p) (s .book)) (let e = s .enough in omega (arith, ap length q, copy-outside ts used size w to .long))
       (rw (cells-stored ts′ p, r category-starts) (s .cells))

@@ -1,23 +1,26 @@
 -- What the functions that check a book leave, from one line to the next.
 use mathlib.Core.Path.{_≡_}
-use mathlib.Core.Logic.{_≢_, _⊎_}
+use mathlib.Core.Logic.{_≢_}
 use mathlib.Core.List.{List, _∷_}
 use Prim.Native.Nat.{ℕ, suc, _+_, _-_, _*_, _≤_, _<_}
 use lib.ListN.{length, take, drop}
 use lib.Seq.{sets}
 use Rattle.aut68.specs.Language.{aut68}
+use Rattle.aut68.specs.Sizes.{lineLimit, rowWidth, smallestLimit, largestLimit, bookLimit, workUnits}
+use Rattle.aut68.specs.Stores.{Stores, limitsOf}
 use Rattle.aut68.specs.Bytes.{Bytes, lines}
 use Rattle.aut68.specs.Lines.{Line, Lines, lineCells}
-use Rattle.aut68.specs.Procedure.Answer.{done, stop, _>>=_, Refusal, codeOf}
-use Rattle.aut68.specs.Procedure.CheckLine.{Passed, checkLine, checkWritten, checkMiddle}
-use Rattle.aut68.specs.Procedure.Run.{Recorded, Ending, nothing, checkLines, codeAt, lineAt, stepsAt, tableEnd, termsEnd}
+use Rattle.aut68.specs.Procedure.Answer.{done, stop, Refusal, codeOf}
+use Rattle.aut68.specs.Procedure.CheckLine.{Passed, checkCategories, checkLine}
+use Rattle.aut68.specs.Procedure.Run.{Recorded, Ending, nothing, oneMore, checkLines, codeAt, lineAt, stepsAt, tableEnd, termsEnd}
 use Rattle.cells.specs.Cells.{At, Below}
+use Rattle.cells.specs.Layout.{lineUnit, readerUnits}
 use Rattle.cells.specs.Results.{Result}
 use Rattle.kinds.specs.Kinds.{KindsTable}
 use Rattle.names.specs.Hints.{Hinted, Noted, nameAt}
 use Rattle.reduction.specs.Book.{Book}
 use Rattle.categories.specs.Places.{LineCells}
-use Rattle.records.specs.Reached.{Reached, oneMore}
+use Rattle.records.specs.Reached.{Reached}
 
 -- ---- a line whose cells are stored and checked
 
@@ -26,24 +29,24 @@ use Rattle.records.specs.Reached.{Reached, oneMore}
 pub record ToStore (ls : Lines) (l : Line) (limit used middle size : ℕ) (tb ts w : List ℕ) : Type 0 where
   pub sizeIs : size ≡ length (lineCells l)
   pub behind : List ℕ
-  pub cellsAt : At w (24 * limit) (lineCells l) behind
-  pub enough : 128 * limit ≤ length w
+  pub cellsAt : At w (lineUnit * limit) (lineCells l) behind
+  pub enough : workUnits * limit ≤ length w
   pub few : used + size < 4294967296
   pub book : Book ls limit tb (take (used + size) (sets ts used (lineCells l)))
   pub cells : LineCells ls (take (used + size) (sets ts used (lineCells l))) limit used (used + middle) l
 
 -- the row and the cells of a line are written
 pub record Written (l : Line) (n used : ℕ) (row tb ts tb′ ts′ : List ℕ) : Type 0 where
-  pub tableIs : n ≤ 8190 → Below 4294967296 row → tb′ ≡ sets tb (8 * n) row
+  pub tableIs : suc n < lineLimit → Below 4294967296 row → tb′ ≡ sets tb (rowWidth * n) row
   pub termsAre : ts′ ≡ sets ts used (lineCells l)
 
 -- its categories were checked: it is written if they pass, and else table and term store are as they were; the hints, which lie
 -- below its cells, are as they were either way
 pub record StoredPost (limit n used middle size : ℕ) (row : List ℕ) (budget : ℕ) (tb ts w tb′ ts′ w′ : List ℕ) (code left : ℕ) : Type 0 where
   pub long : length w′ ≡ length w
-  pub below : limit ≤ 4096 → take (24 * limit) w′ ≡ take (24 * limit) w
+  pub below : limit ≤ largestLimit → take (lineUnit * limit) w′ ≡ take (lineUnit * limit) w
   pub means : {ls : Lines} {l : Line} → ToStore ls l limit used middle size tb ts w
-      → Result (λ _. Written l n used row tb ts tb′ ts′) code left ((checkWritten aut68 ls limit (l .category) >>= λ _. checkMiddle aut68 ls limit (l .kind) (l .category)) budget)
+      → Result (λ _. Written l n used row tb ts tb′ ts′) code left (checkCategories aut68 ls limit l budget)
   pub restored : {ls : Lines} {l : Line} → ToStore ls l limit used middle size tb ts w → code ≢ 0 → (tb′ ≡ tb) × (ts′ ≡ ts)
 
 -- ---- a line that is noted
@@ -51,59 +54,58 @@ pub record StoredPost (limit n used middle size : ℕ) (row : List ℕ) (budget 
 -- The line whose row stands behind the first n rows was noted for name lookup, which has the first 26 units of the working store.
 pub record NotedLine (book tb : List ℕ) (n limit : ℕ) (w w′ : List ℕ) : Type 0 where
   pub long : length w′ ≡ length w
-  pub behind : drop (26 * limit) w′ ≡ drop (26 * limit) w
-  pub noted : n ≤ 8190 → 8 * suc n ≤ length tb → 26 * limit ≤ length w
-      → Noted (take (26 * limit) w) (take (26 * limit) w′) (nameAt book tb (suc n)) (suc n)
+  pub behind : drop (readerUnits * limit) w′ ≡ drop (readerUnits * limit) w
+  pub noted : suc n < lineLimit → rowWidth * suc n ≤ length tb → readerUnits * limit ≤ length w
+      → Noted (take (readerUnits * limit) w) (take (readerUnits * limit) w′) (nameAt book tb (suc n)) (suc n)
 
 -- ---- a line of the book
 
 -- the limits under which a book is checked
 pub record Fitting (book : Bytes) (limit : ℕ) (w : List ℕ) : Type 0 where
-  pub large : 16 ≤ limit
-  pub small : limit ≤ 4096
-  pub enough : 128 * limit ≤ length w
-  pub short : length book ≤ 16777215
+  pub large : smallestLimit ≤ limit
+  pub small : limit ≤ largestLimit
+  pub enough : workUnits * limit ≤ length w
+  pub short : length book ≤ bookLimit
 
 -- the first n lines are hinted, in the units of name lookup
 abbrev pub HintedIn : ℕ → Bytes → List ℕ → ℕ → List ℕ → Type 0
-HintedIn limit book tb n w = Hinted book tb n (take (26 * limit) w)
+HintedIn limit book tb n w = Hinted book tb n (take (readerUnits * limit) w)
 
--- The line that begins at `at`, after what is recorded in k: if it passes, it is recorded and hinted as well; if it is refused,
--- table and term store are as they were.
-pub data LineResult (book : Bytes) (limit : ℕ) (tb₀ ts₀ : List ℕ) (k : Recorded) (at n budget : ℕ) (tb ts : List ℕ) (code next n′ used′ left : ℕ) (tb′ ts′ w′ : List ℕ) : Type 0 where
+-- The line that begins at `at`, after what is recorded in k, with the stores s lent under N and the limit: if it passes, it is
+-- recorded and hinted as well; if it is refused, table and term store are as they were.
+pub data LineResult (book : Bytes) (N limit : ℕ) (s : Stores) (k : Recorded) (at n budget : ℕ) (tb ts : List ℕ) (code next n′ used′ left : ℕ) (tb′ ts′ w′ : List ℕ) : Type 0 where
   passed : {bytes : Bytes} {p : Passed}
       → lines (drop at book) ≡ bytes ∷ lines (drop next book) → next ≡ at + length bytes
-      → checkLine aut68 (k .recorded) limit (length tb₀) (length ts₀) bytes budget ≡ done p left
-      → code ≡ 0 → Reached aut68 book limit tb₀ ts₀ (oneMore k at p) n′ used′ tb′ ts′ → HintedIn limit book tb′ n′ w′
-      → LineResult book limit tb₀ ts₀ k at n budget tb ts code next n′ used′ left tb′ ts′ w′
+      → checkLine aut68 (k .recorded) (limitsOf N limit s) bytes budget ≡ done p left
+      → code ≡ 0 → Reached aut68 book N limit s (oneMore k at p) n′ used′ tb′ ts′ → HintedIn limit book tb′ n′ w′
+      → LineResult book N limit s k at n budget tb ts code next n′ used′ left tb′ ts′ w′
   refused : {bytes : Bytes} {more : List Bytes} {r : Refusal}
       → lines (drop at book) ≡ bytes ∷ more
-      → checkLine aut68 (k .recorded) limit (length tb₀) (length ts₀) bytes budget ≡ stop r left
+      → checkLine aut68 (k .recorded) (limitsOf N limit s) bytes budget ≡ stop r left
       → code ≡ codeOf r → n′ ≡ n → tb′ ≡ tb → ts′ ≡ ts
-      → LineResult book limit tb₀ ts₀ k at n budget tb ts code next n′ used′ left tb′ ts′ w′
+      → LineResult book N limit s k at n budget tb ts code next n′ used′ left tb′ ts′ w′
 
 pub record LinePost (book ks : Bytes) (limit at n used budget : ℕ) (tb ts w : List ℕ) (code next n′ used′ left : ℕ) (tb′ ts′ w′ : List ℕ) : Type 0 where
   -- the next line begins behind this one
   pub onward : code ≡ 0 → (at < next) × (next ≤ length book)
-  pub means : {tb₀ ts₀ : List ℕ} {k : Recorded} → Fitting book limit w → KindsTable ks → Reached aut68 book limit tb₀ ts₀ k n used tb ts → HintedIn limit book tb n w
-      → LineResult book limit tb₀ ts₀ k at n budget tb ts code next n′ used′ left tb′ ts′ w′
+  pub means : {N : ℕ} {s : Stores} {k : Recorded} → Fitting book limit w → KindsTable ks → Reached aut68 book N limit s k n used tb ts → HintedIn limit book tb n w
+      → LineResult book N limit s k at n budget tb ts code next n′ used′ left tb′ ts′ w′
 
 -- ---- all lines
 
 -- what is recorded when the check has come to the byte `at`, and that the lines from there on decide how the book ends
-pub record Going (book : Bytes) (limit N : ℕ) (tb₀ ts₀ : List ℕ) (at n used budget : ℕ) (tb ts w : List ℕ) : Type 0 where
+pub record Going (book : Bytes) (N limit : ℕ) (s : Stores) (at n used budget : ℕ) (tb ts w : List ℕ) : Type 0 where
   pub recorded : Recorded
-  pub reached : Reached aut68 book limit tb₀ ts₀ recorded n used tb ts
+  pub reached : Reached aut68 book N limit s recorded n used tb ts
   pub hinted : HintedIn limit book tb n w
-  pub goes : checkLines aut68 N limit (length tb₀) (length ts₀) nothing 0 N (lines book) ≡ checkLines aut68 N limit (length tb₀) (length ts₀) recorded at budget (lines (drop at book))
+  pub goes : checkLines aut68 (limitsOf N limit s) nothing 0 N (lines book) ≡ checkLines aut68 (limitsOf N limit s) recorded at budget (lines (drop at book))
 
 -- The lines of the book end so: with code 0 after n lines, else at line n + 1.
 pub record LinesPost (e : Ending) (N : ℕ) (tb ts : List ℕ) (code n left : ℕ) (tb′ ts′ : List ℕ) : Type 0 where
   pub codeIs : code ≡ codeAt e
   pub acceptedLine : code ≡ 0 → n ≡ lineAt e
   pub refusedLine : code ≢ 0 → n + 1 ≡ lineAt e
-  pub published : (code ≡ 0) ⊎ ((3 ≤ code) × (code ≤ 12))
-  pub few : n < 8192
+  pub few : n < lineLimit
   pub stepsAre : N - left ≡ stepsAt e
   pub tableIs : tb′ ≡ tableEnd e tb
   pub termsAre : ts′ ≡ termsEnd e ts

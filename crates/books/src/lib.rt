@@ -1,6 +1,8 @@
-// The check of a book's lines, one after the other: rows and term cells of those that pass. specs/Progress has the contracts.
+// The check of a book: its lines one after the other, rows and term cells of those that pass; and the whole call. specs/Progress has
+// the contracts.
+mod admission;
 mod lines;
 mod rows;
 
-pub use lines::Progress;
-pub use lines::check_lines;
+pub use admission::Admission;
+pub use admission::admit;

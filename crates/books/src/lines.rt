@@ -4,10 +4,13 @@ use crate::rows::put_row;
 use crate::rows::sum;
 use categories::Checked;
 use categories::check_cells;
-use cells::OUT_OF_SPACE;
+use cells::READER_UNITS;
 use cells::clear;
 use cells::exchange;
 use cells::line_at;
+use constants::Cell;
+use constants::LAST_LINE;
+use constants::OUT_OF_SPACE;
 use kinds::kinds_of_bytes;
 use names::identifier;
 use names::note;
@@ -15,10 +18,11 @@ use reader::Line;
 use reader::line_end;
 use reader::read_line;
 ghost use mathlib.Core.Path.{_≡_};
-ghost use mathlib.Core.List.{[], _∷_};
-ghost use Prim.Native.Nat.{_+_, _<_, _≤_};
+ghost use mathlib.Core.List.{List, [], _∷_};
+ghost use Prim.Native.Nat.{ℕ, _+_, _<_, _≤_};
 ghost use lib.ListN.{length};
 ghost use Rattle.aut68.specs.Language.{aut68};
+ghost use Rattle.aut68.specs.Stores.{stores, limitsOf};
 ghost use Rattle.aut68.specs.Bytes.{lines};
 ghost use Rattle.aut68.specs.Procedure.Run.{nothing, checkLines};
 ghost use Rattle.books.specs.Progress.{Fitting, StoredPost, NotedLine, LinePost, LinesPost};
@@ -50,8 +54,8 @@ fn stopped(p: Progress, code: u32, budget: u32) -> Progress
 // stay there if its categories pass, and its row is written. If not, they are exchanged back.
 fn check_stored(
     table: &mut [u32],
-    store: &mut [u16],
-    w: &mut [u16],
+    terms: &mut [Cell],
+    w: &mut [Cell],
     limit: usize,
     lines: usize,
     used: usize,
@@ -59,17 +63,17 @@ fn check_stored(
     l: Line,
     budget: u32,
 ) -> Checked
-    requires { ⌜ used + l .size ≤ length (now store) ⌝ }
-    ensures { λ r. ⌜ StoredPost limit lines used (l .middle) (l .size) (first ∷ l .len ∷ l .indicator ∷ l .context ∷ l .kind ∷ used ∷ (used + l .middle) ∷ (used + l .size) ∷ []) budget (now (table .entry)) (now (store .entry)) (now (w .entry)) (now (table .exit)) (now (store .exit)) (now (w .exit)) (r .code) (r .budget) ⌝ }
+    requires { ⌜ used + l .size ≤ length (now terms) ⌝ }
+    ensures { λ r. ⌜ StoredPost limit lines used (l .middle) (l .size) (first ∷ l .len ∷ l .indicator ∷ l .context ∷ l .kind ∷ used ∷ (used + l .middle) ∷ (used + l .size) ∷ []) budget (now (table .entry)) (now (terms .entry)) (now (w .entry)) (now (table .exit)) (now (terms .exit)) (now (w .exit)) (r .code) (r .budget) ⌝ }
 {
     let size = l.size;
     let to = line_at(limit);
-    exchange(store, used, w, to, size);
+    exchange(terms, used, w, to, size);
     let stop = used + size;
     let category = sum(used, l.middle);
-    let c = check_cells(table, &store[..stop], used, category, w, limit, budget);
+    let c = check_cells(table, &terms[..stop], used, category, w, limit, budget);
     if c.code != 0 {
-        exchange(store, used, w, to, l.size);
+        exchange(terms, used, w, to, l.size);
         return c;
     }
     put_row(table, lines, first, l, used, category, stop);
@@ -77,34 +81,34 @@ fn check_stored(
 }
 
 // Notes the line whose row was written behind the first `lines` rows.
-fn note_line(book: &[u8], table: &[u32], lines: usize, w: &mut [u16], limit: usize)
+fn note_line(book: &[u8], table: &[u32], lines: usize, w: &mut [Cell], limit: usize)
     ensures { λ _. ⌜ NotedLine (now (book .entry)) (now (table .entry)) lines limit (now (w .entry)) (now (w .exit)) ⌝ }
 {
-    if lines > 8190 {
+    if lines >= LAST_LINE {
         return;
     }
-    if limit > w.len() / 26 {
+    if limit > w.len() / READER_UNITS {
         return;
     }
-    let n = 26 * limit;
+    let n = READER_UNITS * limit;
     let v = lines + 1;
     let word = identifier(book, table, v as u32);
     note(&mut w[..n], word, v);
 }
 
 // The line that starts at p.at (checkLine), behind the first p.lines lines. Passed: its row and its cells are written, and
-// every other cell of table and store is as it was. Refused: table and store are as they were.
+// every other cell of table and terms is as it was. Refused: table and terms are as they were.
 fn check_line(
     book: &[u8],
     kinds: &[u8; 256],
     table: &mut [u32],
-    store: &mut [u16],
-    w: &mut [u16],
+    terms: &mut [Cell],
+    w: &mut [Cell],
     limit: usize,
     p: Progress,
 ) -> Progress
     requires { ⌜ p .at < length (now book) ⌝ }
-    ensures { λ r. ⌜ LinePost (now (book .entry)) (now (kinds .entry)) limit (p .at) (p .lines) (p .used) (p .budget) (now (table .entry)) (now (store .entry)) (now (w .entry)) (r .code) (r .at) (r .lines) (r .used) (r .budget) (now (table .exit)) (now (store .exit)) (now (w .exit)) ⌝ }
+    ensures { λ r. ⌜ LinePost (now (book .entry)) (now (kinds .entry)) limit (p .at) (p .lines) (p .used) (p .budget) (now (table .entry)) (now (terms .entry)) (now (w .entry)) (r .code) (r .at) (r .lines) (r .used) (r .budget) (now (table .exit)) (now (terms .exit)) (now (w .exit)) ⌝ }
 {
     let at = p.at;
     let lines = p.lines;
@@ -114,12 +118,12 @@ fn check_line(
     if l.code != 0 {
         return stopped(p, l.code, p.budget);
     }
-    let fits = has_room(table.len(), store.len(), lines, used, l.size);
+    let fits = has_room(table.len(), terms.len(), lines, used, l.size);
     if !fits {
         return stopped(p, OUT_OF_SPACE, p.budget);
     }
     let first = sum(at, l.first);
-    let s = check_stored(table, store, w, limit, lines, used, first, l, p.budget);
+    let s = check_stored(table, terms, w, limit, lines, used, first, l, p.budget);
     if s.code != 0 {
         return stopped(p, s.code, s.budget);
     }
@@ -138,13 +142,13 @@ fn check_line(
 pub fn check_lines(
     book: &[u8],
     table: &mut [u32],
-    store: &mut [u16],
-    w: &mut [u16],
+    terms: &mut [Cell],
+    w: &mut [Cell],
     limit: usize,
     budget: u32,
 ) -> Progress
     requires { ⌜ Fitting (now book) limit (now w) ⌝ }
-    ensures { λ r. ⌜ LinesPost (checkLines aut68 budget limit (length (now (table .entry))) (length (now (store .entry))) nothing 0 budget (lines (now (book .entry)))) budget (now (table .entry)) (now (store .entry)) (r .code) (r .lines) (r .budget) (now (table .exit)) (now (store .exit)) ⌝ }
+    ensures { λ r. ⌜ ((work : List ℕ) → LinesPost (checkLines aut68 (limitsOf budget limit (stores (now (table .entry)) (now (terms .entry)) work)) nothing 0 budget (lines (now (book .entry)))) budget (now (table .entry)) (now (terms .entry)) (r .code) (r .lines) (r .budget) (now (table .exit)) (now (terms .exit))) ⌝ }
 {
     let kinds = kinds_of_bytes();
     let hints = line_at(limit);
@@ -157,7 +161,7 @@ pub fn check_lines(
         budget: budget,
     };
     while p.at < book.len() {
-        p = check_line(book, &kinds, table, store, w, limit, p);
+        p = check_line(book, &kinds, table, terms, w, limit, p);
         if p.code != 0 {
             return p;
         }

@@ -1,4 +1,6 @@
 // Rows of the table, and room for them.
+use constants::LAST_LINE;
+use constants::ROW_WIDTH;
 use reader::Line;
 ghost use mathlib.Core.Path.{_≡_};
 ghost use mathlib.Core.Bool.{_&&_};
@@ -7,16 +9,17 @@ ghost use Prim.Native.Nat.{suc, _+_, _*_, _-_, _<_, _≤_};
 ghost use lib.Dec.{leb, ltb};
 ghost use lib.ListN.{set};
 ghost use lib.Seq.{sets};
+ghost use Rattle.aut68.specs.Sizes.{lineLimit, rowWidth};
 ghost use Rattle.cells.specs.Cells.{Below};
 
-// Is there room for one line more (room): fewer than 8,192 lines, its row in the table, its cells in the term store?
+// Is there room for one line more (room): fewer lines than LINE_LIMIT, its row in the table, its cells in the term store?
 pub fn has_room(table: usize, terms: usize, lines: usize, used: usize, size: usize) -> bool
-    ensures { λ r. ⌜ r ≡ (ltb (suc lines) 8192 && leb (8 * suc lines) table && leb (used + size) terms) ⌝ }
+    ensures { λ r. ⌜ r ≡ (ltb (suc lines) lineLimit && leb (rowWidth * suc lines) table && leb (used + size) terms) ⌝ }
 {
-    if lines >= 8191 {
+    if lines >= LAST_LINE {
         return false;
     }
-    if 8 * (lines + 1) > table {
+    if ROW_WIDTH * (lines + 1) > table {
         return false;
     }
     if used > terms {
@@ -40,16 +43,16 @@ pub fn sum(a: usize, b: usize) -> usize
 
 // Writes x in cell k of the row behind the first `lines` rows.
 fn put_field(table: &mut [u32], lines: usize, k: usize, x: usize)
-    requires { ⌜ k < 8 ⌝ }
-    ensures { λ _. ⌜ (lines ≤ 8190 → x < 4294967296 → now (table .exit) ≡ set (now (table .entry)) (8 * lines + k) x) ⌝ }
+    requires { ⌜ k < rowWidth ⌝ }
+    ensures { λ _. ⌜ (suc lines < lineLimit → x < 4294967296 → now (table .exit) ≡ set (now (table .entry)) (rowWidth * lines + k) x) ⌝ }
 {
-    if lines > 8190 {
+    if lines >= LAST_LINE {
         return;
     }
     if x > 4294967295 {
         return;
     }
-    let at = 8 * lines + k;
+    let at = ROW_WIDTH * lines + k;
     if at < table.len() {
         table[at] = x as u32;
     }
@@ -66,14 +69,14 @@ pub fn put_row(
     category: usize,
     end: usize,
 )
-    ensures { λ _. ⌜ (lines ≤ 8190 → Below 4294967296 (first ∷ l .len ∷ l .indicator ∷ l .context ∷ l .kind ∷ start ∷ category ∷ end ∷ []) → now (table .exit) ≡ sets (now (table .entry)) (8 * lines) (first ∷ l .len ∷ l .indicator ∷ l .context ∷ l .kind ∷ start ∷ category ∷ end ∷ [])) ⌝ }
+    ensures { λ _. ⌜ (suc lines < lineLimit → Below 4294967296 (first ∷ l .len ∷ l .indicator ∷ l .context ∷ l .kind ∷ start ∷ category ∷ end ∷ []) → now (table .exit) ≡ sets (now (table .entry)) (rowWidth * lines) (first ∷ l .len ∷ l .indicator ∷ l .context ∷ l .kind ∷ start ∷ category ∷ end ∷ [])) ⌝ }
 {
-    put_field(table, lines, 0, first);
-    put_field(table, lines, 1, l.len);
-    put_field(table, lines, 2, l.indicator);
-    put_field(table, lines, 3, l.context);
-    put_field(table, lines, 4, l.kind as usize);
-    put_field(table, lines, 5, start);
-    put_field(table, lines, 6, category);
-    put_field(table, lines, 7, end);
+    put_field(table, lines, constants::NAME_START, first);
+    put_field(table, lines, constants::NAME_LENGTH, l.len);
+    put_field(table, lines, constants::INDICATOR, l.indicator);
+    put_field(table, lines, constants::CONTEXT_LENGTH, l.context);
+    put_field(table, lines, constants::KIND, l.kind as usize);
+    put_field(table, lines, constants::MIDDLE_START, start);
+    put_field(table, lines, constants::CATEGORY_START, category);
+    put_field(table, lines, constants::CATEGORY_END, end);
 }

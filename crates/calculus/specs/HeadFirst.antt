@@ -15,7 +15,8 @@ use Rattle.calculus.specs.Star.{Star, done, more, star-trans, star-one}
 use Rattle.calculus.specs.Renaming.{inst, one, unf, arg, pick, ren, sub, sub-inst, sub-unf}
 use Rattle.calculus.specs.Cutoffs.{inst-is, unf-is}
 use Rattle.calculus.specs.Reductions.{steps-trans}
-use Rattle.calculus.specs.Parallel.{ClosedMiddles, Par, ptype, pprop, pvar, pbound, pconst, papp, pabs, pbeta, pdelta, Pars, pnil, pcons, par-sub, pars-sub, par-up, par-ren, par-inst, par-arg, par-unf, sub-par, subs-par, par-steps, steps-star-par}
+use Rattle.calculus.specs.Parallel.{ClosedMiddles, Par, ptype, pprop, pvar, pbound, pconst, papp, pabs, pbeta, pdelta, Pars, pnil, pcons, par-sub, pars-sub}
+use Rattle.calculus.specs.Parallel.{par-up, par-ren, par-inst, par-arg, par-unf, sub-par, subs-par, par-steps, steps-star-par}
 use Rattle.calculus.specs.Shapes.{shape-abs}
 use Rattle.calculus.specs.HeadForms.{HeadNormal, habs, hneutral, Neutral, ntype, nprop, nvar, nbound, nconst, napp}
 

@@ -1,16 +1,30 @@
-// The test program. Each argument names a file with one case: a header line of six numbers, then the book. For each case it
-// writes the outcome, what is recorded, and what became of every other cell. All stores hold 7 in each cell beforehand.
+// The test program. The first arguments name books, which it lists. Each other argument names a file with one case: a header line of
+// six numbers, then the book. For each case it writes the outcome, what is recorded, and what became of every other cell. All
+// stores hold 7 in each cell beforehand.
 mod header;
 mod report;
 
+use constants::Cell;
+use constants::LARGEST_LIMIT;
+use constants::LINE_LIMIT;
+use constants::ROW_WIDTH;
+use constants::WORK_UNITS;
 use header::Header;
 use libc::STDOUT_FILENO;
 
+// How many books are listed.
+const LISTED: usize = 3;
+
+// The largest case's bytes, and the cells of the term store.
+const TEXT: usize = 131072;
+
+const TERMS: usize = 32768;
+
 // Checks the book and reports.
-fn check(h: Header, book: &[u8], table: &mut [u32], terms: &mut [u16], work: &mut [u16]) {
+fn check(h: Header, book: &[u8], table: &mut [u32], terms: &mut [Cell], work: &mut [Cell]) {
     let o = verifier::check_book(book, h.budget, h.limit, table, terms, work);
     let r = verifier::numbers_of(o);
-    let n = report::recorded(r);
+    let n = listing::recorded(r);
     report::outcome(r);
     report::rows(book, table, terms, report::least(n, h.shown));
     report::other_names(book, table, n);
@@ -18,7 +32,7 @@ fn check(h: Header, book: &[u8], table: &mut [u32], terms: &mut [u16], work: &mu
 }
 
 // A case, with the first cells of these stores, as many as its header gives.
-fn case_of(text: &[u8], table: &mut [u32], terms: &mut [u16], work: &mut [u16]) {
+fn case_of(text: &[u8], table: &mut [u32], terms: &mut [Cell], work: &mut [Cell]) {
     let h = header::read(text);
     let start = h.start;
     let rows = h.table;
@@ -45,17 +59,17 @@ fn case_of(text: &[u8], table: &mut [u32], terms: &mut [u16], work: &mut [u16]) 
     );
 }
 
-// The case in an open file. Line 8,192 has a row in this table, and the largest limit a cell more than it needs.
+// The case in an open file. Line LINE_LIMIT has a row in this table, and the largest limit a cell more than it needs.
 fn run(fd: i32) {
-    let mut text = [0u8; 131072];
+    let mut text = [0u8; TEXT];
     let n = io::read_full(fd, &mut text);
-    let mut table = [7u32; 65536];
-    let mut terms = [7u16; 32768];
-    let mut work = [7u16; 524289];
+    let mut table = [7u32; ROW_WIDTH * LINE_LIMIT];
+    let mut terms: [Cell; TERMS] = [7; TERMS];
+    let mut work: [Cell; WORK_UNITS * LARGEST_LIMIT + 1] = [7; WORK_UNITS * LARGEST_LIMIT + 1];
     case_of(&text[..n], &mut table, &mut terms, &mut work);
 }
 
-// The case in the file that argument i names.
+// The book or the case in the file that argument i names.
 fn argument(i: usize) {
     let mut path = io::buffer();
     let n = os::arg(i, &mut path);
@@ -66,7 +80,11 @@ fn argument(i: usize) {
         os::fail(&path[..n]);
         return;
     }
-    run(fd);
+    if i > LISTED {
+        run(fd);
+    } else {
+        listing::list_book(fd, STDOUT_FILENO);
+    }
     libc::close(fd);
 }
 

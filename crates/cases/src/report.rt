@@ -1,4 +1,11 @@
 // What is written of a case.
+use cells::field;
+use constants::CATEGORY_END;
+use constants::CATEGORY_START;
+use constants::Cell;
+use constants::MIDDLE_START;
+use constants::ROW_WIDTH;
+use constants::WORK_UNITS;
 use libc::STDOUT_FILENO;
 use verifier::Numbers;
 
@@ -14,23 +21,12 @@ fn spaced(x: u64) {
     io::print_decimal(STDOUT_FILENO, x);
 }
 
-fn cell(x: u16) {
+fn cell(x: Cell) {
     spaced(x as u64);
 }
 
 pub fn least(a: u32, b: u32) -> u32 {
     if a < b { a } else { b }
-}
-
-// How many lines are recorded at an outcome: all of an accepted book, those before the line of a refused one.
-pub fn recorded(r: Numbers) -> u32 {
-    if r.code == 0 {
-        return r.line;
-    }
-    if r.line == 0 {
-        return 0;
-    }
-    r.line - 1
 }
 
 // Code, line, steps.
@@ -40,20 +36,10 @@ pub fn outcome(r: Numbers) {
     say(r.steps as u64, 10);
 }
 
-// Cell k of the row of line v; 0 where the table has none.
-fn row_cell(table: &[u32], v: u32, k: u32) -> u32 {
-    if v == 0 {
-        return 0;
-    }
-    let at = 8 * (v as usize) - 8 + (k as usize);
-    if at < table.len() { table[at] } else { 0 }
-}
-
-// The shelf cells from index `from` on, below `to`, each behind a space.
-fn cells(terms: &[u16], from: u32, to: u32) {
-    let end = to as usize;
-    let mut i = from as usize;
-    while i < end {
+// The term cells from index `from` on, below `to`, each behind a space.
+fn term_cells(terms: &[Cell], from: usize, to: usize) {
+    let mut i = from;
+    while i < to {
         if i >= terms.len() {
             return;
         }
@@ -62,27 +48,33 @@ fn cells(terms: &[u16], from: u32, to: u32) {
     }
 }
 
-// Line v: its number, its identifier, the 8 cells of its row, `:` and the cells of its middle, `:` and those of its category.
-fn row(book: &[u8], table: &[u32], terms: &[u16], v: u32) {
-    say(v as u64, b' ');
-    io::write_all(STDOUT_FILENO, verifier::identifier(book, table, v));
+// The cells of the row of a line, each behind a space.
+fn row_cells(table: &[u32], line: usize) {
     let mut k = 0;
-    while k < 8 {
-        spaced(row_cell(table, v, k) as u64);
+    while k < ROW_WIDTH {
+        spaced(field(table, line, k) as u64);
         k = k + 1;
     }
-    let middle = row_cell(table, v, 5);
-    let category = row_cell(table, v, 6);
-    let end = row_cell(table, v, 7);
+}
+
+// Line v: its number, its identifier, the cells of its row, `:` and the cells of its middle, `:` and those of its category.
+fn row(book: &[u8], table: &[u32], terms: &[Cell], v: u32) {
+    say(v as u64, b' ');
+    io::write_all(STDOUT_FILENO, verifier::identifier(book, table, v));
+    let line = v as usize;
+    row_cells(table, line);
+    let middle = field(table, line, MIDDLE_START);
+    let category = field(table, line, CATEGORY_START);
+    let end = field(table, line, CATEGORY_END);
     io::write_all(STDOUT_FILENO, &[b' ', b':']);
-    cells(terms, middle, category);
+    term_cells(terms, middle, category);
     io::write_all(STDOUT_FILENO, &[b' ', b':']);
-    cells(terms, category, end);
+    term_cells(terms, category, end);
     io::write_all(STDOUT_FILENO, &[10]);
 }
 
 // The first n lines.
-pub fn rows(book: &[u8], table: &[u32], terms: &[u16], n: u32) {
+pub fn rows(book: &[u8], table: &[u32], terms: &[Cell], n: u32) {
     let mut v = 0;
     while v < n {
         v = v + 1;
@@ -116,27 +108,15 @@ fn changed_rows(table: &[u32], from: usize) -> u64 {
     n
 }
 
-fn changed(s: &[u16], from: usize) -> u64 {
+// How many cells from index `from` on, below `to`, are not x.
+fn others(s: &[Cell], from: usize, to: usize, x: Cell) -> u64 {
     let mut n = 0;
     let mut i = from;
-    while i < s.len() {
-        if s[i] != 7 {
-            n = n + 1;
-        }
-        i = i + 1;
-    }
-    n
-}
-
-// How many of the first `end` cells are not 0.
-fn not_zero(s: &[u16], end: usize) -> u64 {
-    let mut n = 0;
-    let mut i = 0;
-    while i < end {
+    while i < to {
         if i >= s.len() {
             return n;
         }
-        if s[i] != 0 {
+        if s[i] != x {
             n = n + 1;
         }
         i = i + 1;
@@ -144,14 +124,18 @@ fn not_zero(s: &[u16], end: usize) -> u64 {
     n
 }
 
-// Cells of table and shelf that changed behind those of the n recorded lines; of the first 128 × limit working cells those
-// that are not 0; working cells that changed behind them; all working cells that changed.
-pub fn other_cells(table: &[u32], terms: &[u16], work: &[u16], n: u32, limit: u32) {
-    let room = 128 * (limit as usize);
+// Cells of table and term store that changed behind those of the n recorded lines; of the first WORK_UNITS × limit working cells
+// those that are not 0; working cells that changed behind them; all working cells that changed.
+pub fn other_cells(table: &[u32], terms: &[Cell], work: &[Cell], n: u32, limit: u32) {
+    let lines = n as usize;
+    let room = WORK_UNITS * (limit as usize);
     io::write_all(STDOUT_FILENO, b"cells ");
-    say(changed_rows(table, 8 * (n as usize)), b' ');
-    say(changed(terms, row_cell(table, n, 7) as usize), b' ');
-    say(not_zero(work, room), b' ');
-    say(changed(work, room), b' ');
-    say(changed(work, 0), 10);
+    say(changed_rows(table, ROW_WIDTH * lines), b' ');
+    say(
+        others(terms, field(table, lines, CATEGORY_END), terms.len(), 7),
+        b' ',
+    );
+    say(others(work, 0, room, 0), b' ');
+    say(others(work, room, work.len(), 7), b' ');
+    say(others(work, 0, work.len(), 7), 10);
 }

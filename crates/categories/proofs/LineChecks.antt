@@ -7,6 +7,8 @@ use Prim.Native.Nat.{ℕ, suc, _+_, _*_, _-_, _≤_, _<_}
 use native.Mathlib.Omega.{arith}
 use lib.ListN.{length, getD, drop, replicate}
 use borrow.Author.Tests.{eq-eqb, ne-eqb}
+use Rattle.aut68.specs.Sizes as Sizes
+use Rattle.aut68.specs.Sizes.{largestLimit, workUnits}
 use Rattle.aut68.specs.Language.{aut68}
 use Rattle.aut68.specs.Procedure.Answer.{andThen}
 use Rattle.aut68.specs.Expr.{Expr, type, size, cells, firstCell, isType}
@@ -26,14 +28,17 @@ use Rattle.cells.specs.Stores.{outside-same}
 use Rattle.cells.specs.CopyLaws.{copy-outside}
 use Rattle.cells.specs.declared.scope.Scope.{Scope}
 use Rattle.reduction.specs.Book.{Book}
+use Rattle.reduction.specs.Frames.{frame-of}
+use Rattle.levels.specs.Places.{FoundAt, DomainCells, ScopeHolds}
+use Rattle.levels.specs.FoundPosts.{Passes, FindsKnown, FoundTypePost, ComparePost}
+use Rattle.levels.specs.Spots.{frames, level-below, lies-kept, copied-found, is-type-cell}
 use Rattle.categories.specs.AnyDepth.{category68}
 use Rattle.categories.specs.Nesting.{nesting}
-use Rattle.categories.specs.Places.{FoundAt, DomainCells, ScopeHolds, Expression, LineCells}
-use Rattle.categories.specs.Posts.{Passes, FindsKnown, FoundTypePost, ComparePost, CategoryPost, CheckWrittenPost, CheckMiddlePost, CheckCellsPost}
+use Rattle.categories.specs.Places.{Expression, LineCells}
+use Rattle.categories.specs.Posts.{CategoryPost, CheckWrittenPost, CheckMiddlePost, CheckCellsPost}
 use Rattle.categories.proofs.Clauses.{written-type, written-other}
-use Rattle.categories.proofs.Spots.{frame-of, frames, level-below, lies-kept, copied-found, is-type-cell}
 use Rattle.categories.proofs.Within.{part, part-is, part-length, at-part}
-use Rattle.categories.proofs.Cycle.{finds-known}
+use Rattle.categories.proofs.KindLaws.{finds-known}
 
 -- ---- an expression of the line itself
 
@@ -41,8 +46,8 @@ use Rattle.categories.proofs.Cycle.{finds-known}
 pub record NoBindings (scope : Scope) : Type 0 where
   pub none : scope .bound ≡ 0
   pub flat : scope .depth ≡ 0
-  pub startsAre : scope .starts ≡ replicate 32 0
-  pub lensAre : scope .lens ≡ replicate 32 0
+  pub startsAre : scope .starts ≡ replicate Sizes.nesting 0
+  pub lensAre : scope .lens ≡ replicate Sizes.nesting 0
 
 no-domain : {ts : List ℕ} {limit : ℕ} {scope : Scope} {p : Expr} {i : ℕ} → DomainAt p [] i → DomainCells ts limit scope (0 - suc i) p
 no-domain d = elim d [ ]
@@ -59,7 +64,7 @@ scope-none h n = record {
 }
 
 top-expression : {ls : Lines} {ts : List ℕ} {limit at : ℕ} {scope : Scope} (x : Expr) {rest : List ℕ} → length ts < 4294967296 → NoBindings scope → At ts at (cells x) rest
-    → Known ls 0 x → size x ≤ limit → nesting x ≤ 32 → Expression ls ts (part ts at) scope limit 0 [] x
+    → Known ls 0 x → size x ≤ limit → nesting x ≤ Sizes.nesting → Expression ls ts (part ts at) scope limit 0 [] x
 unfolding ScopedScope
 top-expression {ts = ts} {at = at} x h n a k s m =
     let e : at ≡ length ts - length (part ts at) = omega (arith, part-length ts at, at-inside x a, cells-long x) in
@@ -96,15 +101,15 @@ known-other ls k c e ends w = go (category-cases (VariableLine ls) (ConstantOf l
     go (inr x) = x
 
 module _ {tb ts : List ℕ} {at : ℕ} {w : List ℕ} {limit budget : ℕ} where
-  pub written-past : {code left : ℕ} → length ts ≤ at → CheckWrittenPost tb ts at w limit budget w code left
+  pub written-past : {code rest : ℕ} → length ts ≤ at → CheckWrittenPost tb ts at w limit budget w code rest
   written-past h = record { frame = λ small. outside-same; means = λ {ls} {c} B room t a k d s n. absurd (omega (arith, at-inside c a, cells-long c)) }
 
   pub written-is-type : getD ts at 0 ≡ 0 → CheckWrittenPost tb ts at w limit budget w 0 budget
   written-is-type z = record { frame = λ small. outside-same; means = λ {ls} {c} B room t a k d s n. written-type ls limit c (type-there c a z) refl refl }
 
-  pub written-found : {scope : Scope} {w₁ : List ℕ} {found size extent left₁ code left : ℕ} → getD ts at 0 ≢ 0 → NoBindings scope
-      → CategoryPost tb ts (part ts at) scope w limit budget 0 w₁ found size extent left₁ → FoundTypePost w₁ limit 0 found size left₁ code left
-      → CheckWrittenPost tb ts at w limit budget w₁ code left
+  pub written-found : {scope : Scope} {w₁ : List ℕ} {found size extent rest₁ code rest : ℕ} → getD ts at 0 ≢ 0 → NoBindings scope
+      → CategoryPost tb ts (part ts at) scope w limit budget 0 w₁ found size extent rest₁ → FoundTypePost w₁ limit 0 found size rest₁ code rest
+      → CheckWrittenPost tb ts at w limit budget w₁ code rest
   written-found n o C T = record {
     frame = C .frame;
     means = λ {ls} {c} B room t a k d s m.
@@ -145,17 +150,17 @@ module _ {tb ts : List ℕ} {start at : ℕ} {w : List ℕ} {limit budget : ℕ}
     means = λ {ls} {l} B room X. middle-less ls limit (l .kind) (l .category) budget (omega (arith, X .ends));
   }
 
-  pub middle-past : {code left : ℕ} → length ts < at → CheckMiddlePost tb ts start at w limit budget w code left
+  pub middle-past : {code rest : ℕ} → length ts < at → CheckMiddlePost tb ts start at w limit budget w code rest
   middle-past h = record {
     frame = λ small. outside-same;
     means = λ {ls} {l} B room X. absurd (omega (arith, at-inside (l .category) (category-at X)));
   }
 
-  module _ {scope : Scope} {w₁ : List ℕ} {found size extent left₁ : ℕ} (h : start < at) (o : NoBindings scope)
-      (C : CategoryPost tb ts (part ts start) scope w limit budget 0 w₁ found size extent left₁) where
+  module _ {scope : Scope} {w₁ : List ℕ} {found size extent rest₁ : ℕ} (h : start < at) (o : NoBindings scope)
+      (C : CategoryPost tb ts (part ts start) scope w limit budget 0 w₁ found size extent rest₁) where
     -- the category of the middle
-    middle-found : {ls : Lines} {l : Line} → Book ls limit tb ts → 128 * limit ≤ length w → LineCells ls ts limit start at l → (M : Middle (l .kind))
-        → FindsKnown ls 0 w₁ limit 0 found size left₁ (category68 ls limit [] (M .middle) budget)
+    middle-found : {ls : Lines} {l : Line} → Book ls limit tb ts → workUnits * limit ≤ length w → LineCells ls ts limit start at l → (M : Middle (l .kind))
+        → FindsKnown ls 0 w₁ limit 0 found size rest₁ (category68 ls limit [] (M .middle) budget)
     unfolding kindCells
     middle-found {ls} {l} B room X M =
         let m = M .middle in
@@ -167,19 +172,20 @@ module _ {tb ts : List ℕ} {start at : ℕ} {w : List ℕ} {limit budget : ℕ}
     has-middle : {ls : Lines} {l : Line} → LineCells ls ts limit start at l → Middle (l .kind)
     has-middle {l = l} X = middle-of (l .kind) (omega (arith, X .ends))
 
-    middle-clause : (ls : Lines) (l : Line) {code left : ℕ} → (M : Middle (l .kind))
-        → Passes code left (andThen (λ k. compare aut68 ls limit k (l .category)) (category68 ls limit [] (M .middle) budget)) → Passes code left (checkMiddle aut68 ls limit (l .kind) (l .category) budget)
+    middle-clause : (ls : Lines) (l : Line) {code rest : ℕ} → (M : Middle (l .kind))
+        → Passes code rest (andThen (λ k. compare aut68 ls limit k (l .category)) (category68 ls limit [] (M .middle) budget))
+        → Passes code rest (checkMiddle aut68 ls limit (l .kind) (l .category) budget)
     unfolding checkMiddle
-    middle-clause ls l {code} {left} M p = subst (λ (k : Kind). Passes code left (checkMiddle aut68 ls limit k (l .category) budget)) (sym (M .is)) p
+    middle-clause ls l {code} {rest} M p = subst (λ (k : Kind). Passes code rest (checkMiddle aut68 ls limit k (l .category) budget)) (sym (M .is)) p
 
-    pub middle-refused : found ≢ 0 → CheckMiddlePost tb ts start at w limit budget w₁ found left₁
+    pub middle-refused : found ≢ 0 → CheckMiddlePost tb ts start at w limit budget w₁ found rest₁
     middle-refused n = record {
       frame = C .frame;
       means = λ {ls} {l} B room X. let M = has-middle X in middle-clause ls l M (then-refused _ n (middle-found B room X M));
     }
 
-    pub middle-compared : {to n : ℕ} {w₂ w₃ : List ℕ} {code left : ℕ} → found ≡ 0 → n ≡ length ts - at → (limit ≤ 4096 → to ≡ unitAt limit (levelUnit 1)) → w₂ ≡ copyCells ts at n w₁ to
-        → ComparePost tb ts w₂ limit left₁ 0 1 w₃ code left → CheckMiddlePost tb ts start at w limit budget w₃ code left
+    pub middle-compared : {to n : ℕ} {w₂ w₃ : List ℕ} {code rest : ℕ} → found ≡ 0 → n ≡ length ts - at → (limit ≤ largestLimit → to ≡ unitAt limit (levelUnit 1)) → w₂ ≡ copyCells ts at n w₁ to
+        → ComparePost tb ts w₂ limit rest₁ 0 1 w₃ code rest → CheckMiddlePost tb ts start at w limit budget w₃ code rest
     middle-compared {to} {n} {w₂} {w₃} z q pt e K = record {
       frame = λ small.
           let U = unitAt limit (levelUnit 0) in
@@ -204,14 +210,15 @@ module _ {tb ts : List ℕ} {start at : ℕ} {w : List ℕ} {limit budget : ℕ}
 
 -- ---- both
 
-module _ {tb ts : List ℕ} {start at : ℕ} {w w₁ : List ℕ} {limit budget code₁ left₁ : ℕ} (W : CheckWrittenPost tb ts at w limit budget w₁ code₁ left₁) where
-  written-passes : {ls : Lines} {l : Line} → Book ls limit tb ts → 128 * limit ≤ length w → LineCells ls ts limit start at l → Passes code₁ left₁ (checkWritten aut68 ls limit (l .category) budget)
+module _ {tb ts : List ℕ} {start at : ℕ} {w w₁ : List ℕ} {limit budget code₁ rest₁ : ℕ} (W : CheckWrittenPost tb ts at w limit budget w₁ code₁ rest₁) where
+  written-passes : {ls : Lines} {l : Line} → Book ls limit tb ts → workUnits * limit ≤ length w → LineCells ls ts limit start at l
+      → Passes code₁ rest₁ (checkWritten aut68 ls limit (l .category) budget)
   written-passes B room X = W .means B room (X .short) (category-at X) (X .category) (X .endsOnly) (X .categorySmall .0) (X .categorySmall .1)
 
-  pub cells-refused : code₁ ≢ 0 → CheckCellsPost tb ts start at w limit budget w₁ code₁ left₁
+  pub cells-refused : code₁ ≢ 0 → CheckCellsPost tb ts start at w limit budget w₁ code₁ rest₁
   cells-refused n = record { frame = W .frame; means = λ B room X. then-refused _ n (written-passes B room X) }
 
-  pub cells-checked : {w₂ : List ℕ} {code left : ℕ} → code₁ ≡ 0 → CheckMiddlePost tb ts start at w₁ limit left₁ w₂ code left → CheckCellsPost tb ts start at w limit budget w₂ code left
+  pub cells-checked : {w₂ : List ℕ} {code rest : ℕ} → code₁ ≡ 0 → CheckMiddlePost tb ts start at w₁ limit rest₁ w₂ code rest → CheckCellsPost tb ts start at w limit budget w₂ code rest
   cells-checked z M = record {
     frame = λ small. frames (omega arith) (W .frame small) (M .frame small);
     means = λ B room X. then-passed _ z (written-passes B room X) (λ _ _. M .means B (omega (arith, W .frame (B .limit) .long)) X);

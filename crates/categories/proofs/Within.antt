@@ -1,23 +1,26 @@
 -- Expressions inside an expression: where they lie, and what is known of them.
 use mathlib.Core.Path.{_≡_, refl, sym, ap, _∙_}
-use mathlib.Core.List.{List, [], _∷_, _++_, append-nil}
+use mathlib.Core.List.{List, [], _∷_, _++_}
 use Prim.Native.Nat.{ℕ, suc, _+_, _-_, _≤_, _<_}
 use native.Mathlib.Omega.{arith}
 use native.Mathlib.Nat.{add-zero}
 use lib.ListN.{length, getD, take, drop, set, length-drop, length-set}
 use lib.Seq.{take-all, drop-drop, getD-drop, getD-set-same, getD-set-other}
+use Rattle.aut68.specs.Sizes as Sizes
+use Rattle.aut68.specs.Sizes.{largestLimit}
 use Rattle.aut68.specs.Expr.{Expr, Exprs, type, prop, var, bound, const, app, abs, nil, cons, size, cells, cellss, parts, countExprs}
 use Rattle.aut68.specs.Lines.{Lines}
 use Rattle.aut68.specs.Rules.Categories.{DomainAt, innermost, outside}
 use Rattle.aut68.specs.Rules.Resolved.{Scoped}
 use Rattle.calculus.specs.Scoped.{ScopedScope}
 use Rattle.cells.specs.Cells.{At, Formed, Wf}
-use Rattle.cells.specs.Forests.{at-inside, at-parts, at-front, at-second, at-one, cells-one, cells-long}
+use Rattle.cells.specs.Forests.{at-inside, at-parts, at-one, cells-one, cells-long}
 use Rattle.cells.specs.Posts.{Skipped, Bindable, Bound}
 use Rattle.cells.specs.declared.scope.Scope.{Scope}
+use Rattle.levels.specs.Places.{DomainCells, ScopeHolds}
+use Rattle.levels.specs.Parts.{domain-inside, application-argument, application-function, abstraction-domain, abstraction-body}
 use Rattle.categories.specs.Nesting.{nesting}
-use Rattle.categories.specs.Places.{DomainCells, ScopeHolds, Expression, Arguments}
-use Rattle.categories.proofs.Clauses.{domain-inside}
+use Rattle.categories.specs.Places.{Expression, Arguments}
 
 -- ---- a part of a slice that goes to its end
 
@@ -64,38 +67,10 @@ pub skip-one : {tb s : List ℕ} {from r : ℕ} (x : Expr) {rest : List ℕ} →
 unfolding countExprs Formed
 skip-one {from = from} x {rest} S f a = S .ends (cons x nil) rest refl (f, tt) (at-one x a) ∙ ap (λ (l : List ℕ). from + length l) (cells-one x)
 
--- ---- the two parts of an application or an abstraction
-
-module _ {e behind : List ℕ} {i : ℕ} where
-  pub application-argument : (a b : Expr) → At e i (cells (app a b)) behind → At e (i + 1) (cells a) (cells b ++ [] ++ behind)
-  unfolding parts cellss
-  application-argument a b h = at-front (cells a) (cells b ++ []) (at-parts (app a b) h)
-
-  pub application-function : (a b : Expr) → At e i (cells (app a b)) behind → At e (i + 1 + length (cells a)) (cells b) behind
-  unfolding parts cellss
-  application-function a b h =
-      let k : At e (i + 1 + length (cells a)) (cells b ++ []) behind = at-second (cells a) (cells b ++ []) (at-parts (app a b) h) in
-      rw (append-nil (cells b)) at k
-
-  pub abstraction-domain : (p t : Expr) → At e i (cells (abs p t)) behind → At e (i + 1) (cells p) (cells t ++ [] ++ behind)
-  unfolding parts cellss
-  abstraction-domain p t h = at-front (cells p) (cells t ++ []) (at-parts (abs p t) h)
-
-  pub abstraction-body : (p t : Expr) → At e i (cells (abs p t)) behind → At e (i + 1 + length (cells p)) (cells t) behind
-  unfolding parts cellss
-  abstraction-body p t h =
-      let k : At e (i + 1 + length (cells p)) (cells t ++ []) behind = at-second (cells p) (cells t ++ []) (at-parts (abs p t) h) in
-      rw (append-nil (cells t)) at k
-
-  -- `[x,P]` and what stands behind it
-  pub abstraction-front : (p t : Expr) → At e i (cells (abs p t)) behind → At e i (5 ∷ cells p) (cells t ++ behind)
-  unfolding cells
-  abstraction-front p t h = at-front (5 ∷ cells p) (cells t) h
-
 -- ---- a binding more
 
-module _ {ts : List ℕ} {limit : ℕ} {scope inner : Scope} {sc : List Expr} {start len : ℕ} (p : Expr) {rest : List ℕ} (H : ScopeHolds ts limit scope sc) (few : length sc < 32)
-    (B : Bound scope start len inner) (a : At ts start (cells p) rest) (s : len ≡ size p) (m : size p ≤ limit) (small : limit ≤ 4096) where
+module _ {ts : List ℕ} {limit : ℕ} {scope inner : Scope} {sc : List Expr} {start len : ℕ} (p : Expr) {rest : List ℕ} (H : ScopeHolds ts limit scope sc) (few : length sc < Sizes.nesting)
+    (B : Bound scope start len inner) (a : At ts start (cells p) rest) (s : len ≡ size p) (m : size p ≤ limit) (small : limit ≤ largestLimit) where
   bindable : Bindable scope start len
   bindable = record {
     shallow = omega (arith, H .deep);
@@ -194,7 +169,7 @@ module _ {ls : Lines} {ts e : List ℕ} {scope : Scope} {limit level : ℕ} {sc 
         under = omega (arith, E .under);
       }
 
-  pub body-in : {i start len : ℕ} {inner : Scope} (p t : Expr) → limit ≤ 4096 → i ≡ 1 + length (cells p) → start ≡ length ts - length e + 1 → len ≡ size p
+  pub body-in : {i start len : ℕ} {inner : Scope} (p t : Expr) → limit ≤ largestLimit → i ≡ 1 + length (cells p) → start ≡ length ts - length e + 1 → len ≡ size p
       → Bound scope start len inner → Expression ls ts e scope limit level sc (abs p t) → Expression ls ts (part e i) inner limit level (p ∷ sc) t
   unfolding Scoped ScopedScope size nesting
   body-in {i} {start} {len} p t small q r s B E =

@@ -4,30 +4,33 @@ ghost use Prim.Native.Nat.{ℕ};
 ghost use Rattle.categories.specs.Posts.{CheckWrittenPost, CheckMiddlePost, CheckCellsPost};
 use crate::Checked;
 use crate::category;
-use crate::parts::compare_units;
-use crate::parts::found_type;
 use cells::level_at;
 use cells::load;
 use cells::no_bindings;
+use constants::Cell;
+use constants::NOT_TYPE;
+use constants::TOO_LARGE;
+use levels::compare_units;
+use levels::found_type;
 
-// The written category, at index `at` of the store: it is `type`, or its category is (else 8).
+// The written category, at index `at` of the terms: it is `type`, or its category is (else 8).
 fn check_written(
     table: &[u32],
-    store: &[u16],
+    terms: &[Cell],
     at: usize,
-    w: &mut [u16],
+    w: &mut [Cell],
     limit: usize,
     budget: u32,
 ) -> Checked
-    ensures { λ r. ⌜ CheckWrittenPost (now (table .entry)) (now (store .entry)) at (now (w .entry)) limit budget (now (w .exit)) (r .code) (r .budget) ⌝ }
+    ensures { λ r. ⌜ CheckWrittenPost (now (table .entry)) (now (terms .entry)) at (now (w .entry)) limit budget (now (w .exit)) (r .code) (r .budget) ⌝ }
 {
-    if at >= store.len() {
+    if at >= terms.len() {
         return Checked {
-            code: cells::NOT_TYPE,
+            code: NOT_TYPE,
             budget: budget,
         };
     }
-    let x = store[at];
+    let x = terms[at];
     if x == 0 {
         return Checked {
             code: 0,
@@ -35,21 +38,21 @@ fn check_written(
         };
     }
     let scope = no_bindings();
-    let c = category(table, store, &store[at..], scope, w, limit, budget, 0);
+    let c = category(table, terms, &terms[at..], scope, w, limit, budget, 0);
     found_type(w, limit, 0, c)
 }
 
 // The middle, in the cells start..at: its category must equal the written one, which lies from `at` to the store's end.
 fn check_middle(
     table: &[u32],
-    store: &[u16],
+    terms: &[Cell],
     start: usize,
     at: usize,
-    w: &mut [u16],
+    w: &mut [Cell],
     limit: usize,
     budget: u32,
 ) -> Checked
-    ensures { λ r. ⌜ CheckMiddlePost (now (table .entry)) (now (store .entry)) start at (now (w .entry)) limit budget (now (w .exit)) (r .code) (r .budget) ⌝ }
+    ensures { λ r. ⌜ CheckMiddlePost (now (table .entry)) (now (terms .entry)) start at (now (w .entry)) limit budget (now (w .exit)) (r .code) (r .budget) ⌝ }
 {
     if start >= at {
         return Checked {
@@ -57,49 +60,49 @@ fn check_middle(
             budget: budget,
         };
     }
-    if at > store.len() {
+    if at > terms.len() {
         return Checked {
-            code: cells::TOO_LARGE,
+            code: TOO_LARGE,
             budget: budget,
         };
     }
     let scope = no_bindings();
-    let f = category(table, store, &store[start..], scope, w, limit, budget, 0);
+    let f = category(table, terms, &terms[start..], scope, w, limit, budget, 0);
     let code = f.code;
-    let left = f.budget;
+    let rest = f.budget;
     if code != 0 {
         return Checked {
             code: code,
-            budget: left,
+            budget: rest,
         };
     }
-    let n = store.len() - at;
+    let n = terms.len() - at;
     let to = level_at(limit, 1);
-    load(store, at, n, w, to);
-    compare_units(table, store, w, limit, left, 0, 1)
+    load(terms, at, n, w, to);
+    compare_units(table, terms, w, limit, rest, 0, 1)
 }
 
 // The line whose middle lies in the term cells start..at (none for `EB` and `PN`) and whose category lies from `at` to the
 // store's end: the written category, then the middle's and their comparison.
 pub fn check_cells(
     table: &[u32],
-    store: &[u16],
+    terms: &[Cell],
     start: usize,
     at: usize,
-    w: &mut [u16],
+    w: &mut [Cell],
     limit: usize,
     budget: u32,
 ) -> Checked
-    ensures { λ r. ⌜ CheckCellsPost (now (table .entry)) (now (store .entry)) start at (now (w .entry)) limit budget (now (w .exit)) (r .code) (r .budget) ⌝ }
+    ensures { λ r. ⌜ CheckCellsPost (now (table .entry)) (now (terms .entry)) start at (now (w .entry)) limit budget (now (w .exit)) (r .code) (r .budget) ⌝ }
 {
-    let c = check_written(table, store, at, w, limit, budget);
+    let c = check_written(table, terms, at, w, limit, budget);
     let code = c.code;
-    let left = c.budget;
+    let rest = c.budget;
     if code != 0 {
         return Checked {
             code: code,
-            budget: left,
+            budget: rest,
         };
     }
-    check_middle(table, store, start, at, w, limit, left)
+    check_middle(table, terms, start, at, w, limit, rest)
 }

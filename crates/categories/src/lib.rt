@@ -4,17 +4,17 @@
 // category of an expression at a level is left at the start of that level's unit. `<A>B` finds A's category one level deeper;
 // a constant finds each argument's category one level deeper, makes the wanted one two levels deeper, if it is not seen at once
 // that it is the found one, and copies the argument to its level's unit. An argument and A are one nesting deeper than their
-// expression, so levels stay below 32.
+// expression, so levels stay below NESTING.
 //
 // The functions that call each other are category, arguments, application and abstraction, the remaining cells falling; what they
-// do between two categories is in functions that call none of them.
+// do between two categories is in crate `levels`.
 ghost use mathlib.Core.Path.{_≡_};
-ghost use Prim.Native.Nat.{ℕ, _≤_};
+ghost use Prim.Native.Nat.{ℕ, _≤_, _<_};
 ghost use lib.ListN.{length, getD};
+ghost use Rattle.aut68.specs.Sizes.{nesting};
 ghost use Rattle.categories.specs.Posts.{CategoryPost, ArgumentsPost, ApplicationPost, AbstractionPost};
 
 mod checks;
-mod parts;
 
 use cells::Scope;
 use cells::bind;
@@ -22,85 +22,73 @@ use cells::field;
 use cells::level_at;
 use cells::skip;
 pub use checks::check_cells;
-use parts::applied;
-use parts::argument_fits;
-use parts::bound;
-use parts::constant;
-use parts::context_of;
-use parts::context_variable;
-use parts::enter_start;
-use parts::found_type;
-use parts::function_of;
-use parts::is_stored;
-use parts::keep_argument;
-use parts::over_binding;
-use parts::refused;
-use parts::stored;
-use parts::stored_fits;
-use parts::unfit;
-
-// code 0: a category of `size` cells was found, of an expression of `extent` cells; else a refusal. The budget that is left.
-pub struct Found {
-    pub code: u32,
-    pub size: usize,
-    pub extent: usize,
-    pub budget: u32,
-}
-
-// code 0: the arguments, of `extent` cells, passed, and lie in the level's unit; else a refusal. The budget that is left.
-pub struct Argued {
-    pub code: u32,
-    pub extent: usize,
-    pub budget: u32,
-}
+use constants::CELL_FACTOR;
+use constants::CONTEXT_LENGTH;
+use constants::Cell;
+use constants::NESTING;
+use constants::NOT_TYPE;
+use constants::TOO_LARGE;
+use levels::Argued;
+pub use levels::Checked;
+use levels::Found;
+use levels::applied;
+use levels::argument_fits;
+use levels::bound;
+use levels::constant;
+use levels::context_of;
+use levels::context_variable;
+use levels::enter_start;
+use levels::found_type;
+use levels::function_of;
+use levels::is_stored;
+use levels::keep_argument;
+use levels::over_binding;
+use levels::refused;
+use levels::stored;
+use levels::stored_fits;
+use levels::unfit;
 
 // code 0: an argument of `extent` cells passed; else a refusal. The budget that is left.
-pub struct Fitted {
-    pub code: u32,
-    pub extent: usize,
-    pub budget: u32,
-}
-
-// code 0: passed; else a refusal. The budget that is left.
-pub struct Checked {
-    pub code: u32,
-    pub budget: u32,
+struct Fitted {
+    code: u32,
+    extent: usize,
+    budget: u32,
 }
 
 // The category of the expression at the start of e, which is the rest of the store from there on.
 pub fn category(
     table: &[u32],
-    store: &[u16],
-    e: &[u16],
+    terms: &[Cell],
+    e: &[Cell],
     scope: Scope,
-    w: &mut [u16],
+    w: &mut [Cell],
     limit: usize,
     budget: u32,
     level: usize,
 ) -> Found
-    requires { ⌜ length (now e) ≤ length (now store) ⌝ }
-    ensures { λ r. ⌜ CategoryPost (now (table .entry)) (now (store .entry)) (now (e .entry)) scope (now (w .entry)) limit budget level (now (w .exit)) (r .code) (r .size) (r .extent) (r .budget) ⌝ }
+    requires { ⌜ length (now e) ≤ length (now terms) ⌝ }
+    ensures { λ r. ⌜ CategoryPost (now (table .entry)) (now (terms .entry)) (now (e .entry)) scope (now (w .entry)) limit budget level (now (w .exit)) (r .code) (r .size) (r .extent) (r .budget) ⌝ }
 {
-    if level > 31 {
-        return refused(cells::TOO_LARGE, budget);
+    if level >= NESTING {
+        return refused(TOO_LARGE, budget);
     }
     if e.len() == 0 {
-        return refused(cells::NOT_TYPE, budget);
+        return refused(NOT_TYPE, budget);
     }
     let x = e[0];
-    let v = (x / 8) as usize;
-    let k = x % 8;
+    let v = (x / CELL_FACTOR) as usize;
+    let k = x % CELL_FACTOR;
     match k {
-        1 => stored(table, store, w, limit, budget, level, v),
-        2 => bound(table, store, scope, w, limit, budget, level, v),
+        1 => stored(table, terms, w, limit, budget, level, v),
+        2 => bound(table, terms, scope, w, limit, budget, level, v),
         3 => {
-            if field(table, v, 3) == 0 {
-                return stored(table, store, w, limit, budget, level, v);
+            if field(table, v, CONTEXT_LENGTH) == 0 {
+                return stored(table, terms, w, limit, budget, level, v);
             }
             let mut starts = [0; 64];
             let c = arguments(
                 table,
-                store,
+                terms,
                 &e[1..],
                 scope,
                 w,
@@ -110,11 +98,11 @@ pub fn category(
                 v,
                 &mut starts,
             );
-            constant(table, store, w, limit, c, &starts, level, v)
+            constant(table, terms, w, limit, c, &starts, level, v)
         }
-        4 => application(table, store, e, scope, w, limit, budget, level),
-        5 => abstraction(table, store, e, scope, w, limit, budget, level),
-        _ => refused(cells::NOT_TYPE, budget),
+        4 => application(table, terms, e, scope, w, limit, budget, level),
+        5 => abstraction(table, terms, e, scope, w, limit, budget, level),
+        _ => refused(NOT_TYPE, budget),
     }
 }
 
@@ -123,40 +111,41 @@ pub fn category(
 // there.
 fn arguments(
     table: &[u32],
-    store: &[u16],
-    s: &[u16],
+    terms: &[Cell],
+    s: &[Cell],
     scope: Scope,
-    w: &mut [u16],
+    w: &mut [Cell],
     limit: usize,
     budget: u32,
     level: usize,
     v: usize,
-    starts: &mut [u16; 64],
+    starts: &mut [Cell; 64],
 ) -> Argued
-    requires { ⌜ (length (now s) ≤ length (now store)) × (level ≤ 31) × (length (now starts) ≡ 64) × (getD (now starts) 0 0 ≡ 0) ⌝ }
-    ensures { λ r. ⌜ ArgumentsPost (now (table .entry)) (now (store .entry)) (now (s .entry)) scope (now (w .entry)) limit budget level v (now (w .exit)) (r .code) (r .extent) (now (starts .exit)) (r .budget) ⌝ }
+    requires { ⌜ (length (now s) ≤ length (now terms)) × (level < nesting) × (length (now starts) ≡ 64) × (getD (now starts) 0 0 ≡ 0) ⌝ }
+    ensures { λ r. ⌜ ArgumentsPost (now (table .entry)) (now (terms .entry)) (now (s .entry)) scope (now (w .entry)) limit budget level v
+        (now (w .exit)) (r .code) (r .extent) (now (starts .exit)) (r .budget) ⌝ }
 {
-    let count = field(table, v, 3);
+    let count = field(table, v, CONTEXT_LENGTH);
     let mut context = [0; 64];
     context_of(table, v, count, &mut context);
     let base = level_at(limit, level);
     let mut i = 0;
     let mut at = 0;
-    let mut left = budget;
+    let mut rest = budget;
     while i < count {
         let wanted = context_variable(table, v, &context, i);
         if at >= s.len() {
-            return unfit(cells::NOT_TYPE, left);
+            return unfit(NOT_TYPE, rest);
         }
         let x = s[at];
         let f = if is_stored(table, x) {
-            let u = (x / 8) as usize;
+            let u = (x / CELL_FACTOR) as usize;
             let c = stored_fits(
                 table,
-                store,
+                terms,
                 w,
                 limit,
-                left,
+                rest,
                 level,
                 u,
                 wanted,
@@ -170,18 +159,18 @@ fn arguments(
                 budget: c.budget,
             }
         } else {
-            let g = category(table, store, &s[at..], scope, w, limit, left, level + 1);
-            let c = argument_fits(table, store, w, limit, g, level, wanted, base, i, starts);
+            let g = category(table, terms, &s[at..], scope, w, limit, rest, level + 1);
+            let c = argument_fits(table, terms, w, limit, g, level, wanted, base, i, starts);
             Fitted {
                 code: c.code,
                 extent: g.extent,
                 budget: c.budget,
             }
         };
-        left = f.budget;
+        rest = f.budget;
         let code = f.code;
         if code != 0 {
-            return unfit(code, left);
+            return unfit(code, rest);
         }
         let n = f.extent;
         keep_argument(s, at, n, w, base);
@@ -192,7 +181,7 @@ fn arguments(
     Argued {
         code: 0,
         extent: at,
-        budget: left,
+        budget: rest,
     }
 }
 
@@ -200,61 +189,63 @@ fn arguments(
 // A put in.
 fn application(
     table: &[u32],
-    store: &[u16],
-    e: &[u16],
+    terms: &[Cell],
+    e: &[Cell],
     scope: Scope,
-    w: &mut [u16],
+    w: &mut [Cell],
     limit: usize,
     budget: u32,
     level: usize,
 ) -> Found
-    requires { ⌜ (length (now e) ≤ length (now store)) × (1 ≤ length (now e)) × (level ≤ 31) ⌝ }
-    ensures { λ r. ⌜ ApplicationPost (now (table .entry)) (now (store .entry)) (now (e .entry)) scope (now (w .entry)) limit budget level (now (w .exit)) (r .code) (r .size) (r .extent) (r .budget) ⌝ }
+    requires { ⌜ (length (now e) ≤ length (now terms)) × (1 ≤ length (now e)) × (level < nesting) ⌝ }
+    ensures { λ r. ⌜ ApplicationPost (now (table .entry)) (now (terms .entry)) (now (e .entry)) scope (now (w .entry)) limit budget level
+        (now (w .exit)) (r .code) (r .size) (r .extent) (r .budget) ⌝ }
 {
     let b = skip(table, e, 1, 1);
-    let c = category(table, store, &e[b..], scope, w, limit, budget, level);
+    let c = category(table, terms, &e[b..], scope, w, limit, budget, level);
     let extent = c.extent;
-    let f = function_of(table, store, w, limit, c, level);
+    let f = function_of(table, terms, w, limit, c, level);
     let code = f.code;
-    let left = f.budget;
+    let rest = f.budget;
     if code != 0 {
-        return refused(code, left);
+        return refused(code, rest);
     }
-    let a = category(table, store, &e[1..], scope, w, limit, left, level + 1);
+    let a = category(table, terms, &e[1..], scope, w, limit, rest, level + 1);
     let domain = f.domain;
     let body = f.body;
-    applied(table, store, e, b, extent, w, limit, level, domain, body, a)
+    applied(table, terms, e, b, extent, w, limit, level, domain, body, a)
 }
 
 // The category of `[x,P]T` at the start of e: P's must be `type`; T's under one binding more; `type` if that is `type`, else
 // `[x,P]` before it.
 fn abstraction(
     table: &[u32],
-    store: &[u16],
-    e: &[u16],
+    terms: &[Cell],
+    e: &[Cell],
     scope: Scope,
-    w: &mut [u16],
+    w: &mut [Cell],
     limit: usize,
     budget: u32,
     level: usize,
 ) -> Found
-    requires { ⌜ (length (now e) ≤ length (now store)) × (1 ≤ length (now e)) × (level ≤ 31) ⌝ }
-    ensures { λ r. ⌜ AbstractionPost (now (table .entry)) (now (store .entry)) (now (e .entry)) scope (now (w .entry)) limit budget level (now (w .exit)) (r .code) (r .size) (r .extent) (r .budget) ⌝ }
+    requires { ⌜ (length (now e) ≤ length (now terms)) × (1 ≤ length (now e)) × (level < nesting) ⌝ }
+    ensures { λ r. ⌜ AbstractionPost (now (table .entry)) (now (terms .entry)) (now (e .entry)) scope (now (w .entry)) limit budget level
+        (now (w .exit)) (r .code) (r .size) (r .extent) (r .budget) ⌝ }
 {
-    let p = category(table, store, &e[1..], scope, w, limit, budget, level);
+    let p = category(table, terms, &e[1..], scope, w, limit, budget, level);
     let extent = p.extent;
     let d = found_type(w, limit, level, p);
     let code = d.code;
-    let left = d.budget;
+    let rest = d.budget;
     if code != 0 {
-        return refused(code, left);
+        return refused(code, rest);
     }
     if extent > e.len() - 1 {
-        return refused(cells::NOT_TYPE, left);
+        return refused(NOT_TYPE, rest);
     }
     let t = extent + 1;
-    let start = store.len() - e.len() + 1;
+    let start = terms.len() - e.len() + 1;
     let inner = bind(scope, start, extent);
-    let c = category(table, store, &e[t..], inner, w, limit, left, level);
+    let c = category(table, terms, &e[t..], inner, w, limit, rest, level);
     over_binding(e, t, w, limit, level, c)
 }

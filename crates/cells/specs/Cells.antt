@@ -7,21 +7,19 @@ use Prim.Native.Nat.{ℕ, _+_, _-_, _*_, _/_, _%_, _≤_, _<_}
 use lib.Dec.{eqb, leb}
 use lib.ListN.{length, getD, take, drop}
 use lib.Seq.{sets}
+use Rattle.aut68.specs.Sizes.{cellFactor, atContext}
 use Rattle.aut68.specs.Bytes.{sameBytes}
+use Rattle.aut68.specs.Lines.{rowCell}
 use Rattle.aut68.specs.Expr.{Expr, Exprs, type, prop, var, bound, const, app, abs, nil, cons, countExprs}
 
 -- ---- rows and parts
 
--- cell k of the row of line v: 0 where v is 0 or the table has no such cell
-unfoldable pub rowCell : List ℕ → ℕ → ℕ → ℕ
-rowCell tb v k = elim (eqb v 0) [ true ↦ 0 | false ↦ getD tb (8 * v + k - 8) 0 ]
-
 -- how many expressions follow the cell x as its parts: for a constant, the context length on its row
 unfoldable pub partsAfter : List ℕ → ℕ → ℕ
 partsAfter tb x =
-    elim (eqb (x % 8) 3) [
-      | true ↦ rowCell tb (x / 8) 3
-      | false ↦ elim (eqb (x % 8) 4) [ true ↦ 2 | false ↦ elim (eqb (x % 8) 5) [ true ↦ 2 | false ↦ 0 ] ]
+    elim (eqb (x % cellFactor) 3) [
+      | true ↦ rowCell tb (x / cellFactor) atContext
+      | false ↦ elim (eqb (x % cellFactor) 4) [ true ↦ 2 | false ↦ elim (eqb (x % cellFactor) 5) [ true ↦ 2 | false ↦ 0 ] ]
     ]
 
 -- X of each context variable, and C of each constant and the count of its arguments; `type` may stand anywhere
@@ -44,7 +42,7 @@ abbrev pub AnyVariable : ℕ → Type 0
 AnyVariable v = Unit {0}
 
 abbrev pub RightCount : List ℕ → ℕ → ℕ → Type 0
-RightCount tb v n = n ≡ rowCell tb v 3
+RightCount tb v n = n ≡ rowCell tb v atContext
 
 abbrev pub Wf : List ℕ → Expr → Type 0
 Wf tb = Formed AnyVariable (RightCount tb)

@@ -11,7 +11,6 @@ use lib.Dec.{leb}
 use lib.ListN.{length, getD, take, drop, set, replicate, length-drop, length-replicate, replicate-append-replicate}
 use lib.Seq.{sets, sets-eq, take-suc, getD-drop, length-take-le}
 use borrow.Author.Tests.{le-leb, lt-leb, leb-true, leb-false}
-use Rattle.aut68.specs.Expr.{cells}
 use Rattle.aut68.specs.Procedure.Run.{over}
 use Rattle.cells.specs.Cells.{At, Outside, copyCells, moveCells}
 use Rattle.cells.specs.Forests.{at-length}
@@ -123,10 +122,6 @@ module _ (w : List ℕ) (from n to : ℕ) where
   pub move-inside : from < to → to < from + n → moveCells w from n to ≡ w
   unfolding moveCells
   move-inside h k = rw (lt-leb to from h, lt-leb (from + n) to k, moveCells)
-
-  -- of whole runs
-  pub move-whole : (to ≤ from) ⊎ (from + n ≤ to) → from + n ≤ length w → to + n ≤ length w → moveCells w from n to ≡ copied w from n w to
-  move-whole a h k = move-apart a ∙ copy-whole w from n w to h k
 
   -- a move is a copy or does nothing
   pub move-or-not : (moveCells w from n to ≡ copyCells w from n w to) ⊎ (moveCells w from n to ≡ w)

@@ -9,16 +9,18 @@ use native.Mathlib.Omega.{arith}
 use lib.Dec.{eqb}
 use lib.ListN.{length, getD, drop, length-append, length-drop}
 use lib.Seq.{getD-drop, drop-drop}
+use Rattle.aut68.specs.Lines.{rowCell}
+use Rattle.aut68.specs.Sizes.{cellFactor, atContext}
 use Rattle.aut68.specs.Expr.{Expr, Exprs, type, prop, var, bound, const, app, abs, nil, cons, size, sizes, firstCell, parts, cells, cellss, countExprs}
-use Rattle.cells.specs.Cells.{rowCell, partsAfter, Formed, AllFormed, RightCount, At}
+use Rattle.cells.specs.Cells.{partsAfter, Formed, AllFormed, RightCount, At}
 
 -- ---- a cell and its parts
 
 -- what a cell's number and kind are
-pub kind-of : (v k : ℕ) → k < 8 → (8 * v + k) % 8 ≡ k
+pub kind-of : (v k : ℕ) → k < cellFactor → (cellFactor * v + k) % cellFactor ≡ k
 kind-of v k h = omega arith
 
-pub number-of : (v k : ℕ) → k < 8 → (8 * v + k) / 8 ≡ v
+pub number-of : (v k : ℕ) → k < cellFactor → (cellFactor * v + k) / cellFactor ≡ v
 number-of v k h = omega arith
 
 pub cells-split : (e : Expr) → cells e ≡ firstCell e ∷ cellss (parts e)
@@ -105,9 +107,9 @@ module _ (X : ℕ → Type 0) (C : ℕ → ℕ → Type 0) where
 
 -- the same as partsAfter, by kind and number
 partsOfKind : List ℕ → ℕ → ℕ → ℕ
-partsOfKind tb k v = elim (eqb k 3) [ true ↦ rowCell tb v 3 | false ↦ elim (eqb k 4) [ true ↦ 2 | false ↦ elim (eqb k 5) [ true ↦ 2 | false ↦ 0 ] ] ]
+partsOfKind tb k v = elim (eqb k 3) [ true ↦ rowCell tb v atContext | false ↦ elim (eqb k 4) [ true ↦ 2 | false ↦ elim (eqb k 5) [ true ↦ 2 | false ↦ 0 ] ] ]
 
-parts-of-kind : (tb : List ℕ) (v k : ℕ) → k < 8 → partsAfter tb (8 * v + k) ≡ partsOfKind tb k v
+parts-of-kind : (tb : List ℕ) (v k : ℕ) → k < cellFactor → partsAfter tb (cellFactor * v + k) ≡ partsOfKind tb k v
 unfolding partsAfter partsOfKind
 parts-of-kind tb v k h = ap₂ (partsOfKind tb) (kind-of v k h) (number-of v k h)
 
@@ -244,7 +246,7 @@ rebuild k v ps =
           ]
     ]
 
-rebuilt : (e : Expr) → rebuild (firstCell e % 8) (firstCell e / 8) (parts e) ≡ e
+rebuilt : (e : Expr) → rebuild (firstCell e % cellFactor) (firstCell e / cellFactor) (parts e) ≡ e
 unfolding rebuild firstCell parts firstOf restOf
 rebuilt type = refl
 rebuilt prop = refl
@@ -293,7 +295,7 @@ module _ (X Y : ℕ → Type 0) (tb : List ℕ) where
       (rw (cells-join (parts e) es, cells-join (parts e′) es′) (ap (drop 1) k))
       in
       let j = join-same (parts e) (parts e′) es es′ m (v .0) in
-      (ap₂ cons (sym (rebuilt e) ∙ ap₂ (λ (c : ℕ) (ps : Exprs). rebuild (c % 8) (c / 8) ps) f (j .0) ∙ rebuilt e′) (j .1), v .1)
+      (ap₂ cons (sym (rebuilt e) ∙ ap₂ (λ (c : ℕ) (ps : Exprs). rebuild (c % cellFactor) (c / cellFactor) ps) f (j .0) ∙ rebuilt e′) (j .1), v .1)
 
   unique-none : UniqueBy 0
   unfolding countExprs cellss

@@ -1,4 +1,4 @@
--- The working store of 128 × limit cells, in units of `limit` cells:
+-- The working store of workUnits × limit cells, in units of `limit` cells:
 --     0   23  hints of name lookup, in the first cells; the rest is free
 --    23    1  the context of the line that is read
 --    24    2  the line's cells before storage; then the term cells that they displaced
@@ -11,27 +11,39 @@ use mathlib.Core.Path.{_≡_}
 use Prim.Native.Nat.{ℕ, _+_, _*_, _-_, _≤_, _<_}
 use native.Mathlib.Omega.{arith}
 use native.Mathlib.Nat.{add-mul, mul-le-mul-right}
+use Rattle.aut68.specs.Sizes.{workUnits, largestLimit}
 
 -- where unit k starts
 unfoldable pub unitAt : ℕ → ℕ → ℕ
 unitAt limit k = k * limit
 
+-- the context of the line that is read
+abbrev pub contextUnit : ℕ
+contextUnit = 23
+
 -- the two units of the line's cells
 abbrev pub lineUnit : ℕ
 lineUnit = 24
 
-abbrev pub levelUnit : ℕ → ℕ
-levelUnit level = 26 + level
+-- the units that a reading works in; then one unit for each level of a category
+abbrev pub readerUnits : ℕ
+readerUnits = 26
 
--- the left side of a pair with `levels` levels left; its right side is the unit behind it
-abbrev pub sideUnit : ℕ → ℕ
-sideUnit levels = 126 - 2 * levels
+abbrev pub levels : ℕ
+levels = 36
+
+abbrev pub levelUnit : ℕ → ℕ
+levelUnit level = readerUnits + level
 
 abbrev pub scratchUnit : ℕ
 scratchUnit = 126
 
 abbrev pub resultUnit : ℕ
 resultUnit = 127
+
+-- the left side of a pair that may go `deeper` levels deeper; its right side is the unit behind it
+abbrev pub sideUnit : ℕ → ℕ
+sideUnit deeper = scratchUnit - 2 * deeper
 
 -- ---- laws: units follow each other without gaps
 
@@ -46,18 +58,18 @@ unit-below limit {j} {k} l =
     let h : (j + 1) * limit ≤ k * limit = mul-le-mul-right limit (omega arith) in
     omega (arith, h, add-mul j 1 limit)
 
--- every unit of the store lies inside its 128 × limit cells
-pub unit-inside : (limit : ℕ) {k : ℕ} → k < 128 → unitAt limit k + limit ≤ 128 * limit
+-- every unit of the store lies inside its workUnits × limit cells
+pub unit-inside : (limit : ℕ) {k : ℕ} → k < workUnits → unitAt limit k + limit ≤ workUnits * limit
 unfolding unitAt
 unit-inside limit l = unit-below limit l
 
 -- the last unit's end is the store's
-pub result-ends : (limit : ℕ) → unitAt limit resultUnit + limit ≡ 128 * limit
+pub result-ends : (limit : ℕ) → unitAt limit resultUnit + limit ≡ workUnits * limit
 unfolding unitAt
 result-ends limit = omega arith
 
--- no unit starts past 128 × 4,096
-pub unit-small : (limit k : ℕ) → limit ≤ 4096 → k < 128 → k * limit ≤ 524288
+-- no unit starts past the largest store
+pub unit-small : (limit k : ℕ) → limit ≤ largestLimit → k < workUnits → k * limit ≤ workUnits * largestLimit
 unit-small limit k h l =
-    let a : k * limit ≤ 128 * limit = mul-le-mul-right limit (omega arith) in
+    let a : k * limit ≤ workUnits * limit = mul-le-mul-right limit (omega arith) in
     omega (arith, a)

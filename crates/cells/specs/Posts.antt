@@ -4,6 +4,7 @@ use mathlib.Core.List.{List}
 use Prim.Native.Nat.{ℕ, _+_, _≤_, _<_}
 use mathlib.Core.Bool.{true, false}
 use lib.Dec.{leb}
+use Rattle.aut68.specs.Sizes.{nesting}
 use lib.ListN.{length, set, replicate}
 use Rattle.aut68.specs.Procedure.Run.{over}
 use Rattle.cells.specs.declared.scope.Scope.{Scope}
@@ -36,19 +37,19 @@ pub record Nested (scope r : Scope) : Type 0 where
   pub boundIs : r .bound ≡ scope .bound
   pub startsAre : r .starts ≡ scope .starts
   pub lensAre : r .lens ≡ scope .lens
-  pub deeper : scope .depth < 32 → r .depth ≡ scope .depth + 1
+  pub deeper : scope .depth < nesting → r .depth ≡ scope .depth + 1
 
 -- there is room for a binding of `len` from `start` on
 pub record Bindable (scope : Scope) (start len : ℕ) : Type 0 where
-  pub shallow : scope .depth < 32
-  pub few : scope .bound < 32
+  pub shallow : scope .depth < nesting
+  pub few : scope .bound < nesting
   pub startFits : start < 4294967296
   pub lenFits : len < 4294967296
 
 -- r is the scope one nesting level deeper, with one binding more if there is room
 pub record Bound (scope : Scope) (start len : ℕ) (r : Scope) : Type 0 where
-  pub deeper : scope .depth < 32 → r .depth ≡ scope .depth + 1
+  pub deeper : scope .depth < nesting → r .depth ≡ scope .depth + 1
   pub more : Bindable scope start len → r .bound ≡ scope .bound + 1
   pub startsAre : Bindable scope start len → r .starts ≡ set (scope .starts) (scope .bound) start
   pub lensAre : Bindable scope start len → r .lens ≡ set (scope .lens) (scope .bound) len
-  pub shallow : scope .depth ≤ 32 → r .depth ≤ 32
+  pub shallow : scope .depth ≤ nesting → r .depth ≤ nesting

@@ -84,10 +84,6 @@ module _ (s : List ℕ) (a : ℕ) (f : List ℕ) (b n : ℕ) where
           let k = leb-true (b + n) (length f) q in
           (h, k, run-is-slice a n s ∙ same-true _ _ (sym (same-whole h k) ∙ e) ∙ sym (run-is-slice b n f))
 
-  pub differ-means : sameRun s a f b n ≡ false → a + n ≤ length s → b + n ≤ length f → slice a (a + n) s ≡ slice b (b + n) f → ⊥
-  differ-means d h k e =
-      false≢true (sym d ∙ same-equal h k (sym (run-is-slice a n s) ∙ e ∙ run-is-slice b n f))
-
 -- two expressions of n cells in one store are the same expression exactly where their cells are
 module _ (tb : List ℕ) {w : List ℕ} {a b : ℕ} (e f : Expr) {n : ℕ} {ra rb : List ℕ} (wa : Wf tb e) (wb : Wf tb f) (sa : size e ≡ n) (sb : size f ≡ n)
     (pa : At w a (cells e) ra) (pb : At w b (cells f) rb) where

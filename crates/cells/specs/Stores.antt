@@ -2,7 +2,7 @@
 use mathlib.Core.Path.{_≡_, refl, sym, ap, _∙_}
 use mathlib.Core.Logic.{_⊎_, inl, inr, ⊎-elim}
 use mathlib.Core.List.{List, [], _∷_, _++_, append-assoc}
-use Prim.Native.Nat.{ℕ, zero, suc, _+_, _-_, _≤_, _<_, min}
+use Prim.Native.Nat.{ℕ, suc, _+_, _-_, _≤_, _<_, min}
 use native.Mathlib.Nat.{add-zero}
 use native.Mathlib.Omega.{arith}
 use lib.ListN.{length, getD, take, drop, set, length-take, length-drop, take-append-drop}
@@ -51,15 +51,6 @@ outside-more l h p = record { long = p .long; same = λ i k. p .same i (⊎-elim
 
 pub outside-sets : (w vs : List ℕ) (i : ℕ) → Outside i (i + length vs) w (sets w i vs)
 outside-sets w vs i = record { long = length-sets w i vs; same = λ j h. sets-elsewhere vs w i j h }
-
--- what is unchanged on both sides of a part of no cells is unchanged
-pub outside-none : {at : ℕ} {w w′ : List ℕ} → Outside at at w w′ → w′ ≡ w
-outside-none {at} {w} {w′} p = ext-getD 0 w′ w (p .long) λ i h. p .same i (below-or-not i at)
-  where
-    below-or-not : (i k : ℕ) → (i < k) ⊎ (k ≤ i)
-    below-or-not i zero = inr (omega arith)
-    below-or-not zero (suc k) = inl (omega arith)
-    below-or-not (suc i) (suc k) = ⊎-elim (λ h. inl (omega arith)) (λ h. inr (omega arith)) (below-or-not i k)
 
 -- below the part the store is the same list
 pub outside-below : {from end n : ℕ} {w w′ : List ℕ} → n ≤ from → Outside from end w w′ → take n w′ ≡ take n w

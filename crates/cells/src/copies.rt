@@ -1,11 +1,11 @@
 // Runs of cells, copied, exchanged, compared. Each function looks at its runs itself: where one is not whole in its store,
 // nothing is written.
 ghost use mathlib.Core.Path.{_≡_};
-ghost use Prim.Native.Nat.{ℕ, _+_};
+ghost use Prim.Native.Nat.{_+_};
 ghost use lib.Dec.{leb};
-ghost use lib.ListN.{set};
 ghost use Rattle.cells.specs.Cells.{copyCells, moveCells, sameRun, sameCells};
 ghost use Rattle.cells.specs.Posts.{cleared};
+use constants::Cell;
 
 // Does a store of `len` cells have n cells from index `from` on?
 fn whole(from: usize, n: usize, len: usize) -> bool
@@ -18,7 +18,7 @@ fn whole(from: usize, n: usize, len: usize) -> bool
 }
 
 // Copies n cells of s from index `from` on to index `to` of w.
-pub fn load(s: &[u16], from: usize, n: usize, w: &mut [u16], to: usize)
+pub fn load(s: &[Cell], from: usize, n: usize, w: &mut [Cell], to: usize)
     ensures { λ _. ⌜ now (w .exit) ≡ copyCells (now (s .entry)) from n (now (w .entry)) to ⌝ }
 {
     if whole(from, n, s.len()) {
@@ -33,7 +33,7 @@ pub fn load(s: &[u16], from: usize, n: usize, w: &mut [u16], to: usize)
 }
 
 // Copies n cells of w from index `from` on to index `to`, the lowest first; nothing where `to` lies inside them.
-pub fn move_cells(w: &mut [u16], from: usize, to: usize, n: usize)
+pub fn move_cells(w: &mut [Cell], from: usize, to: usize, n: usize)
     ensures { λ _. ⌜ now (w .exit) ≡ moveCells (now (w .entry)) from n to ⌝ }
 {
     if whole(from, n, w.len()) {
@@ -54,7 +54,7 @@ pub fn move_cells(w: &mut [u16], from: usize, to: usize, n: usize)
 }
 
 // Are the n cells of s from `from` on the n cells of f from `at` on?
-pub fn same_run(s: &[u16], from: usize, f: &[u16], at: usize, n: usize) -> bool
+pub fn same_run(s: &[Cell], from: usize, f: &[Cell], at: usize, n: usize) -> bool
     ensures { λ r. ⌜ r ≡ sameRun (now (s .entry)) from (now (f .entry)) at n ⌝ }
 {
     if whole(from, n, s.len()) {
@@ -73,15 +73,16 @@ pub fn same_run(s: &[u16], from: usize, f: &[u16], at: usize, n: usize) -> bool
 }
 
 // Are the n cells from a on the n cells from b on?
-pub fn same_cells(w: &[u16], a: usize, b: usize, n: usize) -> bool
+pub fn same_cells(w: &[Cell], a: usize, b: usize, n: usize) -> bool
     ensures { λ r. ⌜ r ≡ sameCells (now (w .entry)) a b n ⌝ }
 {
     same_run(w, a, w, b, n)
 }
 
 // Exchanges the n term cells from `from` on with the n working cells from `to` on.
-pub fn exchange(terms: &mut [u16], from: usize, w: &mut [u16], to: usize, n: usize)
-    ensures { λ _. ⌜ (now (terms .exit) ≡ copyCells (now (w .entry)) to n (now (terms .entry)) from) × (now (w .exit) ≡ copyCells (now (terms .entry)) from n (now (w .entry)) to) ⌝ }
+pub fn exchange(terms: &mut [Cell], from: usize, w: &mut [Cell], to: usize, n: usize)
+    ensures { λ _. ⌜ (now (terms .exit) ≡ copyCells (now (w .entry)) to n (now (terms .entry)) from)
+        × (now (w .exit) ≡ copyCells (now (terms .entry)) from n (now (w .entry)) to) ⌝ }
 {
     if whole(from, n, terms.len()) {
         if whole(to, n, w.len()) {
@@ -98,7 +99,7 @@ pub fn exchange(terms: &mut [u16], from: usize, w: &mut [u16], to: usize, n: usi
 }
 
 // Zeros in the first n cells of w.
-pub fn clear(w: &mut [u16], n: usize)
+pub fn clear(w: &mut [Cell], n: usize)
     ensures { λ _. ⌜ now (w .exit) ≡ cleared n (now (w .entry)) ⌝ }
 {
     if n <= w.len() {

@@ -1,26 +1,19 @@
 // Cells and rows: the layout of the working store, what a row says, runs of cells copied and compared, scopes.
-mod codes;
 mod copies;
 mod layout;
 mod rows;
 mod scope;
 
-pub use codes::DUPLICATE;
-pub use codes::MALFORMED;
-pub use codes::MISMATCH;
-pub use codes::NOT_FUNCTION;
-pub use codes::NOT_TYPE;
-pub use codes::OUT_OF_BUDGET;
-pub use codes::OUT_OF_SPACE;
-pub use codes::TOO_LARGE;
-pub use codes::UNKNOWN_NAME;
-pub use codes::WRONG_ARITY;
 pub use copies::clear;
 pub use copies::exchange;
 pub use copies::load;
 pub use copies::move_cells;
 pub use copies::same_cells;
 pub use copies::same_run;
+pub use layout::CONTEXT_UNIT;
+pub use layout::LEVELS;
+pub use layout::LINE_UNIT;
+pub use layout::READER_UNITS;
 pub use layout::level_at;
 pub use layout::line_at;
 pub use layout::result_at;

@@ -1,52 +1,41 @@
 // Rows of the table, and what they say of the cells.
 ghost use mathlib.Core.Path.{_≡_};
-ghost use Prim.Native.Nat.{ℕ, _+_, _/_, _%_, _<_, _^_};
-ghost use Rattle.cells.specs.Cells.{rowCell, partsAfter};
+ghost use Prim.Native.Nat.{_<_, _^_};
+ghost use Rattle.aut68.specs.Lines.{rowCell};
+ghost use Rattle.aut68.specs.Sizes.{rowWidth};
+ghost use Rattle.cells.specs.Cells.{partsAfter};
 ghost use Rattle.cells.specs.Posts.{Skipped, Extent};
+use constants::CELL_FACTOR;
+use constants::CONTEXT_LENGTH;
+use constants::Cell;
+use constants::ROW_WIDTH;
 
-// Cell k of the row of line v: 0 and 1 the identifier's first byte and its length, 2 the indicator's line, 3 the context length, 4 the kind, 5 and 6 the shelf starts of middle
-// and category, 7 the shelf end. 0 where v is 0 or the table has no such cell.
+// Cell k of the row of line v; `constants` names them. 0 where v is 0 or the table has no such cell.
 pub fn field(table: &[u32], v: usize, k: usize) -> usize
-    requires { ⌜ k < 8 ⌝ }
+    requires { ⌜ k < rowWidth ⌝ }
     ensures { λ r. ⌜ (r ≡ rowCell (now (table .entry)) v k) × (r < 2 ^ 32) ⌝ }
 {
     if v == 0 {
         return 0;
     }
     let before = v - 1;
-    if before > table.len() / 8 {
+    if before > table.len() / ROW_WIDTH {
         return 0;
     }
-    let row = 8 * before;
+    let row = ROW_WIDTH * before;
     if k >= table.len() - row {
         return 0;
     }
     table[row + k] as usize
 }
 
-// The context length of the constant with the cell x. The cell is 8 × line + 3, and that row's cell 3 stands 8 before it.
-fn arity(table: &[u32], x: u16) -> usize
-    requires { ⌜ x % 8 ≡ 3 ⌝ }
-    ensures { λ r. ⌜ (r ≡ rowCell (now (table .entry)) (x / 8) 3) × (r < 2 ^ 32) ⌝ }
-{
-    let i = x as usize;
-    if i < 8 {
-        return 0;
-    }
-    let at = i - 8;
-    if at < table.len() {
-        return table[at] as usize;
-    }
-    0
-}
-
 // How many expressions follow the cell x as its parts: a constant's context length, 2 for an application or an abstraction.
-pub fn kids(table: &[u32], x: u16) -> usize
+pub fn kids(table: &[u32], x: Cell) -> usize
     ensures { λ r. ⌜ (r ≡ partsAfter (now (table .entry)) x) × (r < 2 ^ 32) ⌝ }
 {
-    let k = x % 8;
+    let k = x % CELL_FACTOR;
     match k {
-        3 => arity(table, x),
+        3 => field(table, (x / CELL_FACTOR) as usize, CONTEXT_LENGTH),
         4 => 2,
         5 => 2,
         _ => 0,
@@ -55,7 +44,7 @@ pub fn kids(table: &[u32], x: u16) -> usize
 
 // The end of the n expressions that lie one after the other from index `from` of s. Where no n expressions lie there it is
 // some index of s or its end; `from` past the end is its own answer for n = 0, and the end of s for any other n.
-pub fn skip(table: &[u32], s: &[u16], from: usize, n: usize) -> usize
+pub fn skip(table: &[u32], s: &[Cell], from: usize, n: usize) -> usize
     ensures { λ r. ⌜ Skipped (now (table .entry)) (now (s .entry)) from n r ⌝ }
 {
     let mut i = from;
@@ -74,7 +63,7 @@ pub fn skip(table: &[u32], s: &[u16], from: usize, n: usize) -> usize
 }
 
 // The size of the expression at index `at` of s; 0 where `at` is past the end.
-pub fn extent(table: &[u32], s: &[u16], at: usize) -> usize
+pub fn extent(table: &[u32], s: &[Cell], at: usize) -> usize
     ensures { λ r. ⌜ Extent (now (table .entry)) (now (s .entry)) at r ⌝ }
 {
     if at >= s.len() {

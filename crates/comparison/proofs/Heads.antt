@@ -5,6 +5,7 @@ use mathlib.Core.List.{List}
 use Prim.Native.Nat.{ℕ, suc, _≤_, _<_}
 use native.Mathlib.Decide.{decLt}
 use native.Mathlib.Omega.{arith}
+use Rattle.aut68.specs.Sizes.{largestLimit}
 use Rattle.aut68.specs.Expr.{Expr, Exprs, type, prop, var, bound, const, app, abs, nil, cons, size, parts}
 use Rattle.aut68.specs.Lines.{Lines}
 use Rattle.aut68.specs.Procedure.HeadStep.{headStep, left}
@@ -66,7 +67,7 @@ pub data StepIs (limit start : ℕ) (g : Expr) (n : ℕ) (w : List ℕ) : Type 0
   made : size g ≤ limit → n ≡ size g → Lies w start g → StepIs limit start g n w
   large : limit < size g → limit < n → StepIs limit start g n w
 
-pub step-is : {ls : Lines} {limit start : ℕ} {e g : Expr} {n : ℕ} {w : List ℕ} → limit ≤ 4096 → left (headStep ls e) ≡ some g → Stepped ls limit start e n w
+pub step-is : {ls : Lines} {limit start : ℕ} {e g : Expr} {n : ℕ} {w : List ℕ} → limit ≤ largestLimit → left (headStep ls e) ≡ some g → Stepped ls limit start e n w
     → StepIs limit start g n w
 unfolding noRoom
 step-is {limit = limit} {start} {e} {g} {n} {w} h q S = subst (λ (x : Expr). StepIs limit start x n w) same (go (decLt limit (size (S .next))))

@@ -1,16 +1,14 @@
 -- Laws: where cells lie in a store that is changed elsewhere, or cut off.
 use mathlib.Core.Path.{_≡_, sym, ap, _∙_}
-use mathlib.Core.Logic.{inl, ⊎-elim}
 use mathlib.Core.List.{List}
 use Prim.Native.Nat.{ℕ, _+_, _≤_, _<_}
 use native.Mathlib.Omega.{arith}
-use lib.ListN.{length, getD, take, drop, length-take, length-drop, List·getD-eq-default}
+use lib.ListN.{length, getD, take, drop, length-take, length-drop}
 use lib.Seq.{getD-take, getD-drop, ext-getD, length-take-le}
 use Rattle.aut68.specs.Expr.{Expr, cells}
-use Rattle.cells.specs.Cells.{At, Outside}
+use Rattle.cells.specs.Cells.{At}
 use Rattle.cells.specs.Forests.{at-inside}
 use Rattle.cells.specs.Stores.{at-taken, at-of-taken}
-use Rattle.reduction.specs.Frames.{Framed}
 
 -- the cells themselves, one by one
 pub at-cell : {s : List ℕ} {i : ℕ} {xs rest : List ℕ} → At s i xs rest → (j : ℕ) → j < length xs → getD s (i + j) 0 ≡ getD xs j 0
@@ -36,17 +34,3 @@ at-whole s n e a =
 -- it ends before the cut
 pub at-under : (s : List ℕ) (n : ℕ) {i : ℕ} (e : Expr) {rest : List ℕ} → At (take n s) i (cells e) rest → i + length (cells e) ≤ n
 at-under s n e a = omega (arith, at-inside e a, length-take n s)
-
--- what is changed inside a part is changed inside all that lies from its start on
-pub outside-open : {from end : ℕ} {w w′ : List ℕ} → Outside from end w w′ → Outside from (length w) w w′
-outside-open {from} {end} {w} {w′} p = record {
-  long = p .long;
-  same = λ i h. ⊎-elim (λ b. p .same i (inl b)) (λ b. List·getD-eq-default w′ 0 (omega (arith, p .long)) ∙ sym (List·getD-eq-default w 0 b)) h;
-}
-
--- what is unchanged below the scratch unit before a part is unchanged before it
-pub framed-open : {top from end l : ℕ} {w w′ : List ℕ} → Framed top from end w w′ → l ≤ from → l ≤ top → Outside l (length w) w w′
-framed-open {w = w} {w′} p h t = record {
-  long = p .long;
-  same = λ i d. ⊎-elim (λ b. p .same i (omega arith) (inl (omega arith))) (λ b. List·getD-eq-default w′ 0 (omega (arith, p .long)) ∙ sym (List·getD-eq-default w 0 b)) d;
-}

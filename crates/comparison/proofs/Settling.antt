@@ -3,9 +3,10 @@ use mathlib.Core.Path.{_≡_, refl, sym, subst, _∙_}
 use mathlib.Core.Bool.{Bool, true}
 use mathlib.Core.Logic.{inl, inr}
 use mathlib.Core.List.{List}
-use Prim.Native.Nat.{ℕ, _+_, _≤_}
+use Prim.Native.Nat.{ℕ, _+_, _≤_, _*_}
 use native.Mathlib.Omega.{arith}
 use lib.ListN.{length, take, drop}
+use Rattle.aut68.specs.Sizes.{nesting}
 use Rattle.aut68.specs.Language.{aut68}
 use Rattle.aut68.specs.Expr.{Expr, size, cells, identical}
 use Rattle.aut68.specs.Lines.{Lines}
@@ -15,10 +16,11 @@ use Rattle.cells.specs.Forests.{size-is-length}
 use Rattle.cells.specs.Posts.{Extent}
 use Rattle.cells.specs.Stores.{outside-same, outside-then, outside-more, at-kept}
 use Rattle.cells.specs.CopyLaws.{move-outside, move-at}
-use Rattle.cells.specs.Layout.{unit-inside}
+use Rattle.cells.specs.Layout.{unit-inside, scratchUnit}
 use Rattle.reduction.specs.Book.{Book, category-wf}
+use Rattle.reduction.specs.Frames.{frame-of}
 use Rattle.comparison.specs.Posts.{Pair, Placed, Goes, identically, toParts, onward, tooFar, spent, Proceeds, Settles, SaysSame}
-use Rattle.comparison.proofs.Places.{at-whole, at-under, outside-open}
+use Rattle.comparison.proofs.Places.{at-whole, at-under}
 use Rattle.comparison.proofs.Turns.{sides-same, next-same}
 
 -- ---- one turn after another
@@ -29,7 +31,7 @@ proceed-none = record { frame = λ _ _. outside-same; means = λ ls k e f B h p 
 
 -- the same procedure from an earlier pair of sides
 goes-from : {ls : Lines} {limit k : ℕ} {w : List ℕ} {l r : ℕ} {e f g h : Expr} {b c state n m b′ : ℕ}
-    → ((deeper : Comparison) → sides aut68 ls limit deeper e f b ≡ sides aut68 ls limit deeper g h c)
+    → ((inner : Comparison) → sides aut68 ls limit inner e f b ≡ sides aut68 ls limit inner g h c)
     → Goes ls limit k w l r g h c state n m b′ → Goes ls limit k w l r e f b state n m b′
 goes-from q (identically z p) = identically z λ d. q d ∙ p d
 goes-from q (toParts e f z P p) = toParts e f z P λ d. q d ∙ p d
@@ -45,7 +47,7 @@ module _ {tb ts w w₁ w₂ : List ℕ} {limit budget l n r m n₁ m₁ budget�
     means = λ ls k e f B h pl P x y. go ls k e f B h pl (p .means ls k e f B h pl P x y);
   }
     where
-      go : (ls : Lines) (k : ℕ) (e f : Expr) → Book ls limit tb ts → k ≤ 64 → Placed limit (length w) l r
+      go : (ls : Lines) (k : ℕ) (e f : Expr) → Book ls limit tb ts → k ≤ 2 * nesting → Placed limit (length w) l r
           → Goes ls limit k w₁ l r e f budget 2 n₁ m₁ budget₁ → Goes ls limit k w₂ l r e f budget state n₂ m₂ budget₂
       go ls k e f B h pl (identically z s) = absurd (omega arith)
       go ls k e f B h pl (toParts g i z P s) = absurd (omega arith)
@@ -77,7 +79,8 @@ settled-same {w = w} {limit} {budget} {l = l} same q = record {
   ends = λ z. omega arith;
   means = λ ls k e f B h pl P.
       let x : identical e f ≡ true =
-      sym (same .means e f _ _ (category-wf (B .rows) k e (P .knownLeft)) (category-wf (B .rows) k f (P .knownRight)) (at-whole w l e (P .atLeft)) (at-whole w l f (P .atRight)))
+      sym (same .means e f _ _ (category-wf (B .rows) k e (P .left .known)) (category-wf (B .rows) k f (P .right .known))
+      (at-whole w l e (P .left .at)) (at-whole w l f (P .right .at)))
       ∙ q
       in
       identically refl λ d. sides-same ls limit e f budget d (next-same ls limit e f x);
@@ -101,51 +104,50 @@ module _ (tb w : List ℕ) (a b l r n m : ℕ) (first : Extent tb w a n) (second
   module _ {limit : ℕ} {ts : List ℕ} (ls : Lines) (k : ℕ) (e f : Expr) (B : Book ls limit tb ts) (p : Placed limit (length w) l r)
       (P : Pair ls limit k (take l w) a b e f) where
     size-left : n ≡ size e
-    size-left = first .is e _ (category-wf (B .rows) k e (P .knownLeft)) (at-whole w l e (P .atLeft))
+    size-left = first .is e _ (category-wf (B .rows) k e (P .left .known)) (at-whole w l e (P .left .at))
 
     size-right : m ≡ size f
-    size-right = second .is f _ (category-wf (B .rows) k f (P .knownRight)) (at-whole w l f (P .atRight))
+    size-right = second .is f _ (category-wf (B .rows) k f (P .right .known)) (at-whole w l f (P .right .at))
 
     placed : Placed limit (length w₂) l r
     placed = record { next = p .next; below = p .below; long = omega (arith, p .long, outside₁ .long, outside₂ .long) }
 
     room : r + limit ≤ length w
-    room = omega (arith, p .long, p .below, unit-inside limit {k = 126} (omega arith))
+    room = omega (arith, p .long, p .below, unit-inside limit {k = scratchUnit} (omega arith))
 
     left₁ : At w₁ l (cells e) (drop (l + n) w)
     left₁ =
         rw q₁
-        (moved w a n l e size-left (at-whole w l e (P .atLeft)) (omega (arith, at-under w l e (P .atLeft), size-is-length e, size-left))
-        (omega (arith, room, size-left, P .smallLeft, p .next)))
+        (moved w a n l e size-left (at-whole w l e (P .left .at)) (omega (arith, at-under w l e (P .left .at), size-is-length e, size-left))
+        (omega (arith, room, size-left, P .left .small, p .next)))
 
     right₁ : At w₁ b (cells f) (drop (b + length (cells f)) w₁)
-    right₁ = at-kept outside₁ (inl (at-under w l f (P .atRight))) (at-whole w l f (P .atRight))
+    right₁ = at-kept outside₁ (inl (at-under w l f (P .right .at))) (at-whole w l f (P .right .at))
 
     right₂ : At w₂ r (cells f) (drop (r + m) w₁)
     right₂ =
         rw q₂
-        (moved w₁ b m r f size-right right₁ (omega (arith, at-under w l f (P .atRight), size-is-length f, size-right, p .next))
-        (omega (arith, room, size-right, P .smallRight, outside₁ .long)))
+        (moved w₁ b m r f size-right right₁ (omega (arith, at-under w l f (P .right .at), size-is-length f, size-right, p .next))
+        (omega (arith, room, size-right, P .right .small, outside₁ .long)))
 
     -- the sides that are opened lie in their units
     opened : Pair ls limit k w₂ l r e f
     opened = record {
-      knownLeft = P .knownLeft;
-      knownRight = P .knownRight;
-      smallLeft = P .smallLeft;
-      smallRight = P .smallRight;
-      restLeft = _;
-      restRight = _;
-      atLeft = at-kept outside₂ (inl (omega (arith, p .next, P .smallLeft, size-is-length e))) left₁;
-      atRight = right₂;
+      left = record {
+        known = P .left .known;
+        small = P .left .small;
+        rest = _;
+        at = at-kept outside₂ (inl (omega (arith, p .next, P .left .small, size-is-length e))) left₁;
+      };
+      right = record { known = P .right .known; small = P .right .small; rest = _; at = right₂ };
     }
 
-  pub settled : {ts : List ℕ} {limit budget : ℕ} {w₃ : List ℕ} {state n′ m′ left : ℕ} → Proceeds tb ts w₂ limit budget l n r m w₃ state n′ m′ left
-      → (state ≡ 2 → ⊥) → Settles tb ts w limit budget a b l r w₃ state left
+  pub settled : {ts : List ℕ} {limit budget : ℕ} {w₃ : List ℕ} {state n′ m′ rest : ℕ} → Proceeds tb ts w₂ limit budget l n r m w₃ state n′ m′ rest
+      → (state ≡ 2 → ⊥) → Settles tb ts w limit budget a b l r w₃ state rest
   settled p z = record {
     frame = λ h t.
-        outside-then (outside-open outside₁)
-        (outside-then (outside-more h (omega (arith, outside₁ .long)) (outside-open outside₂))
+        outside-then (frame-of outside₁ (omega arith))
+        (outside-then (outside-more h (omega (arith, outside₁ .long)) (frame-of outside₂ (omega arith)))
         (outside-more (omega arith) (omega (arith, outside₁ .long, outside₂ .long)) (p .frame h t)));
     ends = z;
     means = λ ls k e f B h pl P.

@@ -1,36 +1,36 @@
 -- Laws: one turn of the sides, from what its callees ensure to what it ensures.
-use mathlib.Core.Path.{_≡_, refl, sym, _∙_}
+use mathlib.Core.Path.{_≡_, refl, sym, subst, _∙_}
 use mathlib.Core.Bool.{Bool, true, false}
 use mathlib.Core.Logic.{inl, inr}
 use mathlib.Core.Option.{some}
 use mathlib.Core.List.{List}
-use Prim.Native.Nat.{ℕ, _+_, _≤_, _<_}
+use Prim.Native.Nat.{ℕ, _+_, _*_, _-_, _≤_, _<_}
 use native.Mathlib.Omega.{arith}
-use lib.ListN.{length, drop}
-use Rattle.aut68.specs.Expr.{Expr, size, cells, identical}
+use lib.ListN.{length}
+use Rattle.aut68.specs.Sizes.{nesting}
+use Rattle.aut68.specs.Expr.{Expr, size, identical}
 use Rattle.aut68.specs.Lines.{Lines}
 use Rattle.aut68.specs.Procedure.HeadStep.{headStep, left}
-use Rattle.aut68.specs.Procedure.Compare.{choose, next, stepLeft, stepRight}
-use Rattle.cells.specs.Cells.{At, Outside}
+use Rattle.aut68.specs.Procedure.Compare.{choose, next}
+use Rattle.calculus.specs.Known.{known-category-head}
+use Rattle.cells.specs.Cells.{Outside}
 use Rattle.cells.specs.Forests.{size-is-length}
 use Rattle.cells.specs.Layout.{unitAt, scratchUnit}
 use Rattle.cells.specs.Stores.{outside-same}
-use Rattle.calculus.specs.Known.{known-category-head}
 use Rattle.reduction.specs.Book.{Book, category-wf}
-use Rattle.reduction.specs.Frames.{at-framed}
+use Rattle.reduction.specs.Frames.{Framed, at-framed, framed-frame}
 use Rattle.reduction.specs.Heads.{HeadIs}
 use Rattle.reduction.specs.Posts.{HeadPost, StepPost}
 use Rattle.reduction.specs.declared.heads.Head.{Head}
-use Rattle.comparison.specs.Posts.{Pair, Placed, SaysIdentical, Chooses, Goes, identically, toParts, onward, tooFar, spent, Proceeds}
-use Rattle.comparison.proofs.Places.{framed-open}
-use Rattle.comparison.proofs.Turns.{sides-same, sides-parts, sides-spent, sides-spent-right, sides-left, sides-left-large, sides-right, sides-right-large, next-same, next-choice, Choice, neither, theLeft, theRight, choice}
+use Rattle.comparison.specs.Posts.{Side, Pair, Placed, SaysIdentical, Chooses, Goes, identically, toParts, onward, tooFar, spent, Proceeds}
+use Rattle.comparison.proofs.Turns.{Which, theLeft, theRight, number, pick, stepIn}
+use Rattle.comparison.proofs.Turns.{sides-same, sides-parts, sides-spent, sides-step, sides-large, next-same, next-choice, Choice, neither, chosen, choice}
 use Rattle.comparison.proofs.Heads.{head-numbered, head-some, StepIs, made, large, step-is}
 
 answered : {tb ts w : List ℕ} {limit l n r m : ℕ} {answer : Bool} → SaysIdentical w l n r m answer → (ls : Lines) (k : ℕ) (e f : Expr)
     → Book ls limit tb ts → Pair ls limit k w l r e f → n ≡ size e → m ≡ size f → answer ≡ identical e f
 answered {tb} same ls k e f B P x y =
-    same .means tb e f (P .restLeft) (P .restRight) (category-wf (B .rows) k e (P .knownLeft)) (category-wf (B .rows) k f (P .knownRight)) x y
-    (P .atLeft) (P .atRight)
+    same .means tb e f _ _ (category-wf (B .rows) k e (P .left .known)) (category-wf (B .rows) k f (P .right .known)) x y (P .left .at) (P .right .at)
 
 -- identical sides
 pub turn-same : {tb ts w : List ℕ} {limit budget l n r m : ℕ} {answer : Bool} → SaysIdentical w l n r m answer → answer ≡ true
@@ -56,11 +56,49 @@ record Chosen (ls : Lines) (l r : ℕ) (hl hr : Head) (side : ℕ) (e f : Expr) 
   nextIs : next ls e f ≡ choose (headStep ls e) (headStep ls f)
   choiceIs : Choice (headStep ls e) (headStep ls f) side
 
+-- ---- by the side
+
+side-of : {ls : Lines} {limit k : ℕ} {w : List ℕ} {l r : ℕ} {e f : Expr} (s : Which) → Pair ls limit k w l r e f
+    → Side ls limit k w (pick s l r) (pick s e f)
+side-of theLeft P = P .left
+side-of theRight P = P .right
+
+-- one side is another expression now
+pair-of : {ls : Lines} {limit k : ℕ} {w : List ℕ} {l r : ℕ} (s : Which) (e f g : Expr) → Side ls limit k w (pick s l r) g
+    → Side ls limit k w (pick s r l) (pick s f e) → Pair ls limit k w l r (pick s g e) (pick s f g)
+pair-of theLeft e f g x y = record { left = x; right = y }
+pair-of theRight e f g x y = record { left = y; right = x }
+
+sizes-of : (s : Which) (e f g : Expr) {n m n′ : ℕ} → n′ ≡ size g → n ≡ size e → m ≡ size f
+    → (pick s n′ n ≡ size (pick s g e)) × (pick s m n′ ≡ size (pick s f g))
+sizes-of theLeft e f g v x y = (v, y)
+sizes-of theRight e f g v x y = (x, v)
+
+side-below : {limit n l r : ℕ} (s : Which) → Placed limit n l r → pick s l r + limit ≤ unitAt limit scratchUnit
+side-below theLeft p = omega (arith, p .next, p .below)
+side-below theRight p = p .below
+
+head-of-side : {ls : Lines} {l r : ℕ} {hl hr : Head} {side : ℕ} {e f : Expr} (s : Which) → Chosen ls l r hl hr side e f
+    → HeadIs ls (pick s l r) (pick s hl hr .kind) (pick s hl hr .at) (pick s hl hr .kept) (pick s hl hr .line) (pick s e f)
+head-of-side theLeft c = c .headLeft
+head-of-side theRight c = c .headRight
+
+step-of-side : (ls : Lines) (s : Which) (e f : Expr) → pick s (headStep ls e) (headStep ls f) ≡ headStep ls (pick s e f)
+step-of-side ls theLeft e f = refl
+step-of-side ls theRight e f = refl
+
+-- the side that the number is, of two that it may be
+the-side : {side : ℕ} (s t : Which) → (side ≡ number (pick s theRight theLeft) → ⊥) → side ≡ number t → t ≡ s
+the-side theLeft theLeft n q = refl
+the-side theLeft theRight n q = absurd (n q)
+the-side theRight theLeft n q = absurd (n q)
+the-side theRight theRight n q = refl
+
 module _ (ts : List ℕ) (limit budget : ℕ) {tb w : List ℕ} {l n r m : ℕ} {hl hr : Head} {side : ℕ} (D : Decided tb w l n r m hl hr side) where
   choices : (ls : Lines) (k : ℕ) (e f : Expr) → Book ls limit tb ts → Pair ls limit k w l r e f → n ≡ size e → m ≡ size f → Chosen ls l r hl hr side e f
   choices ls k e f B P x y =
-      let a = D .first .is B k e (P .knownLeft) (P .atLeft) x in
-      let b = D .second .is B k f (P .knownRight) (P .atRight) y in
+      let a = D .first .is B k e (P .left .known) (P .left .at) x in
+      let b = D .second .is B k f (P .right .known) (P .right .at) y in
       record {
         headLeft = a;
         headRight = b;
@@ -72,13 +110,16 @@ module _ (ts : List ℕ) (limit budget : ℕ) {tb w : List ℕ} {l n r m : ℕ} 
   pub turn-parts : side ≡ 0 → Proceeds tb ts w limit budget l n r m w 1 n m budget
   turn-parts z = record { frame = λ _ _. outside-same; means = λ ls k e f B h p P x y. go ls k e f P (choices ls k e f B P x y) }
     where
+      zero-none : (s : Which) → side ≡ number s → ⊥
+      zero-none theLeft q = omega arith
+      zero-none theRight q = omega arith
+
       go : (ls : Lines) (k : ℕ) (e f : Expr) → Pair ls limit k w l r e f → Chosen ls l r hl hr side e f → Goes ls limit k w l r e f budget 1 n m budget
       go ls k e f P c = by (c .choiceIs)
         where
           by : Choice (headStep ls e) (headStep ls f) side → Goes ls limit k w l r e f budget 1 n m budget
           by (neither s q) = toParts e f refl P λ d. sides-parts ls limit e f budget d (c .nextIs ∙ q)
-          by (theLeft g s h q) = absurd (omega arith)
-          by (theRight g s h q) = absurd (omega arith)
+          by (chosen s g x h q) = absurd (zero-none s x)
 
   -- a step is past the budget
   pub turn-spent : (side ≡ 0 → ⊥) → budget ≡ 0 → Proceeds tb ts w limit budget l n r m w 11 n m budget
@@ -89,159 +130,110 @@ module _ (ts : List ℕ) (limit budget : ℕ) {tb w : List ℕ} {l n r m : ℕ} 
         where
           by : Choice (headStep ls e) (headStep ls f) side → Goes ls limit k w l r e f budget 11 n m budget
           by (neither s q) = absurd (z s)
-          by (theLeft g s h q) = spent refl λ d. sides-spent ls limit e f budget d g o (c .nextIs ∙ q)
-          by (theRight g s h q) = spent refl λ d. sides-spent-right ls limit e f budget d g o (c .nextIs ∙ q)
+          by (chosen s g x h q) = spent refl λ d. sides-spent ls limit e f budget s d g o (c .nextIs ∙ q)
 
-  -- ---- a step in the left side
+  -- ---- a step in a side
 
-  module _ {w′ : List ℕ} {n′ : ℕ} (S : StepPost tb ts w w′ limit hl n′) (z : side ≡ 1) (o : 0 < budget) where
-    frame-left : l ≤ r → l ≤ unitAt limit scratchUnit → Outside l (length w) w w′
-    frame-left _ t = framed-open (S .framed) (omega (arith, D .first .placed)) t
+  -- it starts no earlier than the left side
+  behind : (s : Which) → l ≤ r → l ≤ pick s hl hr .at
+  behind theLeft h = omega (arith, D .first .placed)
+  behind theRight h = omega (arith, D .second .placed)
 
-    module _ (ls : Lines) (k : ℕ) (e f : Expr) (B : Book ls limit tb ts) (h : k ≤ 64) (p : Placed limit (length w) l r) (P : Pair ls limit k w l r e f)
-        (c : Chosen ls l r hl hr side e f) where
+  -- the other side lies where it did
+  stays : {ls : Lines} {k : ℕ} {w′ : List ℕ} (s : Which) (e f : Expr)
+      → Framed (unitAt limit scratchUnit) (pick s hl hr .at) (pick s hl hr .at - pick s hl hr .kept + limit) w w′ → Placed limit (length w) l r
+      → Pair ls limit k w l r e f → Side ls limit k w′ (pick s r l) (pick s f e)
+  stays theLeft e f F p P = record {
+    known = P .right .known;
+    small = P .right .small;
+    rest = _;
+    at =
+        at-framed F (omega (arith, p .below, P .right .small, size-is-length f)) (inr (omega (arith, p .next, D .first .placed)))
+        (P .right .at);
+  }
+  stays theRight e f F p P = record {
+    known = P .left .known;
+    small = P .left .small;
+    rest = _;
+    at =
+        at-framed F (omega (arith, p .below, p .next, P .left .small, size-is-length e))
+        (inl (omega (arith, p .next, P .left .small, size-is-length e, D .second .placed))) (P .left .at);
+  }
+
+  module _ (s : Which) {w′ : List ℕ} {n′ : ℕ} (S : StepPost tb ts w w′ limit (pick s hl hr) n′) (z : side ≡ 0 → ⊥)
+      (z′ : side ≡ number (pick s theRight theLeft) → ⊥) (o : 0 < budget) where
+    frame-step : l ≤ r → l ≤ unitAt limit scratchUnit → Outside l (length w) w w′
+    frame-step h t = framed-frame (S .framed) (behind s h) t
+
+    module _ (ls : Lines) (k : ℕ) (e f : Expr) (B : Book ls limit tb ts) (h : k ≤ 2 * nesting) (p : Placed limit (length w) l r)
+        (P : Pair ls limit k w l r e f) (c : Chosen ls l r hl hr side e f) where
       -- what the step leaves
-      record Left : Type 0 where
+      record Taken : Type 0 where
         g : Expr
-        leaves : left (headStep ls e) ≡ some g
-        nextIs : next ls e f ≡ stepLeft g
-        stepIs : StepIs limit l g n′ w′
+        leaves : left (headStep ls (pick s e f)) ≡ some g
+        nextIs : next ls e f ≡ stepIn s g
+        stepIs : StepIs limit (pick s l r) g n′ w′
 
-      left-side : Left
-      left-side = by (c .choiceIs)
+      taken : Taken
+      taken = by (c .choiceIs)
         where
-          by : Choice (headStep ls e) (headStep ls f) side → Left
-          by (neither s q) = absurd (omega arith)
-          by (theLeft g s q x) = record {
-            g = g;
-            leaves = q;
-            nextIs = c .nextIs ∙ x;
-            stepIs =
-                step-is (B .limit) q
-                (S .made (p .long) B k e (P .knownLeft) (omega arith) (P .smallLeft) (P .atLeft) (omega (arith, p .next, p .below)) (c .headLeft)
-                (head-some ls e g q (c .headLeft)));
-          }
-          by (theRight g s q x) = absurd (omega arith)
+          of : (g : Expr) → left (pick s (headStep ls e) (headStep ls f)) ≡ some g → choose (headStep ls e) (headStep ls f) ≡ stepIn s g → Taken
+          of g q y =
+              let x : left (headStep ls (pick s e f)) ≡ some g = rw (step-of-side ls s e f) at q in
+              let X = side-of s P in
+              record {
+                g = g;
+                leaves = x;
+                nextIs = c .nextIs ∙ y;
+                stepIs =
+                    step-is (B .limit) x
+                    (S .made (p .long) B k (pick s e f) (X .known) (omega arith) (X .small) (X .at) (side-below s p)
+                    (head-of-side s c) (head-some ls (pick s e f) g x (head-of-side s c)));
+              }
 
-      -- the right side lies where it did
-      right-stays : At w′ r (cells f) (drop (r + length (cells f)) w′)
-      right-stays =
-          at-framed (S .framed) (omega (arith, p .below, P .smallRight, size-is-length f)) (inr (omega (arith, p .next, D .first .placed))) (P .atRight)
+          by : Choice (headStep ls e) (headStep ls f) side → Taken
+          by (neither x q) = absurd (z x)
+          by (chosen t g x q y) =
+              let i : t ≡ s = the-side s t z′ x in
+              of g (subst (λ (v : Which). left (pick v (headStep ls e) (headStep ls f)) ≡ some g) i q)
+              (subst (λ (v : Which). choose (headStep ls e) (headStep ls f) ≡ stepIn v g) i y)
 
-      goes-left : {budget′ : ℕ} → m ≡ size f → n′ ≤ limit → budget′ + 1 ≡ budget → Goes ls limit k w′ l r e f budget 2 n′ m budget′
-      goes-left {budget′} y t u = by left-side
+      goes-on : {budget′ : ℕ} → n ≡ size e → m ≡ size f → n′ ≤ limit → budget′ + 1 ≡ budget
+          → Goes ls limit k w′ l r e f budget 2 (pick s n′ n) (pick s m n′) budget′
+      goes-on {budget′} x y t u = by taken
         where
-          by : Left → Goes ls limit k w′ l r e f budget 2 n′ m budget′
-          by L = of (L .stepIs)
+          by : Taken → Goes ls limit k w′ l r e f budget 2 (pick s n′ n) (pick s m n′) budget′
+          by T = of (T .stepIs)
             where
-              of : StepIs limit l (L .g) n′ w′ → Goes ls limit k w′ l r e f budget 2 n′ m budget′
-              of (made s v at′) =
-                  onward (L .g) f refl
-                  (record {
-                    knownLeft = known-category-head ls (B .resolved) k e (L .g) (L .leaves) (P .knownLeft);
-                    knownRight = P .knownRight;
-                    smallLeft = s;
-                    smallRight = P .smallRight;
-                    restLeft = at′ .rest;
-                    restRight = _;
-                    atLeft = at′ .at;
-                    atRight = right-stays;
-                  })
-                  v y λ d. sides-left ls limit e f budget budget′ d (L .g) u (L .nextIs) s
-              of (large s v) = absurd (omega arith)
+              of : StepIs limit (pick s l r) (T .g) n′ w′ → Goes ls limit k w′ l r e f budget 2 (pick s n′ n) (pick s m n′) budget′
+              of (made a v at′) =
+                  let new : Side ls limit k w′ (pick s l r) (T .g) = record {
+                    known = known-category-head ls (B .resolved) k (pick s e f) (T .g) (T .leaves) (side-of s P .known);
+                    small = a;
+                    rest = at′ .rest;
+                    at = at′ .at;
+                  }
+                  in
+                  let q = sizes-of s e f (T .g) v x y in
+                  onward (pick s (T .g) e) (pick s f (T .g)) refl (pair-of s e f (T .g) new (stays s e f (S .framed) p P)) (q .0) (q .1) λ d.
+                  sides-step ls limit e f budget budget′ s d (T .g) u (T .nextIs) a
+              of (large a v) = absurd (omega arith)
 
-      large-left : limit < n′ → Goes ls limit k w′ l r e f budget 10 n m budget
-      large-left t = by left-side
+      goes-large : limit < n′ → Goes ls limit k w′ l r e f budget 10 n m budget
+      goes-large t = by taken
         where
-          by : Left → Goes ls limit k w′ l r e f budget 10 n m budget
-          by L = of (L .stepIs)
+          by : Taken → Goes ls limit k w′ l r e f budget 10 n m budget
+          by T = of (T .stepIs)
             where
-              of : StepIs limit l (L .g) n′ w′ → Goes ls limit k w′ l r e f budget 10 n m budget
-              of (made s v at′) = absurd (omega arith)
-              of (large s v) = tooFar refl λ d. sides-left-large ls limit e f budget d (L .g) o (L .nextIs) s
+              of : StepIs limit (pick s l r) (T .g) n′ w′ → Goes ls limit k w′ l r e f budget 10 n m budget
+              of (made a v at′) = absurd (omega arith)
+              of (large a v) = tooFar refl λ d. sides-large ls limit e f budget s d (T .g) o (T .nextIs) a
 
-    pub turn-left : {budget′ : ℕ} → n′ ≤ limit → budget′ + 1 ≡ budget → Proceeds tb ts w limit budget l n r m w′ 2 n′ m budget′
-    turn-left t u = record {
-      frame = frame-left;
-      means = λ ls k e f B h p P x y. goes-left ls k e f B h p P (choices ls k e f B P x y) y t u;
+    pub turn-step : {budget′ : ℕ} → n′ ≤ limit → budget′ + 1 ≡ budget → Proceeds tb ts w limit budget l n r m w′ 2 (pick s n′ n) (pick s m n′) budget′
+    turn-step t u = record {
+      frame = frame-step;
+      means = λ ls k e f B h p P x y. goes-on ls k e f B h p P (choices ls k e f B P x y) x y t u;
     }
 
-    pub turn-left-large : limit < n′ → Proceeds tb ts w limit budget l n r m w′ 10 n m budget
-    turn-left-large t = record { frame = frame-left; means = λ ls k e f B h p P x y. large-left ls k e f B h p P (choices ls k e f B P x y) t }
-
-  -- ---- a step in the right side
-
-  module _ {w′ : List ℕ} {m′ : ℕ} (S : StepPost tb ts w w′ limit hr m′) (z : side ≡ 0 → ⊥) (z′ : side ≡ 1 → ⊥) (o : 0 < budget) where
-    frame-right : l ≤ r → l ≤ unitAt limit scratchUnit → Outside l (length w) w w′
-    frame-right q t = framed-open (S .framed) (omega (arith, D .second .placed)) t
-
-    module _ (ls : Lines) (k : ℕ) (e f : Expr) (B : Book ls limit tb ts) (h : k ≤ 64) (p : Placed limit (length w) l r) (P : Pair ls limit k w l r e f)
-        (c : Chosen ls l r hl hr side e f) where
-      -- what the step leaves
-      record Right : Type 0 where
-        g : Expr
-        leaves : left (headStep ls f) ≡ some g
-        nextIs : next ls e f ≡ stepRight g
-        stepIs : StepIs limit r g m′ w′
-
-      right-side : Right
-      right-side = by (c .choiceIs)
-        where
-          by : Choice (headStep ls e) (headStep ls f) side → Right
-          by (neither s q) = absurd (z s)
-          by (theLeft g s q x) = absurd (z′ s)
-          by (theRight g s q x) = record {
-            g = g;
-            leaves = q;
-            nextIs = c .nextIs ∙ x;
-            stepIs =
-                step-is (B .limit) q
-                (S .made (p .long) B k f (P .knownRight) (omega arith) (P .smallRight) (P .atRight) (p .below) (c .headRight) (head-some ls f g q (c .headRight)));
-          }
-
-      -- the left side lies where it did
-      left-stays : At w′ l (cells e) (drop (l + length (cells e)) w′)
-      left-stays =
-          at-framed (S .framed) (omega (arith, p .below, p .next, P .smallLeft, size-is-length e))
-          (inl (omega (arith, p .next, P .smallLeft, size-is-length e, D .second .placed))) (P .atLeft)
-
-      goes-right : {budget′ : ℕ} → n ≡ size e → m′ ≤ limit → budget′ + 1 ≡ budget → Goes ls limit k w′ l r e f budget 2 n m′ budget′
-      goes-right {budget′} y t u = by right-side
-        where
-          by : Right → Goes ls limit k w′ l r e f budget 2 n m′ budget′
-          by R = of (R .stepIs)
-            where
-              of : StepIs limit r (R .g) m′ w′ → Goes ls limit k w′ l r e f budget 2 n m′ budget′
-              of (made s v at′) =
-                  onward e (R .g) refl
-                  (record {
-                    knownLeft = P .knownLeft;
-                    knownRight = known-category-head ls (B .resolved) k f (R .g) (R .leaves) (P .knownRight);
-                    smallLeft = P .smallLeft;
-                    smallRight = s;
-                    restLeft = _;
-                    restRight = at′ .rest;
-                    atLeft = left-stays;
-                    atRight = at′ .at;
-                  })
-                  y v λ d. sides-right ls limit e f budget budget′ d (R .g) u (R .nextIs) s
-              of (large s v) = absurd (omega arith)
-
-      large-right : limit < m′ → Goes ls limit k w′ l r e f budget 10 n m budget
-      large-right t = by right-side
-        where
-          by : Right → Goes ls limit k w′ l r e f budget 10 n m budget
-          by R = of (R .stepIs)
-            where
-              of : StepIs limit r (R .g) m′ w′ → Goes ls limit k w′ l r e f budget 10 n m budget
-              of (made s v at′) = absurd (omega arith)
-              of (large s v) = tooFar refl λ d. sides-right-large ls limit e f budget d (R .g) o (R .nextIs) s
-
-    pub turn-right : {budget′ : ℕ} → m′ ≤ limit → budget′ + 1 ≡ budget → Proceeds tb ts w limit budget l n r m w′ 2 n m′ budget′
-    turn-right t u = record {
-      frame = frame-right;
-      means = λ ls k e f B h p P x y. goes-right ls k e f B h p P (choices ls k e f B P x y) x t u;
-    }
-
-    pub turn-right-large : limit < m′ → Proceeds tb ts w limit budget l n r m w′ 10 n m budget
-    turn-right-large t = record { frame = frame-right; means = λ ls k e f B h p P x y. large-right ls k e f B h p P (choices ls k e f B P x y) t }
+    pub turn-large : limit < n′ → Proceeds tb ts w limit budget l n r m w′ 10 n m budget
+    turn-large t = record { frame = frame-step; means = λ ls k e f B h p P x y. goes-large ls k e f B h p P (choices ls k e f B P x y) t }

@@ -4,6 +4,7 @@ use mathlib.Core.Bool.{Bool}
 use mathlib.Core.List.{List}
 use Prim.Native.Nat.{ℕ, _+_, _*_, _≤_, _<_}
 use lib.ListN.{length, take}
+use Rattle.aut68.specs.Sizes.{largestLimit, workUnits, nesting}
 use Rattle.aut68.specs.Language.{aut68}
 use Rattle.aut68.specs.Expr.{Expr, size, cells, identical}
 use Rattle.aut68.specs.Lines.{Lines}
@@ -15,44 +16,46 @@ use Rattle.cells.specs.Layout.{unitAt, sideUnit, scratchUnit}
 use Rattle.cells.specs.Results.{Result}
 use Rattle.reduction.specs.Book.{Book}
 
--- ---- the comparison
-
--- With `levels` levels left, for w as it was and w′ as it is left.
-pub record Compares (tb ts w : List ℕ) (limit budget a b levels : ℕ) (w′ : List ℕ) (code left : ℕ) : Type 0 where
-  -- every cell below its own frame is as it was: the frame is the unit of this depth's left side, and all above it. What the
-  -- frame holds afterwards is left to the program
-  pub frame : limit ≤ 4096 → levels ≤ 32 → Outside (unitAt limit (sideUnit levels)) (length w) w w′
-  -- the procedure's answer for any two known expressions of at most `limit` cells that lie at a and b, below the frame
-  pub means : (ls : Lines) (k : ℕ) (l r : Expr) (rl rr : List ℕ) → Book ls limit tb ts → KnownCategory ls k l → KnownCategory ls k r
-      → k + levels ≤ 64 → levels ≤ 32 → size l ≤ limit → size r ≤ limit → 128 * limit ≤ length w
-      → At (take (unitAt limit (sideUnit levels)) w) a (cells l) rl → At (take (unitAt limit (sideUnit levels)) w) b (cells r) rr
-      → Result (λ _. Unit {0}) code left (compareAt aut68 ls limit levels l r budget)
-
 -- ---- two expressions in one store
 
--- known under k bindings and of at most `limit` cells, e at index a and f at index b of s
+-- e, known under k bindings and of at most `limit` cells, at index a of s
+pub record Side (ls : Lines) (limit k : ℕ) (s : List ℕ) (a : ℕ) (e : Expr) : Type 0 where
+  pub known : KnownCategory ls k e
+  pub small : size e ≤ limit
+  pub rest : List ℕ
+  pub at : At s a (cells e) rest
+
+-- e at index a and f at index b
 pub record Pair (ls : Lines) (limit k : ℕ) (s : List ℕ) (a b : ℕ) (e f : Expr) : Type 0 where
-  pub knownLeft : KnownCategory ls k e
-  pub knownRight : KnownCategory ls k f
-  pub smallLeft : size e ≤ limit
-  pub smallRight : size f ≤ limit
-  pub restLeft : List ℕ
-  pub restRight : List ℕ
-  pub atLeft : At s a (cells e) restLeft
-  pub atRight : At s b (cells f) restRight
+  pub left : Side ls limit k s a e
+  pub right : Side ls limit k s b f
 
 -- the sides at l and r: two units, one behind the other, below the scratch unit of a store of n cells
 pub record Placed (limit n l r : ℕ) : Type 0 where
   pub next : r ≡ l + limit
   pub below : r + limit ≤ unitAt limit scratchUnit
-  pub long : 128 * limit ≤ n
+  pub long : workUnits * limit ≤ n
 
--- the parts of the sides at l and r are compared: as Compares, with `levels` levels left for the parts
-pub record ComparesParts (tb ts w : List ℕ) (limit budget l r levels : ℕ) (w′ : List ℕ) (code left : ℕ) : Type 0 where
-  pub frame : limit ≤ 4096 → levels ≤ 32 → Outside (unitAt limit (sideUnit levels)) (length w) w w′
-  pub means : (ls : Lines) (k : ℕ) (e f : Expr) → Book ls limit tb ts → k + levels < 64 → levels ≤ 32 → 128 * limit ≤ length w
-      → Pair ls limit k (take (unitAt limit (sideUnit levels)) w) l r e f
-      → Result (λ _. Unit {0}) code left (compareParts aut68 (compareAt aut68 ls limit levels) e f budget)
+-- ---- the comparison
+
+-- Of a pair that may go `deeper` levels deeper, for w as it was and w′ as it is left: every cell below its own frame is as it was.
+-- The frame is the unit of this depth's left side, and all above it; what it holds afterwards is left to the program.
+abbrev pub Frame : ℕ → ℕ → List ℕ → List ℕ → Type 0
+Frame limit deeper w w′ = limit ≤ largestLimit → deeper ≤ nesting → Outside (unitAt limit (sideUnit deeper)) (length w) w w′
+
+-- the procedure's answer for any pair that lies at a and b, below the frame
+pub record Compares (tb ts w : List ℕ) (limit budget a b deeper : ℕ) (w′ : List ℕ) (code rest : ℕ) : Type 0 where
+  pub frame : Frame limit deeper w w′
+  pub means : (ls : Lines) (k : ℕ) (e f : Expr) → Book ls limit tb ts → k + deeper ≤ 2 * nesting → deeper ≤ nesting → workUnits * limit ≤ length w
+      → Pair ls limit k (take (unitAt limit (sideUnit deeper)) w) a b e f
+      → Result (λ _. Unit {0}) code rest (compareAt aut68 ls limit deeper e f budget)
+
+-- the parts of the sides at l and r are compared, which may go `deeper` levels deeper
+pub record ComparesParts (tb ts w : List ℕ) (limit budget l r deeper : ℕ) (w′ : List ℕ) (code rest : ℕ) : Type 0 where
+  pub frame : Frame limit deeper w w′
+  pub means : (ls : Lines) (k : ℕ) (e f : Expr) → Book ls limit tb ts → k + deeper < 2 * nesting → deeper ≤ nesting → workUnits * limit ≤ length w
+      → Pair ls limit k (take (unitAt limit (sideUnit deeper)) w) l r e f
+      → Result (λ _. Unit {0}) code rest (compareParts aut68 (compareAt aut68 ls limit deeper) e f budget)
 
 -- ---- identical sides, and the choice of a side
 
@@ -83,24 +86,24 @@ pub record Chooses (kind line kind′ line′ side : ℕ) : Type 0 where
 -- sides are identical. 1: no side has a head step. 2: steps were taken, and there may be more; n and m are the sizes now. Else
 -- a refusal.
 pub data Goes (ls : Lines) (limit k : ℕ) (w′ : List ℕ) (l r : ℕ) (e f : Expr) (b state n m b′ : ℕ) : Type 0 where
-  identically : state ≡ 0 → ((deeper : Comparison) → sides aut68 ls limit deeper e f b ≡ done tt b′) → Goes ls limit k w′ l r e f b state n m b′
+  identically : state ≡ 0 → ((inner : Comparison) → sides aut68 ls limit inner e f b ≡ done tt b′) → Goes ls limit k w′ l r e f b state n m b′
   toParts : (e′ f′ : Expr) → state ≡ 1 → Pair ls limit k w′ l r e′ f′
-      → ((deeper : Comparison) → sides aut68 ls limit deeper e f b ≡ compareParts aut68 deeper e′ f′ b′) → Goes ls limit k w′ l r e f b state n m b′
+      → ((inner : Comparison) → sides aut68 ls limit inner e f b ≡ compareParts aut68 inner e′ f′ b′) → Goes ls limit k w′ l r e f b state n m b′
   onward : (e′ f′ : Expr) → state ≡ 2 → Pair ls limit k w′ l r e′ f′ → n ≡ size e′ → m ≡ size f′
-      → ((deeper : Comparison) → sides aut68 ls limit deeper e f b ≡ sides aut68 ls limit deeper e′ f′ b′) → Goes ls limit k w′ l r e f b state n m b′
-  tooFar : state ≡ 10 → ((deeper : Comparison) → sides aut68 ls limit deeper e f b ≡ stop tooLarge b′) → Goes ls limit k w′ l r e f b state n m b′
-  spent : state ≡ 11 → ((deeper : Comparison) → sides aut68 ls limit deeper e f b ≡ stop outOfBudget b′) → Goes ls limit k w′ l r e f b state n m b′
+      → ((inner : Comparison) → sides aut68 ls limit inner e f b ≡ sides aut68 ls limit inner e′ f′ b′) → Goes ls limit k w′ l r e f b state n m b′
+  tooFar : state ≡ 10 → ((inner : Comparison) → sides aut68 ls limit inner e f b ≡ stop tooLarge b′) → Goes ls limit k w′ l r e f b state n m b′
+  spent : state ≡ 11 → ((inner : Comparison) → sides aut68 ls limit inner e f b ≡ stop outOfBudget b′) → Goes ls limit k w′ l r e f b state n m b′
 
 -- the sides of n and m cells at l and r, after head steps
-pub record Proceeds (tb ts w : List ℕ) (limit budget l n r m : ℕ) (w′ : List ℕ) (state n′ m′ left : ℕ) : Type 0 where
+pub record Proceeds (tb ts w : List ℕ) (limit budget l n r m : ℕ) (w′ : List ℕ) (state n′ m′ rest : ℕ) : Type 0 where
   -- what lies below the left side is as it was
   pub frame : l ≤ r → l ≤ unitAt limit scratchUnit → Outside l (length w) w w′
-  pub means : (ls : Lines) (k : ℕ) (e f : Expr) → Book ls limit tb ts → k ≤ 64 → Placed limit (length w) l r → Pair ls limit k w l r e f
-      → n ≡ size e → m ≡ size f → Goes ls limit k w′ l r e f budget state n′ m′ left
+  pub means : (ls : Lines) (k : ℕ) (e f : Expr) → Book ls limit tb ts → k ≤ 2 * nesting → Placed limit (length w) l r → Pair ls limit k w l r e f
+      → n ≡ size e → m ≡ size f → Goes ls limit k w′ l r e f budget state n′ m′ rest
 
 -- the expressions at a and b, put at l and r as the sides, after all head steps
-pub record Settles (tb ts w : List ℕ) (limit budget a b l r : ℕ) (w′ : List ℕ) (state left : ℕ) : Type 0 where
+pub record Settles (tb ts w : List ℕ) (limit budget a b l r : ℕ) (w′ : List ℕ) (state rest : ℕ) : Type 0 where
   pub frame : l ≤ r → l ≤ unitAt limit scratchUnit → Outside l (length w) w w′
   pub ends : state ≡ 2 → ⊥
-  pub means : (ls : Lines) (k : ℕ) (e f : Expr) → Book ls limit tb ts → k ≤ 64 → Placed limit (length w) l r → Pair ls limit k (take l w) a b e f
-      → Goes ls limit k w′ l r e f budget state 0 0 left
+  pub means : (ls : Lines) (k : ℕ) (e f : Expr) → Book ls limit tb ts → k ≤ 2 * nesting → Placed limit (length w) l r → Pair ls limit k (take l w) a b e f
+      → Goes ls limit k w′ l r e f budget state 0 0 rest

@@ -5,20 +5,18 @@ use mathlib.Core.List.{List}
 use Prim.Native.Nat.{ℕ, suc, _+_, _-_, _≤_, _<_}
 use native.Mathlib.Omega.{arith}
 use lib.ListN.{length, drop}
-use Rattle.aut68.specs.Language.{aut68}
-use Rattle.aut68.specs.Rules.Grammar.{inner}
 use Rattle.aut68.specs.Bytes.{Bytes}
 use Rattle.aut68.specs.Source.{cons, countSrcs}
 use Rattle.aut68.specs.Lines.{Lines}
 use Rattle.aut68.specs.Procedure.Answer.{andThen, when}
-use Rattle.aut68.specs.Procedure.Parse.{anExpression, arguments}
+use Rattle.aut68.specs.Procedure.Parse.{arguments}
 use Rattle.aut68.specs.Procedure.Resolve.{contextAt}
 use Rattle.symbols.specs.Symbols.{PastSymbol}
 use Rattle.cells.specs.declared.scope.Scope.{Scope}
 use Rattle.names.specs.Known.{boundNames}
 use Rattle.expressions.specs.declared.parts.Reading.{Reading}
 use Rattle.expressions.specs.Walk.{ReadTo, passed, SameBelow}
-use Rattle.expressions.specs.Posts.{goOn, Ready, Refusing, ExpressionRead, Counted, ArgumentsRead}
+use Rattle.expressions.specs.Posts.{expressionIn, goOn, Ready, Refusing, ExpressionRead, Counted, ArgumentsRead}
 use Rattle.expressions.proofs.StoreLaws.{below-same, below-then}
 use Rattle.expressions.proofs.ReadLaws.{then-refused, then-passed, then-done, then-stop, then-give, read-is, comma-read, close-read, neither-read}
 use Rattle.expressions.proofs.WrittenLaws.{no-arguments-written, argument-written}
@@ -32,10 +30,10 @@ pub record ArgumentsSoFar (ks s : Bytes) (scope : Scope) (book tb : List ℕ) (l
   pub inside : at ≤ length s
   pub fewer : to ≤ length w₀ + at
   pub few : count ≤ at
-  pub left : (ls : Lines) → Ready ls ks s book tb lines indicator scope w₀ (r .to) → (n : ℕ) → length s - r .at < n
+  pub rest : (ls : Lines) → Ready ls ks s book tb lines indicator scope w₀ (r .to) → (n : ℕ) → length s - r .at < n
       → (m : ℕ) × (length s - at < m) × ((w′ : List ℕ) (r′ : Reading) → SameBelow to w w′
-      → ReadTo s (Counted ls s indicator scope w w′ to fault count r′) (r′ .code) (r′ .at) (arguments (anExpression aut68 (32 - scope .depth) inner) m (drop at s))
-      → ReadTo s (Counted ls s indicator scope w₀ w′ (r .to) (r .fault) 0 r′) (r′ .code) (r′ .at) (arguments (anExpression aut68 (32 - scope .depth) inner) n (drop (r .at) s)))
+      → ReadTo s (Counted ls s indicator scope w w′ to fault count r′) (r′ .code) (r′ .at) (arguments (expressionIn scope) m (drop at s))
+      → ReadTo s (Counted ls s indicator scope w₀ w′ (r .to) (r .fault) 0 r′) (r′ .code) (r′ .at) (arguments (expressionIn scope) n (drop (r .at) s)))
 
 pub arguments-start : {ks s : Bytes} {scope : Scope} {book tb : List ℕ} {lines indicator : ℕ} {w : List ℕ} {r : Reading} → r .to ≤ length w + r .at → r .at ≤ length s
     → ArgumentsSoFar ks s scope book tb lines indicator w w r (r .at) (r .to) (r .fault) 0
@@ -47,12 +45,12 @@ arguments-start {w = w} {r} f i =
       inside = i;
       fewer = f;
       few = omega arith;
-      left = λ ls ready n l. (n, l, λ w′ r′ b h. h);
+      rest = λ ls ready n l. (n, l, λ w′ r′ b h. h);
     }
 
 module _ {ks s : Bytes} {scope : Scope} {book tb : List ℕ} {lines indicator : ℕ} {w₀ w wA : List ℕ} {r a : Reading} {at to fault count : ℕ}
     (h : ArgumentsSoFar ks s scope book tb lines indicator w₀ w r at to fault count)
-    (A : ExpressionRead (anExpression aut68 (32 - scope .depth) inner) ks s scope book tb lines indicator w wA (goOn at to fault) a) where
+    (A : ExpressionRead (expressionIn scope) ks s scope book tb lines indicator w wA (goOn at to fault) a) where
   pub arguments-refused : a .code ≢ 0 → ArgumentsRead ks s scope book tb lines indicator w₀ wA r a
   unfolding arguments
   arguments-refused n =
@@ -66,10 +64,10 @@ module _ {ks s : Bytes} {scope : Scope} {book tb : List ℕ} {lines indicator : 
               fewer = omega (arith, A .onward .fewer, h .below .long);
             };
         read = λ ls ready k l.
-            let (m, b, f) = h .left ls ready k l in
+            let (m, b, f) = h .rest ls ready k l in
             let e : m ≡ suc (m - 1) = omega arith in
             f wA a (A .onward .below)
-            (read-is (ap (λ i. arguments (anExpression aut68 (32 - scope .depth) inner) i (drop at s)) e) (then-refused _ n (A .read ls (ready-on (h .below) (h .up) ready))));
+            (read-is (ap (λ i. arguments (expressionIn scope) i (drop at s)) e) (then-refused _ n (A .read ls (ready-on (h .below) (h .up) ready))));
       }
 
   module _ (z : a .code ≡ 0) {comma : ℕ} (p : PastSymbol ks s (a .at) 7 comma) where
@@ -84,14 +82,14 @@ module _ {ks s : Bytes} {scope : Scope} {book tb : List ℕ} {lines indicator : 
           inside = i;
           fewer = omega (arith, A .onward .fewer, h .below .long);
           few = omega (arith, h .few, A .onward .from);
-          left = λ ls ready k l.
-              let (m, b, f) = h .left ls ready k l in
+          rest = λ ls ready k l.
+              let (m, b, f) = h .rest ls ready k l in
               let e : m ≡ suc (m - 1) = omega arith in (
                 m - 1,
                 omega (arith, A .onward .from),
                 λ w′ r′ below rest.
                     f w′ r′ (below-then (A .onward .below) (A .onward .up) below)
-                    (read-is (ap (λ i. arguments (anExpression aut68 (32 - scope .depth) inner) i (drop at s)) e)
+                    (read-is (ap (λ i. arguments (expressionIn scope) i (drop at s)) e)
                     (then-passed _ z (A .read ls (ready-on (h .below) (h .up) ready)) (λ x X.
                     then-done _ (comma-read (drop (a .at) s) (symbol-read 44 p (symbol-kinds .2) (omega arith) i (ready .table)))
                     (then-give (cons x) rest (λ xs Y.
@@ -111,10 +109,10 @@ module _ {ks s : Bytes} {scope : Scope} {book tb : List ℕ} {lines indicator : 
                 onward-refused (below-then (h .below) (h .up) (A .onward .below)) g (omega (arith, h .up, A .onward .up)) (omega (arith, A .onward .fewer, h .below .long))
                 (omega (arith, h .from, A .onward .from)) (A .onward .inside);
             read = λ ls ready k l.
-                let (m, b, f) = h .left ls ready k l in
+                let (m, b, f) = h .rest ls ready k l in
                 let e : m ≡ suc (m - 1) = omega arith in
                 f wA r′ (A .onward .below)
-                (read-is (ap (λ i. arguments (anExpression aut68 (32 - scope .depth) inner) i (drop at s)) e)
+                (read-is (ap (λ i. arguments (expressionIn scope) i (drop at s)) e)
                 (then-passed _ z (A .read ls (ready-on (h .below) (h .up) ready)) (λ x X.
                 then-stop _
                 (neither-read (drop (a .at) s) (symbol-missing 44 p (symbol-kinds .2) (omega arith) u (ready .table))
@@ -137,10 +135,10 @@ module _ {ks s : Bytes} {scope : Scope} {book tb : List ℕ} {lines indicator : 
                   fewer = omega (arith, A .onward .fewer, h .below .long);
                 };
             read = λ ls ready k l.
-                let (m, b, f) = h .left ls ready k l in
+                let (m, b, f) = h .rest ls ready k l in
                 let e : m ≡ suc (m - 1) = omega arith in
                 f wA (record { code = 0; at = close; to = a .to; fault = a .fault; count = count + 1 }) (A .onward .below)
-                (read-is (ap (λ i. arguments (anExpression aut68 (32 - scope .depth) inner) i (drop at s)) e)
+                (read-is (ap (λ i. arguments (expressionIn scope) i (drop at s)) e)
                 (then-passed _ z (A .read ls (ready-on (h .below) (h .up) ready)) (λ x X.
                 then-done _
                 (close-read (drop (a .at) s) (symbol-missing 44 p (symbol-kinds .2) (omega arith) u (ready .table))

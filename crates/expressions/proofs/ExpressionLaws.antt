@@ -16,6 +16,7 @@ use Rattle.aut68.specs.Lines.{Lines}
 use Rattle.aut68.specs.Procedure.Answer.{done, stop, codeOf, malformed, tooLarge}
 use Rattle.aut68.specs.Procedure.Parse.{Read, spaces, symbol, named, application, abstraction, anExpression}
 use Rattle.aut68.specs.Procedure.Resolve.{resolve, contextAt}
+use Rattle.aut68.specs.Sizes.{nesting}
 use Rattle.kinds.specs.Kinds.{KindsTable, kindOf, placeOr0, opensKind}
 use Rattle.symbols.specs.Symbols.{firstKind, PastSpaces, KindAt, PastSymbol}
 use Rattle.cells.specs.declared.scope.Scope.{Scope}
@@ -27,7 +28,7 @@ use Rattle.names.specs.NotedContext.{context-noted-same}
 use Rattle.names.proofs.PartLaws.{part-whole, nested-names, bound-names}
 use Rattle.expressions.specs.declared.parts.Reading.{Reading}
 use Rattle.expressions.specs.Walk.{ReadTo, SameBelow, Written}
-use Rattle.expressions.specs.Posts.{Sized, Ready, Refusing, Onward, WrittenOne, ExpressionRead}
+use Rattle.expressions.specs.Posts.{expressionIn, namedIn, applicationIn, abstractionIn, Sized, Ready, Refusing, Onward, WrittenOne, ExpressionRead}
 use Rattle.expressions.proofs.StoreLaws.{below-same}
 use Rattle.expressions.proofs.ReadLaws.{read-is, read-stop, choose-application, choose-abstraction, choose-named, too-deep, opens-nothing}
 
@@ -65,7 +66,7 @@ ready-inner z h =
       sized = z;
     }
 
-pub sized-nested : {scope next : Scope} → Nested scope next → scope .depth < 32 → Sized scope → Sized next
+pub sized-nested : {scope next : Scope} → Nested scope next → scope .depth < nesting → Sized scope → Sized next
 sized-nested b l z =
     record {
       starts = ap length (b .startsAre) ∙ z .starts;
@@ -85,31 +86,31 @@ sized-bound {scope} {next} {start} {len} b f z =
 
 -- a name of the line can be bound
 bindable : {ls : Lines} {ks s book tb : List ℕ} {lines indicator : ℕ} {scope : Scope} {w : List ℕ} {to start len : ℕ}
-    → Ready ls ks s book tb lines indicator scope w to → scope .depth < 32 → start + len ≤ length s → Bindable scope start len
+    → Ready ls ks s book tb lines indicator scope w to → scope .depth < nesting → start + len ≤ length s → Bindable scope start len
 bindable h l e = record { shallow = l; few = omega (arith, h .sized .few); startFits = omega (arith, h .short); lenFits = omega (arith, h .short) }
 
 module _ {ks s book tb : List ℕ} {lines indicator : ℕ} {next : Scope} {w w′ : List ℕ} {r r′ : Reading}
-    (h : ExpressionRead (anExpression aut68 (32 - next .depth) inner) ks s next book tb lines indicator w w′ r r′) where
+    (h : ExpressionRead (anExpression aut68 (nesting - next .depth) inner) ks s next book tb lines indicator w w′ r r′) where
   -- the part one level deeper than d, under the names that are bound there
   deeper-read : (d : ℕ) → next .depth ≡ d + 1 → (ls : Lines) → Ready ls ks s book tb lines indicator next w (r .to) → (bs : List Bytes) → boundNames s next ≡ bs
       → ReadTo s (Written cellsOfSrc cells (resolve ls (contextAt ls indicator) bs) w w′ (r .to) (r′ .to) (r .fault) (r′ .fault)) (r′ .code) (r′ .at)
-      (anExpression aut68 (31 - d) inner (drop (r .at) s))
+      (anExpression aut68 (nesting - 1 - d) inner (drop (r .at) s))
   deeper-read d q ls ready bs names =
-      let level : 31 - d ≡ 32 - next .depth = omega arith in
+      let level : nesting - 1 - d ≡ nesting - next .depth = omega arith in
       read-is (ap (λ d. anExpression aut68 d inner (drop (r .at) s)) level)
       (subst (λ bs. ReadTo s (Written cellsOfSrc cells (resolve ls (contextAt ls indicator) bs) w w′ (r .to) (r′ .to) (r .fault) (r′ .fault)) (r′ .code) (r′ .at)
-      (anExpression aut68 (32 - next .depth) inner (drop (r .at) s))) names
+      (anExpression aut68 (nesting - next .depth) inner (drop (r .at) s))) names
       (h .read ls ready))
 
   -- a level that binds nothing
-  pub level-read : {scope : Scope} → Nested scope next → scope .depth < 32 → (ls : Lines) → Ready ls ks s book tb lines indicator scope w (r .to)
-      → ReadTo s (WrittenOne ls s indicator scope w w′ (r .to) (r′ .to) (r .fault) (r′ .fault)) (r′ .code) (r′ .at) (anExpression aut68 (31 - scope .depth) inner (drop (r .at) s))
+  pub level-read : {scope : Scope} → Nested scope next → scope .depth < nesting → (ls : Lines) → Ready ls ks s book tb lines indicator scope w (r .to)
+      → ReadTo s (WrittenOne ls s indicator scope w w′ (r .to) (r′ .to) (r .fault) (r′ .fault)) (r′ .code) (r′ .at) (anExpression aut68 (nesting - 1 - scope .depth) inner (drop (r .at) s))
   level-read {scope} b l ls ready = deeper-read (scope .depth) (b .deeper l) ls (ready-inner (sized-nested b l (ready .sized)) ready) (boundNames s scope) (nested-names s b)
 
   -- a level that binds a name of the line
-  pub body-read : {scope : Scope} {start len : ℕ} → Bound scope start len next → scope .depth < 32 → start + len ≤ length s → (ls : Lines) → Ready ls ks s book tb lines indicator scope w (r .to)
+  pub body-read : {scope : Scope} {start len : ℕ} → Bound scope start len next → scope .depth < nesting → start + len ≤ length s → (ls : Lines) → Ready ls ks s book tb lines indicator scope w (r .to)
       → ReadTo s (Written cellsOfSrc cells (resolve ls (contextAt ls indicator) (slice start (start + len) s ∷ boundNames s scope)) w w′ (r .to) (r′ .to) (r .fault) (r′ .fault)) (r′ .code) (r′ .at)
-      (anExpression aut68 (31 - scope .depth) inner (drop (r .at) s))
+      (anExpression aut68 (nesting - 1 - scope .depth) inner (drop (r .at) s))
   body-read {scope} {start} {len} b l e ls ready =
       let f : Bindable scope start len = bindable ready l e in
       deeper-read (scope .depth) (b .deeper l) ls (ready-inner (sized-bound b f (ready .sized)) ready) (slice start (start + len) s ∷ boundNames s scope)
@@ -138,7 +139,8 @@ code-tooLarge = refl
 
 -- ---- refusals
 
-pub onward-refused : {s : Bytes} {w w′ : List ℕ} {r r′ : Reading} {code at to : ℕ} → SameBelow (r .to) w w′ → Refusing code at to r′ → r .to ≤ to → to ≤ length w + at → r .at ≤ at → at ≤ length s → Onward s w w′ r r′
+pub onward-refused : {s : Bytes} {w w′ : List ℕ} {r r′ : Reading} {code at to : ℕ} → SameBelow (r .to) w w′ → Refusing code at to r′
+    → r .to ≤ to → to ≤ length w + at → r .at ≤ at → at ≤ length s → Onward s w w′ r r′
 onward-refused b h u f l m =
     record { below = b; up = omega (arith, h .toIs); from = omega (arith, h .atIs); inside = omega (arith, h .atIs); fewer = omega (arith, h .toIs, h .atIs) }
 
@@ -147,17 +149,17 @@ onward-refused b h u f l m =
 kind-ahead : {ks s : Bytes} {from at k : ℕ} → PastSpaces s from at → KindAt ks s at k → KindsTable ks → k ≡ firstKind (spaces (drop from s))
 kind-ahead p q t = q .kind t ∙ ap firstKind (p .rest)
 
-no-level : (d : ℕ) → 32 ≤ d → 32 - d ≡ 0
+no-level : (d : ℕ) → nesting ≤ d → nesting - d ≡ 0
 no-level d l = omega arith
 
-some-level : (d : ℕ) → d < 32 → 32 - d ≡ suc (31 - d)
+some-level : (d : ℕ) → d < nesting → nesting - d ≡ suc (nesting - 1 - d)
 some-level d l = omega arith
 
 module _ {ks s book tb : List ℕ} {lines indicator : ℕ} {scope : Scope} {w : List ℕ} {r r′ : Reading} {at k : ℕ}
     (p : PastSpaces s (r .at) at) (q : KindAt ks s at k) (fewer : r .to ≤ length w + r .at) (inside : r .at ≤ length s) where
-  module _ (deep : 32 ≤ scope .depth) where
+  module _ (deep : nesting ≤ scope .depth) where
     pub expression-too-deep : {t : Bool} → t ≡ opensKind k → t ≡ true → Refusing 10 at (r .to) r′
-        → ExpressionRead (anExpression aut68 (32 - scope .depth) inner) ks s scope book tb lines indicator w w r r′
+        → ExpressionRead (expressionIn scope) ks s scope book tb lines indicator w w r r′
     expression-too-deep e f h =
         record {
           onward = onward-refused (below-same (r .to) w) h (omega arith) (omega (arith, p .from)) (p .from) (p .within inside);
@@ -167,7 +169,7 @@ module _ {ks s book tb : List ℕ} {lines indicator : ℕ} {scope : Scope} {w : 
         }
 
     pub expression-malformed : {t : Bool} → t ≡ opensKind k → t ≡ false → Refusing 3 at (r .to) r′
-        → ExpressionRead (anExpression aut68 (32 - scope .depth) inner) ks s scope book tb lines indicator w w r r′
+        → ExpressionRead (expressionIn scope) ks s scope book tb lines indicator w w r r′
     expression-malformed e f h =
         record {
           onward = onward-refused (below-same (r .to) w) h (omega arith) (omega (arith, p .from)) (p .from) (p .within inside);
@@ -176,24 +178,24 @@ module _ {ks s book tb : List ℕ} {lines indicator : ℕ} {scope : Scope} {w : 
               (read-stop (opens-nothing (drop (r .at) s) (ap opensKind (sym (kind-ahead p q (ready .table))) ∙ sym e ∙ f)) (h .codeIs ∙ sym code-malformed));
         }
 
-  module _ (l : scope .depth < 32) {w′ : List ℕ} where
-    chosen : (m : Read Src) → (KindsTable ks → anExpression aut68 (suc (31 - scope .depth)) inner (drop (r .at) s) ≡ m (drop (r .at) s))
+  module _ (l : scope .depth < nesting) {w′ : List ℕ} where
+    chosen : (m : Read Src) → (KindsTable ks → anExpression aut68 (suc (nesting - 1 - scope .depth)) inner (drop (r .at) s) ≡ m (drop (r .at) s))
         → ExpressionRead m ks s scope book tb lines indicator w w′ r r′
-        → ExpressionRead (anExpression aut68 (32 - scope .depth) inner) ks s scope book tb lines indicator w w′ r r′
+        → ExpressionRead (expressionIn scope) ks s scope book tb lines indicator w w′ r r′
     chosen m e h =
         record {
           onward = h .onward;
           read = λ ls ready. read-is (ap (λ d. anExpression aut68 d inner (drop (r .at) s)) (some-level (scope .depth) l) ∙ e (ready .table)) (h .read ls ready);
         }
 
-    pub expression-application : k ≡ 2 → ExpressionRead (application (anExpression aut68 (31 - scope .depth) inner)) ks s scope book tb lines indicator w w′ r r′
-        → ExpressionRead (anExpression aut68 (32 - scope .depth) inner) ks s scope book tb lines indicator w w′ r r′
-    expression-application e h = chosen _ (λ t. choose-application (31 - scope .depth) (drop (r .at) s) (sym (kind-ahead p q t) ∙ e)) h
+    pub expression-application : k ≡ 2 → ExpressionRead (applicationIn scope) ks s scope book tb lines indicator w w′ r r′
+        → ExpressionRead (expressionIn scope) ks s scope book tb lines indicator w w′ r r′
+    expression-application e h = chosen _ (λ t. choose-application (nesting - 1 - scope .depth) (drop (r .at) s) (sym (kind-ahead p q t) ∙ e)) h
 
-    pub expression-abstraction : k ≡ 3 → ExpressionRead (abstraction aut68 (anExpression aut68 (31 - scope .depth) inner) (anExpression aut68 (31 - scope .depth) inner)) ks s scope book tb lines indicator w w′ r r′
-        → ExpressionRead (anExpression aut68 (32 - scope .depth) inner) ks s scope book tb lines indicator w w′ r r′
-    expression-abstraction e h = chosen _ (λ t. choose-abstraction (31 - scope .depth) (drop (r .at) s) (sym (kind-ahead p q t) ∙ e)) h
+    pub expression-abstraction : k ≡ 3 → ExpressionRead (abstractionIn scope) ks s scope book tb lines indicator w w′ r r′
+        → ExpressionRead (expressionIn scope) ks s scope book tb lines indicator w w′ r r′
+    expression-abstraction e h = chosen _ (λ t. choose-abstraction (nesting - 1 - scope .depth) (drop (r .at) s) (sym (kind-ahead p q t) ∙ e)) h
 
-    pub expression-named : k ≢ 2 → k ≢ 3 → ExpressionRead (named aut68 (anExpression aut68 (31 - scope .depth) inner)) ks s scope book tb lines indicator w w′ r r′
-        → ExpressionRead (anExpression aut68 (32 - scope .depth) inner) ks s scope book tb lines indicator w w′ r r′
-    expression-named n m h = chosen _ (λ t. choose-named (31 - scope .depth) (drop (r .at) s) (λ e. n (kind-ahead p q t ∙ e)) (λ e. m (kind-ahead p q t ∙ e))) h
+    pub expression-named : k ≢ 2 → k ≢ 3 → ExpressionRead (namedIn scope) ks s scope book tb lines indicator w w′ r r′
+        → ExpressionRead (expressionIn scope) ks s scope book tb lines indicator w w′ r r′
+    expression-named n m h = chosen _ (λ t. choose-named (nesting - 1 - scope .depth) (drop (r .at) s) (λ e. n (kind-ahead p q t ∙ e)) (λ e. m (kind-ahead p q t ∙ e))) h

@@ -13,13 +13,14 @@ use Rattle.aut68.specs.Source as Source
 use Rattle.aut68.specs.Lines.{Lines}
 use Rattle.aut68.specs.Procedure.Parse.{application, abstraction, anExpression}
 use Rattle.aut68.specs.Procedure.Resolve.{contextAt}
+use Rattle.aut68.specs.Sizes.{nesting}
 use Rattle.symbols.specs.Symbols.{PastSymbol, NameAt}
 use Rattle.cells.specs.declared.scope.Scope.{Scope}
 use Rattle.cells.specs.Posts.{Nested, Bound}
 use Rattle.names.specs.Known.{boundNames}
 use Rattle.expressions.specs.declared.parts.Reading.{Reading}
 use Rattle.expressions.specs.Walk.{CellPut}
-use Rattle.expressions.specs.Posts.{goOn, Ready, Refusing, Onward, ExpressionRead}
+use Rattle.expressions.specs.Posts.{applicationIn, abstractionIn, goOn, Ready, Refusing, Onward, ExpressionRead}
 use Rattle.expressions.proofs.StoreLaws.{below-same, below-then, below-put}
 use Rattle.expressions.proofs.ReadLaws.{then-refused, then-passed, then-done, then-stop, then-give}
 use Rattle.expressions.proofs.WrittenLaws.{application-written, abstraction-written}
@@ -56,10 +57,10 @@ module _ {ls : Lines} {ks s book tb : List ℕ} {lines indicator : ℕ} {scope :
   ready-second A h = ready-on (A .below) (A .up) (ready-first h)
 
 module _ {ks s book tb : List ℕ} {lines indicator : ℕ} {scope : Scope} {w : List ℕ} {r : Reading} {o : ℕ}
-    (fewer : r .to ≤ length w + r .at) (inside : r .at ≤ length s) (l : scope .depth < 32) where
+    (fewer : r .to ≤ length w + r .at) (inside : r .at ≤ length s) (l : scope .depth < nesting) where
   module _ (p : PastSymbol ks s (r .at) 2 o) where
     pub application-unopened : {r′ : Reading} → length s < o → Refusing 3 (r .at) (r .to) r′
-        → ExpressionRead (application (anExpression aut68 (31 - scope .depth) inner)) ks s scope book tb lines indicator w w r r′
+        → ExpressionRead (applicationIn scope) ks s scope book tb lines indicator w w r r′
     unfolding application
     application-unopened m h =
         record {
@@ -68,8 +69,8 @@ module _ {ks s book tb : List ℕ} {lines indicator : ℕ} {scope : Scope} {w : 
         }
 
     module _ (i : o ≤ length s) {w₁ wA : List ℕ} {next : Scope} {a : Reading} (put : CellPut w w₁ (r .to) 4) (b : Nested scope next)
-        (A : ExpressionRead (anExpression aut68 (32 - next .depth) inner) ks s next book tb lines indicator w₁ wA (goOn o (r .to + 1) (r .fault)) a) where
-      pub application-first-refused : a .code ≢ 0 → ExpressionRead (application (anExpression aut68 (31 - scope .depth) inner)) ks s scope book tb lines indicator w wA r a
+        (A : ExpressionRead (anExpression aut68 (nesting - next .depth) inner) ks s next book tb lines indicator w₁ wA (goOn o (r .to + 1) (r .fault)) a) where
+      pub application-first-refused : a .code ≢ 0 → ExpressionRead (applicationIn scope) ks s scope book tb lines indicator w wA r a
       unfolding application
       application-first-refused n =
           record {
@@ -80,7 +81,7 @@ module _ {ks s book tb : List ℕ} {lines indicator : ℕ} {scope : Scope} {w : 
 
       module _ (z : a .code ≡ 0) {close : ℕ} (q : PastSymbol ks s (a .at) 10 close) where
         pub application-unclosed : {r′ : Reading} → length s < close → Refusing 3 (a .at) (r .to) r′
-            → ExpressionRead (application (anExpression aut68 (31 - scope .depth) inner)) ks s scope book tb lines indicator w wA r r′
+            → ExpressionRead (applicationIn scope) ks s scope book tb lines indicator w wA r r′
         unfolding application
         application-unclosed m h =
             record {
@@ -94,8 +95,8 @@ module _ {ks s book tb : List ℕ} {lines indicator : ℕ} {scope : Scope} {w : 
             }
 
         pub application-read : {wB : List ℕ} {r′ : Reading} → close ≤ length s
-            → ExpressionRead (anExpression aut68 (32 - next .depth) inner) ks s next book tb lines indicator wA wB (goOn close (a .to) (a .fault)) r′
-            → ExpressionRead (application (anExpression aut68 (31 - scope .depth) inner)) ks s scope book tb lines indicator w wB r r′
+            → ExpressionRead (anExpression aut68 (nesting - next .depth) inner) ks s next book tb lines indicator wA wB (goOn close (a .to) (a .fault)) r′
+            → ExpressionRead (applicationIn scope) ks s scope book tb lines indicator w wB r r′
         unfolding application
         application-read c B =
             record {
@@ -112,7 +113,7 @@ module _ {ks s book tb : List ℕ} {lines indicator : ℕ} {scope : Scope} {w : 
 
   module _ (p : PastSymbol ks s (r .at) 3 o) where
     pub abstraction-unopened : {r′ : Reading} → length s < o → Refusing 3 (r .at) (r .to) r′
-        → ExpressionRead (abstraction aut68 (anExpression aut68 (31 - scope .depth) inner) (anExpression aut68 (31 - scope .depth) inner)) ks s scope book tb lines indicator w w r r′
+        → ExpressionRead (abstractionIn scope) ks s scope book tb lines indicator w w r r′
     unfolding abstraction
     abstraction-unopened m h =
         record {
@@ -122,7 +123,7 @@ module _ {ks s book tb : List ℕ} {lines indicator : ℕ} {scope : Scope} {w : 
 
     module _ (i : o ≤ length s) {start len : ℕ} (n : NameAt ks s o start len) where
       pub abstraction-unnamed : {r′ : Reading} → len ≡ 0 → Refusing 3 o (r .to) r′
-          → ExpressionRead (abstraction aut68 (anExpression aut68 (31 - scope .depth) inner) (anExpression aut68 (31 - scope .depth) inner)) ks s scope book tb lines indicator w w r r′
+          → ExpressionRead (abstractionIn scope) ks s scope book tb lines indicator w w r r′
       unfolding abstraction
       abstraction-unnamed e h =
           record {
@@ -134,7 +135,7 @@ module _ {ks s book tb : List ℕ} {lines indicator : ℕ} {scope : Scope} {w : 
 
       module _ (e : len ≢ 0) {comma : ℕ} (k : PastSymbol ks s (start + len) 7 comma) where
         pub abstraction-no-comma : {r′ : Reading} → length s < comma → Refusing 3 o (r .to) r′
-            → ExpressionRead (abstraction aut68 (anExpression aut68 (31 - scope .depth) inner) (anExpression aut68 (31 - scope .depth) inner)) ks s scope book tb lines indicator w w r r′
+            → ExpressionRead (abstractionIn scope) ks s scope book tb lines indicator w w r r′
         unfolding abstraction
         abstraction-no-comma m h =
             record {
@@ -146,8 +147,8 @@ module _ {ks s book tb : List ℕ} {lines indicator : ℕ} {scope : Scope} {w : 
             }
 
         module _ (j : comma ≤ length s) {w₁ wA : List ℕ} {level : Scope} {a : Reading} (put : CellPut w w₁ (r .to) 5) (b : Nested scope level)
-            (A : ExpressionRead (anExpression aut68 (32 - level .depth) inner) ks s level book tb lines indicator w₁ wA (goOn comma (r .to + 1) (r .fault)) a) where
-          pub abstraction-first-refused : a .code ≢ 0 → ExpressionRead (abstraction aut68 (anExpression aut68 (31 - scope .depth) inner) (anExpression aut68 (31 - scope .depth) inner)) ks s scope book tb lines indicator w wA r a
+            (A : ExpressionRead (anExpression aut68 (nesting - level .depth) inner) ks s level book tb lines indicator w₁ wA (goOn comma (r .to + 1) (r .fault)) a) where
+          pub abstraction-first-refused : a .code ≢ 0 → ExpressionRead (abstractionIn scope) ks s scope book tb lines indicator w wA r a
           unfolding abstraction
           abstraction-first-refused x =
               record {
@@ -161,7 +162,7 @@ module _ {ks s book tb : List ℕ} {lines indicator : ℕ} {scope : Scope} {w : 
 
           module _ (z : a .code ≡ 0) {close : ℕ} (q : PastSymbol ks s (a .at) 11 close) where
             pub abstraction-unclosed : {r′ : Reading} → length s < close → Refusing 3 (a .at) (r .to) r′
-                → ExpressionRead (abstraction aut68 (anExpression aut68 (31 - scope .depth) inner) (anExpression aut68 (31 - scope .depth) inner)) ks s scope book tb lines indicator w wA r r′
+                → ExpressionRead (abstractionIn scope) ks s scope book tb lines indicator w wA r r′
             unfolding abstraction
             abstraction-unclosed m h =
                 record {
@@ -178,8 +179,8 @@ module _ {ks s book tb : List ℕ} {lines indicator : ℕ} {scope : Scope} {w : 
                 }
 
             pub abstraction-read : {wB : List ℕ} {next : Scope} {r′ : Reading} → close ≤ length s → Bound scope start len next
-                → ExpressionRead (anExpression aut68 (32 - next .depth) inner) ks s next book tb lines indicator wA wB (goOn close (a .to) (a .fault)) r′
-                → ExpressionRead (abstraction aut68 (anExpression aut68 (31 - scope .depth) inner) (anExpression aut68 (31 - scope .depth) inner)) ks s scope book tb lines indicator w wB r r′
+                → ExpressionRead (anExpression aut68 (nesting - next .depth) inner) ks s next book tb lines indicator wA wB (goOn close (a .to) (a .fault)) r′
+                → ExpressionRead (abstractionIn scope) ks s scope book tb lines indicator w wB r r′
             unfolding abstraction
             abstraction-read c b′ B =
                 record {

@@ -11,27 +11,47 @@ use Rattle.aut68.specs.Bytes.{Bytes}
 use Rattle.aut68.specs.Source.{Src, Srcs, cellsOfSrc, cellsOfSrcs, countSrcs}
 use Rattle.aut68.specs.Expr.{cells, cellss}
 use Rattle.aut68.specs.Lines.{Lines}
-use Rattle.aut68.specs.Procedure.Parse.{Read, anExpression, arguments}
+use Rattle.aut68.specs.Procedure.Parse.{Read, anExpression, named, application, abstraction, arguments}
 use Rattle.aut68.specs.Procedure.Resolve.{resolve, resolves, meaning, contextAt}
+use Rattle.aut68.specs.Sizes.{nesting}
+use Rattle.cells.specs.Layout.{lineUnit, readerUnits}
 use Rattle.kinds.specs.Kinds.{KindsTable}
 use Rattle.cells.specs.declared.scope.Scope.{Scope}
 use Rattle.names.specs.Known.{Known, boundNames}
-use Rattle.names.specs.Hints.{slots, Hinted}
+use Rattle.names.specs.Hints.{slots, Hinted, probes}
 use Rattle.names.specs.NotedContext.{ContextNoted}
-use Rattle.names.specs.Posts.{BindingFound, Meant}
-use Rattle.names.specs.declared.names.Meaning.{Meaning}
+use Rattle.names.specs.Posts.{BindingFound}
+use Rattle.names.specs.Meanings.{Meant}
+use Rattle.names.specs.declared.meanings.Meaning.{Meaning}
 use Rattle.expressions.specs.declared.parts.Reading.{Reading}
 use Rattle.expressions.specs.Walk.{ReadTo, SameBelow, CellPut, Written}
+
+-- the readers of an expression in a scope, of a part of one, and of the three forms
+module _ (scope : Scope) where
+  abbrev pub expressionIn : Read Src
+  expressionIn = anExpression aut68 (nesting - scope .depth) inner
+
+  abbrev pub partIn : Read Src
+  partIn = anExpression aut68 (nesting - 1 - scope .depth) inner
+
+  abbrev pub namedIn : Read Src
+  namedIn = named aut68 partIn
+
+  abbrev pub applicationIn : Read Src
+  applicationIn = application partIn
+
+  abbrev pub abstractionIn : Read Src
+  abstractionIn = abstraction aut68 partIn partIn
 
 -- a walk that goes on at byte `at` and cell `to`, with the first fault of a name so far
 abbrev pub goOn : ℕ → ℕ → ℕ → Reading
 goOn at to fault = record { code = 0; at = at; to = to; fault = fault; count = 0 }
 
--- a scope of at most 32 nesting levels, of which no more bind a name
+-- a scope of at most so many nesting levels, of which no more bind a name
 pub record Sized (scope : Scope) : Type 0 where
-  pub starts : length (scope .starts) ≡ 32
-  pub lens : length (scope .lens) ≡ 32
-  pub deep : scope .depth ≤ 32
+  pub starts : length (scope .starts) ≡ nesting
+  pub lens : length (scope .lens) ≡ nesting
+  pub deep : scope .depth ≤ nesting
   pub few : scope .bound ≤ scope .depth
 
 -- what the names of the line s are looked up in: the table of kinds, the earlier lines, their hints and the line's context, which are
@@ -40,9 +60,9 @@ pub record Ready (ls : Lines) (ks s book tb : List ℕ) (lines indicator : ℕ) 
   pub table : KindsTable ks
   pub known : Known ls book tb lines
   pub hinted : Hinted book tb lines w
-  pub below : slots (length w) + 32 ≤ to
+  pub below : slots (length w) + probes ≤ to
   pub context : ContextNoted ls indicator w
-  pub above : 24 * (length w / 26) ≤ to
+  pub above : lineUnit * (length w / readerUnits) ≤ to
   pub earlier : indicator ≤ lines
   pub short : length s < 4294967296
   pub sized : Sized scope
@@ -86,7 +106,7 @@ pub record ArgumentsRead (ks s : Bytes) (scope : Scope) (book tb : List ℕ) (li
   pub onward : Onward s w w′ r r′
   pub read : (ls : Lines) → Ready ls ks s book tb lines indicator scope w (r .to) → (n : ℕ) → length s - r .at < n
       → ReadTo s (Counted ls s indicator scope w w′ (r .to) (r .fault) 0 r′) (r′ .code) (r′ .at)
-      (arguments (anExpression aut68 (32 - scope .depth) inner) n (drop (r .at) s))
+      (arguments (expressionIn scope) n (drop (r .at) s))
 
 -- the cell of a name, wherever b is its binding, was written at `to`, unless there was a fault before or no room
 pub record NamePut (s : Bytes) (b : ℕ) (book tb : List ℕ) (lines indicator : ℕ) (w w′ : List ℕ) (to fault start len : ℕ) (m : Meaning) : Type 0 where
@@ -95,9 +115,9 @@ pub record NamePut (s : Bytes) (b : ℕ) (book tb : List ℕ) (lines indicator :
   pub stored : fault ≡ 0 → to < length w → CellPut w w′ to (m .cell)
   pub meant : fault ≡ 0 → to < length w → 1 ≤ len → start + len ≤ length s
       → (ls : Lines) → Known ls book tb lines → Hinted book tb lines w → ContextNoted ls indicator w → indicator ≤ lines
-      → (scope : Scope) → BindingFound s scope (slice start (start + len) s) b → scope .bound ≤ 32
+      → (scope : Scope) → BindingFound s scope (slice start (start + len) s) b → scope .bound ≤ nesting
       → Meant ls (contextAt ls indicator) (m .fault) (m .cell) (m .wanted)
-      (meaning ls (contextAt ls indicator) (slice start (start + len) s) (boundNames s scope))
+      (meaning ls (contextAt ls indicator) (slice start (start + len) s) (boundNames s scope) tt)
 
 -- r is a with 6 as fault where the count of arguments is not the wanted one
 pub record CountTested (a : Reading) (m : Meaning) (r : Reading) : Type 0 where

@@ -1,4 +1,5 @@
 // The parts of a walk over an expression that call no other: how far it came, a cell and a name's cell written, counts tested.
+use constants::Cell;
 use names::Meaning;
 use names::meaning_of;
 ghost use mathlib.Core.Path.{_≡_};
@@ -45,7 +46,7 @@ pub fn opens(k: u8) -> bool
 }
 
 // Writes the cell x at index `to` if there is room.
-pub fn put(w: &mut [u16], to: usize, x: u16)
+pub fn put(w: &mut [Cell], to: usize, x: Cell)
     ensures { λ _. ⌜ CellPut (now (w .entry)) (now (w .exit)) to x ⌝ }
 {
     if to < w.len() {
@@ -61,7 +62,7 @@ pub fn put_name(
     table: &[u32],
     lines: usize,
     indicator: usize,
-    w: &mut [u16],
+    w: &mut [Cell],
     to: usize,
     fault: u32,
     b: usize,
@@ -80,7 +81,7 @@ pub fn put_name(
     }
     if to >= w.len() {
         return Meaning {
-            fault: cells::TOO_LARGE,
+            fault: constants::TOO_LARGE,
             cell: 0,
             wanted: 0,
         };
@@ -110,7 +111,7 @@ pub fn counted(a: Reading, m: Meaning) -> Reading
         code: 0,
         at: a.at,
         to: a.to,
-        fault: cells::WRONG_ARITY,
+        fault: constants::WRONG_ARITY,
         count: 0,
     }
 }

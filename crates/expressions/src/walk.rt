@@ -8,6 +8,8 @@ use crate::parts::refused;
 use cells::Scope;
 use cells::bind;
 use cells::nest;
+use constants::Cell;
+use constants::NESTING;
 use names::binding;
 use symbols::kind_at;
 use symbols::name_at;
@@ -15,14 +17,12 @@ use symbols::spaces;
 use symbols::symbol;
 ghost use Prim.Native.Nat.{_+_, _-_, _≤_, _<_};
 ghost use lib.ListN.{length};
-ghost use Rattle.aut68.specs.Language.{aut68};
-ghost use Rattle.aut68.specs.Rules.Grammar.{Place};
-ghost use Rattle.aut68.specs.Procedure.Parse.{anExpression, named, application, abstraction};
-ghost use Rattle.expressions.specs.Posts.{goOn, ExpressionRead, ArgumentsRead};
+ghost use Rattle.aut68.specs.Sizes.{nesting};
+ghost use Rattle.expressions.specs.Posts.{expressionIn, namedIn, applicationIn, abstractionIn, goOn, ExpressionRead, ArgumentsRead};
 
 // The expression that stands next (anExpression, resolve), with the bindings and the nesting levels around it as the scope.
 // It goes on at byte `from` and cell `to`, with the first fault so far; numbers, not a Reading: a struct just built is slow to copy.
-// Falls: 32 - depth.
+// Falls: NESTING - depth.
 pub fn expression(
     line: &[u8],
     kinds: &[u8; 256],
@@ -30,22 +30,23 @@ pub fn expression(
     table: &[u32],
     lines: usize,
     indicator: usize,
-    w: &mut [u16],
+    w: &mut [Cell],
     from: usize,
     to: usize,
     fault: u32,
     scope: Scope,
 ) -> Reading
     requires { ⌜ (to ≤ length (now w) + from) × (from ≤ length (now line)) ⌝ }
-    ensures { λ r′. ⌜ ExpressionRead (anExpression aut68 (32 - scope .depth) Place.inner) (now (kinds .entry)) (now (line .entry)) scope (now (book .entry)) (now (table .entry)) lines indicator (now (w .entry)) (now (w .exit)) (goOn from to fault) r′ ⌝ }
+    ensures { λ r′. ⌜ ExpressionRead (expressionIn scope) (now (kinds .entry)) (now (line .entry)) scope
+        (now (book .entry)) (now (table .entry)) lines indicator (now (w .entry)) (now (w .exit)) (goOn from to fault) r′ ⌝ }
 {
     let at = spaces(line, from);
     let k = kind_at(line, kinds, at);
-    if scope.depth >= 32 {
+    if scope.depth >= NESTING {
         if opens(k) {
-            return refused(cells::TOO_LARGE, at, to);
+            return refused(constants::TOO_LARGE, at, to);
         }
-        return refused(cells::MALFORMED, at, to);
+        return refused(constants::MALFORMED, at, to);
     }
     match k {
         2 => application(
@@ -98,24 +99,25 @@ fn named(
     table: &[u32],
     lines: usize,
     indicator: usize,
-    w: &mut [u16],
+    w: &mut [Cell],
     from: usize,
     to: usize,
     fault: u32,
     scope: Scope,
 ) -> Reading
-    requires { ⌜ (to ≤ length (now w) + from) × (from ≤ length (now line)) × (scope .depth < 32) ⌝ }
-    ensures { λ r′. ⌜ ExpressionRead (named aut68 (anExpression aut68 (31 - scope .depth) Place.inner)) (now (kinds .entry)) (now (line .entry)) scope (now (book .entry)) (now (table .entry)) lines indicator (now (w .entry)) (now (w .exit)) (goOn from to fault) r′ ⌝ }
+    requires { ⌜ (to ≤ length (now w) + from) × (from ≤ length (now line)) × (scope .depth < nesting) ⌝ }
+    ensures { λ r′. ⌜ ExpressionRead (namedIn scope) (now (kinds .entry)) (now (line .entry)) scope
+        (now (book .entry)) (now (table .entry)) lines indicator (now (w .entry)) (now (w .exit)) (goOn from to fault) r′ ⌝ }
 {
     let n = name_at(line, kinds, from);
     let start = n.start;
     let len = n.len;
     if len == 0 {
-        return refused(cells::MALFORMED, from, to);
+        return refused(constants::MALFORMED, from, to);
     }
     let next = start + len;
     // Only where a name is bound: each call copies the scope.
-    let mut b = 32;
+    let mut b = NESTING;
     if scope.bound > 0 {
         b = binding(line, scope, &line[start..next]);
     }
@@ -163,7 +165,7 @@ fn named(
 }
 
 // One argument or more, up to the `)` (arguments); the scope is theirs.
-// Falls: 33 - depth; in the loop the bytes left.
+// Falls: NESTING + 1 - depth; in the loop the bytes ahead.
 fn arguments(
     line: &[u8],
     kinds: &[u8; 256],
@@ -171,7 +173,7 @@ fn arguments(
     table: &[u32],
     lines: usize,
     indicator: usize,
-    w: &mut [u16],
+    w: &mut [Cell],
     from: usize,
     to: usize,
     fault: u32,
@@ -209,7 +211,7 @@ fn arguments(
         if comma > line.len() {
             let close = symbol(line, kinds, behind, kinds::CLOSE);
             if close > line.len() {
-                return refused(cells::MALFORMED, behind, cell);
+                return refused(constants::MALFORMED, behind, cell);
             }
             return Reading {
                 code: 0,
@@ -231,18 +233,19 @@ fn application(
     table: &[u32],
     lines: usize,
     indicator: usize,
-    w: &mut [u16],
+    w: &mut [Cell],
     from: usize,
     to: usize,
     fault: u32,
     scope: Scope,
 ) -> Reading
-    requires { ⌜ (to ≤ length (now w) + from) × (from ≤ length (now line)) × (scope .depth < 32) ⌝ }
-    ensures { λ r′. ⌜ ExpressionRead (application (anExpression aut68 (31 - scope .depth) Place.inner)) (now (kinds .entry)) (now (line .entry)) scope (now (book .entry)) (now (table .entry)) lines indicator (now (w .entry)) (now (w .exit)) (goOn from to fault) r′ ⌝ }
+    requires { ⌜ (to ≤ length (now w) + from) × (from ≤ length (now line)) × (scope .depth < nesting) ⌝ }
+    ensures { λ r′. ⌜ ExpressionRead (applicationIn scope) (now (kinds .entry)) (now (line .entry)) scope
+        (now (book .entry)) (now (table .entry)) lines indicator (now (w .entry)) (now (w .exit)) (goOn from to fault) r′ ⌝ }
 {
     let open = symbol(line, kinds, from, kinds::LESS);
     if open > line.len() {
-        return refused(cells::MALFORMED, from, to);
+        return refused(constants::MALFORMED, from, to);
     }
     put(w, to, 4);
     let inner = nest(scope);
@@ -264,7 +267,7 @@ fn application(
     }
     let close = symbol(line, kinds, a.at, kinds::GREATER);
     if close > line.len() {
-        return refused(cells::MALFORMED, a.at, to);
+        return refused(constants::MALFORMED, a.at, to);
     }
     expression(
         line,
@@ -289,28 +292,29 @@ fn abstraction(
     table: &[u32],
     lines: usize,
     indicator: usize,
-    w: &mut [u16],
+    w: &mut [Cell],
     from: usize,
     to: usize,
     fault: u32,
     scope: Scope,
 ) -> Reading
-    requires { ⌜ (to ≤ length (now w) + from) × (from ≤ length (now line)) × (scope .depth < 32) ⌝ }
-    ensures { λ r′. ⌜ ExpressionRead (abstraction aut68 (anExpression aut68 (31 - scope .depth) Place.inner) (anExpression aut68 (31 - scope .depth) Place.inner)) (now (kinds .entry)) (now (line .entry)) scope (now (book .entry)) (now (table .entry)) lines indicator (now (w .entry)) (now (w .exit)) (goOn from to fault) r′ ⌝ }
+    requires { ⌜ (to ≤ length (now w) + from) × (from ≤ length (now line)) × (scope .depth < nesting) ⌝ }
+    ensures { λ r′. ⌜ ExpressionRead (abstractionIn scope) (now (kinds .entry)) (now (line .entry)) scope
+        (now (book .entry)) (now (table .entry)) lines indicator (now (w .entry)) (now (w .exit)) (goOn from to fault) r′ ⌝ }
 {
     let open = symbol(line, kinds, from, kinds::BRACKET);
     if open > line.len() {
-        return refused(cells::MALFORMED, from, to);
+        return refused(constants::MALFORMED, from, to);
     }
     let x = name_at(line, kinds, open);
     let start = x.start;
     let len = x.len;
     if len == 0 {
-        return refused(cells::MALFORMED, open, to);
+        return refused(constants::MALFORMED, open, to);
     }
     let comma = symbol(line, kinds, start + len, kinds::COMMA);
     if comma > line.len() {
-        return refused(cells::MALFORMED, open, to);
+        return refused(constants::MALFORMED, open, to);
     }
     put(w, to, 5);
     let level = nest(scope);
@@ -332,7 +336,7 @@ fn abstraction(
     }
     let close = symbol(line, kinds, a.at, kinds::UNBRACKET);
     if close > line.len() {
-        return refused(cells::MALFORMED, a.at, to);
+        return refused(constants::MALFORMED, a.at, to);
     }
     let inner = bind(scope, start, len);
     expression(

@@ -50,7 +50,8 @@ pub data ByHeads (language : Language) (ls : Lines) : List Expr → Expr → Exp
   headsVariable : {sc : List Expr} {v : ℕ} {l : Line} {r : Expr} → IsLine ls v l → r ≡ l .category → ByHeads language ls sc (var v) r
   headsBound : {sc : List Expr} {i : ℕ} {p r : Expr} → DomainAt p sc i → r ≡ lift (suc i) 0 p → ByHeads language ls sc (bound i) r
   headsConstant : {sc : List Expr} {v : ℕ} {l : Line} {xs : Exprs} {r : Expr} → IsLine ls v l → r ≡ instantiate (l .context) xs 0 (l .category) → ByHeads language ls sc (const v xs) r
-  headsApplication : {sc : List Expr} {a b c p q r : Expr} → Category language ls sc b c → ByHeads language ls sc b c → HeadReduces ls c (abs p q) → r ≡ substitute a 0 q → ByHeads language ls sc (app a b) r
+  headsApplication : {sc : List Expr} {a b c p q r : Expr} → Category language ls sc b c → ByHeads language ls sc b c → HeadReduces ls c (abs p q) → r ≡ substitute a 0 q
+      → ByHeads language ls sc (app a b) r
   headsSecond : {sc : List Expr} {a b f r : Expr} → r ≡ app a f → ByHeads language ls sc (app a b) r
 
 -- what ends in `type` or `prop` has no head step

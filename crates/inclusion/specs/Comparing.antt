@@ -8,6 +8,7 @@ use Prim.Native.Nat.{ℕ, zero, suc}
 use lib.Dec.{eqb, leb}
 use borrow.Author.Tests.{eqb-true, eqb-false}
 use Rattle.aut68.specs.Language.{Language, aut68, autQE, Extended, extended}
+use Rattle.aut68.specs.Sizes.{nesting}
 use Rattle.aut68.specs.Procedure.Answer.{Act, Answer, done, stop, give, refuse, mismatch, tooLarge, outOfBudget}
 use Rattle.aut68.specs.Expr.{Expr, Exprs, type, prop, var, bound, const, app, abs, nil, cons, size, firstCell, parts, identical, endsInType, endsInProp}
 use Rattle.aut68.specs.Lines.{Lines}
@@ -331,4 +332,4 @@ module _ (ls : Lines) where
 
     pub compare-settles : (l r : Expr) → Categorical l → Categorical r → (b : ℕ) → Settles (Serves language ls l r) (compare language ls L l r b)
     unfolding compare
-    compare-settles l r w x b = compareAt-settles 32 l r w x b
+    compare-settles l r w x b = compareAt-settles nesting l r w x b

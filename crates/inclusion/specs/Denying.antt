@@ -80,7 +80,8 @@ module _ (language : Language) (ls : Lines) (W : ResolvedLines ls) (contexts : R
 
   -- B's category has a head form f that is no abstraction
   pub no-function : {a b c f : Expr} → Resolved ls ctx (length sc) b → Liberal language ls ctx sc b c → Reduces ls c f → Neutral ls f
-      → ((g d p q : Expr) → Extended language → Equal ls f g → Resolved ls ctx (length sc) g → Liberal language ls ctx sc g d → Supertype d → Reduces ls d (abs p q) → (k : Expr) → Liberal language ls ctx sc a k → Serves language ls k p → ⊥)
+      → ((g d p q : Expr) → Extended language → Equal ls f g → Resolved ls ctx (length sc) g → Liberal language ls ctx sc g d → Supertype d → Reduces ls d (abs p q) → (k : Expr)
+      → Liberal language ls ctx sc a k → Serves language ls k p → ⊥)
       → (r : Expr) → ¬ Liberal language ls ctx sc (app a b) r
   no-function {b = b} wb hc red n deny r (byApplication hb red′ ha e i) =
       let C = lines-closed ls W in
@@ -94,10 +95,12 @@ module _ (language : Language) (ls : Lines) (W : ResolvedLines ls) (contexts : R
   -- `type` and `prop` are equal to no expression
   pub sort-apart : {f g : Expr} → Basic f → Equal ls f g → ¬ Resolved ls ctx (length sc) g
   sort-apart {f} {g} b e w =
-      scoped-ends (VariableLine ls) (ConstantOf ls) (length sc) (e .common) b (ends-steps ls b itself (e .fromLeft)) (known-steps ls W (length sc) (e .fromRight) (resolved-known ls ctx (length sc) g w))
+      scoped-ends (VariableLine ls) (ConstantOf ls) (length sc) (e .common) b (ends-steps ls b itself (e .fromLeft))
+      (known-steps ls W (length sc) (e .fromRight) (resolved-known ls ctx (length sc) g w))
 
   -- whatever equal expression was taken, f's category reaches a function with that domain
-  pub second-agrees : {f d g d′ p q : Expr} → Neutral ls f → Liberal language ls ctx sc f d → Equal ls f g → Resolved ls ctx (length sc) g → Liberal language ls ctx sc g d′ → Supertype d′ → Reduces ls d′ (abs p q)
+  pub second-agrees : {f d g d′ p q : Expr} → Neutral ls f → Liberal language ls ctx sc f d → Equal ls f g → Resolved ls ctx (length sc) g → Liberal language ls ctx sc g d′ → Supertype d′
+      → Reduces ls d′ (abs p q)
       → Reached language ls d p q
   second-agrees {f} {d} {g} {d′} {p} {q} n hf e w hg y rd =
       serves-reached language ls C (equal-then-serves language ls C same (K .serves)) rd

@@ -11,13 +11,16 @@ use Rattle.aut68.specs.Bytes.{Bytes, wordProp}
 use Rattle.aut68.specs.Source.{Src, Srcs, Middle, SourceLine}
 use Rattle.aut68.specs.Expr.{Expr, Exprs}
 use Rattle.aut68.specs.Lines.{Line, Lines, Kind, abbreviation}
-use Rattle.aut68.specs.Rules.Grammar.{IsName, Expression, lone, call, application, abstraction, Arguments, last, another, IndicatorForm, empty, indicator, MiddleForm, WellFormed, line, Place, inner, ending, below}
+use Rattle.aut68.specs.Rules.Grammar.{IsName, Expression, lone, call, application, abstraction, Arguments, last, another, IndicatorForm, empty, indicator, MiddleForm}
+use Rattle.aut68.specs.Rules.Grammar.{WellFormed, line, Place, inner, ending, below}
 use Rattle.aut68.specs.Rules.Grammar
-use Rattle.aut68.specs.Rules.Names.{IsLine, Member, BoundAt, innermost, outside, Context, Indicates, anEarlier, Means, aBound, aVariable, aConstant, anApplication, anAbstraction, MeanAll, noMore, oneMore, MiddleMeans, aType, aProp}
+use Rattle.aut68.specs.Rules.Names.{IsLine, Member, BoundAt, innermost, outside, Context, Indicates, named, Means, aBound, aVariable, aConstant, anApplication}
+use Rattle.aut68.specs.Rules.Names.{anAbstraction, MeanAll, noMore, oneMore, MiddleMeans, aType, aProp}
 use Rattle.aut68.specs.Rules.Names
 use Rattle.aut68.specs.Rules.Derivation.{Derivation, Derived}
 use Rattle.aut68.specs.Rules.Derivation
 use Rattle.aut68.specs.Rules.WithoutProp.{NotBound, NotBoundIn, NotBoundMiddle, NoProp, BookWithoutProp, oneLine}
+use Rattle.lookup.specs.Identifiers.{denotes-named}
 use Rattle.lookup.specs.LineNumbers.{variable≢abbreviation, primitive≢abbreviation, line-snoc, no-line}
 use Rattle.lookup.specs.Contexts.{context-line}
 use Rattle.aut68.specs.Rules.Serving.{Supertype, IsType, theType, aSupertype}
@@ -129,7 +132,8 @@ module _ (ls : Lines) (vs : List ℕ) where
       let q : n ≡ m = cc in
       subst (λ z. Resolved ls vs 0 z) q (means-resolved h (form-at language f))
 
-  pub line-middle : {language : Language} {s : SourceLine} {bytes : Bytes} {k : Kind} → WellFormed language s bytes → MiddleMeans ls vs (s .middle) k → (m : Expr) → k ≡ abbreviation m → Resolved ls vs 0 m
+  pub line-middle : {language : Language} {s : SourceLine} {bytes : Bytes} {k : Kind} → WellFormed language s bytes → MiddleMeans ls vs (s .middle) k → (m : Expr) → k ≡ abbreviation m
+      → Resolved ls vs 0 m
   line-middle (line i t n u v f y c z) h m e = middle-resolved f h m e
 
   pub line-category : {language : Language} {s : SourceLine} {bytes : Bytes} {c : Expr} → WellFormed language s bytes → Means ls vs [] (s .category) c → InContext ls vs 0 c
@@ -157,7 +161,8 @@ ends-68 : (ls : Lines) (vs : List ℕ) {x : Src} {c : Expr} → (x ≡ Src.type)
 ends-68 ls vs (inl q) h y = subst (IsType aut68) (sym (means-type h q)) theType
 ends-68 ls vs {c = c} (inr p) h y = absurd (scoped-ends (VariableOf ls vs) (ConstantOf ls) 0 c (y .isBasic) (y .ends) (means-resolved ls vs h p))
 
-pub category-ends : (language : Language) (ls : Lines) (vs : List ℕ) {s : SourceLine} {bytes : Bytes} {c : Expr} → WellFormed language s bytes → Means ls vs [] (s .category) c → Supertype c → IsType language c
+pub category-ends : (language : Language) (ls : Lines) (vs : List ℕ) {s : SourceLine} {bytes : Bytes} {c : Expr} → WellFormed language s bytes → Means ls vs [] (s .category) c → Supertype c
+    → IsType language c
 category-ends aut68 ls vs (line i t n u v m y f z) h e = ends-68 ls vs (form-68 f) h e
 category-ends autQE ls vs w h e = aSupertype extended e
 
@@ -178,7 +183,8 @@ pub derivation-meets : {language : Language} {ls : Lines} {bytes : Bytes} {l : L
 derivation-meets {ls = ls} {l = l} d =
     record {
       contextIs = d .contextIs;
-      resolved = record { middle = line-middle ls (l .context) (d .form) (d .middleIs); category = line-category ls (l .context) (d .form) (d .categoryIs); context = context-resolved ls (d .contextIs) _ };
+      resolved =
+          record { middle = line-middle ls (l .context) (d .form) (d .middleIs); category = line-category ls (l .context) (d .form) (d .categoryIs); context = context-resolved ls (d .contextIs) _ };
       writtenFits = d .writtenFits;
       middleFits = d .middleFits;
     }
@@ -237,8 +243,8 @@ module _ (ls : Lines) (vs : List ℕ) (N : NoneIs ls) where
   -- what a name means is bound, or a line
   used-not : {bs : List Bytes} {w : Bytes} {xs : Srcs} {e : Expr} → Means ls vs bs (Src.name w xs) e → NotAmong bs → w ≢ wordProp
   used-not (aBound h) k = bound-not h k
-  used-not (aVariable f i e q m) k = λ p. N _ _ i (e ∙ p)
-  used-not (aConstant f i e q c h) k = λ p. N _ _ i (e ∙ p)
+  used-not (aVariable f i e q m) k = λ p. N _ _ i (denotes-named e i ∙ p)
+  used-not (aConstant f i e q c h) k = λ p. N _ _ i (denotes-named e i ∙ p)
 
   call-means : {bs : List Bytes} {w a b : Bytes} {xs : Srcs} {e : Expr} → Arguments aut68 xs a b → Means ls vs bs (Src.name w xs) e → (es : Exprs) × MeanAll ls vs bs xs es
   call-means (last h s) (aConstant {es = es} f i e q c k) = (es, k)
@@ -256,7 +262,8 @@ module _ (ls : Lines) (vs : List ℕ) (N : NoneIs ls) where
   mutual
     unfolding NotBound below
 
-    expression-QE : {place : Place} {x : Src} {a b : Bytes} → Expression aut68 place x a b → (bs : List Bytes) (e : Expr) → Means ls vs bs x e → NotAmong bs → NotBound wordProp x → Expression autQE place x a b
+    expression-QE : {place : Place} {x : Src} {a b : Bytes} → Expression aut68 place x a b → (bs : List Bytes) (e : Expr) → Means ls vs bs x e → NotAmong bs → NotBound wordProp x
+        → Expression autQE place x a b
     expression-QE (lone n s) bs e m k u = lone (name-QE n (used-not m k)) s
     expression-QE (call n s t h) bs e m k u =
         let (es, x) = call-means h m in
@@ -283,9 +290,10 @@ module _ (ls : Lines) (vs : List ℕ) (N : NoneIs ls) where
 
   indicator-QE : {o : Option Bytes} {a b : Bytes} {v : ℕ} → IndicatorForm aut68 o a b → Indicates ls o v → IndicatorForm autQE o a b
   indicator-QE empty h = empty
-  indicator-QE (indicator n s) (anEarlier i e) = indicator (name-QE n (λ p. N _ _ i (e ∙ p))) s
+  indicator-QE (indicator n s) (named e i) = indicator (name-QE n (λ p. N _ _ i (denotes-named e i ∙ p))) s
 
-  form-QE : {s : SourceLine} {bytes : Bytes} {v : ℕ} {k : Kind} {c : Expr} → WellFormed aut68 s bytes → Indicates ls (s .indicator) v → MiddleMeans ls vs (s .middle) k → Means ls vs [] (s .category) c → NoProp s
+  form-QE : {s : SourceLine} {bytes : Bytes} {v : ℕ} {k : Kind} {c : Expr} → WellFormed aut68 s bytes → Indicates ls (s .indicator) v → MiddleMeans ls vs (s .middle) k
+      → Means ls vs [] (s .category) c → NoProp s
       → WellFormed autQE s bytes
   form-QE (line i s n t r m u c z) hi hm hc without =
       line (indicator-QE i hi) s (name-QE n (without .identifier)) t r (middle-QE m hm (without .middle)) u (expression-QE c [] _ hc noName (without .category)) z
@@ -300,7 +308,7 @@ derivation-inside {ls} {l = l} R N d without =
       identifierIs = d .identifierIs;
       indicatorIs = d .indicatorIs;
       contextIs = d .contextIs;
-      unused = λ i. d .unused i;
+      unused = d .unused;
       middleIs = d .middleIs;
       categoryIs = d .categoryIs;
       writtenFits = written-inside ls (R .resolvedLines) (d .writtenFits) (category-known ls (l .context) (l .category) (M .resolved .category));

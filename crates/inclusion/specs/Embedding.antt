@@ -27,13 +27,15 @@ use Rattle.calculus.specs.Resolved.{KnownScope, KnownCategory, AllResolved, Res
 use Rattle.inclusion.specs.Endings.{ends-steps}
 use Rattle.inclusion.specs.Serves.{equal-serves, serves-then-equal, equal-then-serves, serves-reached}
 use Rattle.calculus.specs.HeadSearch.{head-reduces}
-use Rattle.inclusion.specs.Liberal.{Liberal, byVariable, byBound, byConstant, byApplication, byEqual, byAbstraction, Fits, noneFits, moreFits, InContext, NestedContext, known-liberal, resolved-liberal, in-context-steps, head-resolved}
+use Rattle.inclusion.specs.Liberal.{Liberal, byVariable, byBound, byConstant, byApplication, byEqual, byAbstraction, Fits, noneFits, moreFits, InContext}
+use Rattle.inclusion.specs.Liberal.{NestedContext, known-liberal, resolved-liberal, in-context-steps, head-resolved}
 use Rattle.calculus.specs.Actions.{isType-true}
 use Rattle.inclusion.specs.Unique.{known-type, isType-false}
 use Rattle.inclusion.specs.Neutral.{equal-alike, alike-unique}
 use Rattle.inclusion.specs.Keeping.{reduces-substitute, isType-served}
 use Rattle.inclusion.specs.HeadKept.{heads-kept, heads-steps, resolved-steps, normal-abs}
-use Rattle.inclusion.specs.Validity.{Sorted, Valid, SortedScope, oneBinding, RightLines, type-super, kept-sorted, sorted-resolved, valid-variable, valid-bound, valid-constant, valid-application, valid-second, valid-abstraction}
+use Rattle.inclusion.specs.Validity.{Sorted, Valid, SortedScope, oneBinding, RightLines, type-super, kept-sorted, sorted-resolved, valid-variable, valid-bound}
+use Rattle.inclusion.specs.Validity.{valid-constant, valid-application, valid-second, valid-abstraction}
 
 pub scope-known : (ls : Lines) (ctx : List ℕ) (sc : List Expr) → ResolvedScope ls ctx sc → KnownScope ls sc
 unfolding ScopedScope
@@ -59,7 +61,8 @@ pub record Embedded (language : Language) (ls : Lines) (ctx : List ℕ) (sc : Li
 
 module _ (language : Language) (ls : Lines) (W : ResolvedLines ls) (contexts : RightContexts ls) (right : RightLines language ls)
     (ctx : List ℕ) {n : ℕ} (C : Context ls n ctx) (N : NestedContext ls ctx) where
-  embed-application : {sc : List Expr} {a b c k p q r : Expr} → Embedded language ls ctx sc b c → Reduces ls c (abs p q) → Embedded language ls ctx sc a k → Serves language ls k p → r ≡ substitute a 0 q
+  embed-application : {sc : List Expr} {a b c k p q r : Expr} → Embedded language ls ctx sc b c → Reduces ls c (abs p q) → Embedded language ls ctx sc a k → Serves language ls k p
+      → r ≡ substitute a 0 q
       → Resolved ls ctx (length sc) a → Resolved ls ctx (length sc) b → ResolvedScope ls ctx sc → Embedded language ls ctx sc (app a b) r
   embed-application {sc} {a} {b} {c} {k} {p} {q} {r} B red A e i wa wb s = go (normal-abs language ls W contexts (right .middles) ctx (F .normal) (F .reaches))
     where
@@ -87,7 +90,8 @@ module _ (language : Language) (ls : Lines) (W : ResolvedLines ls) (contexts : R
           body-same e = cc
 
   embed-second : {sc : List Expr} {a b c f d k p q r : Expr} → Extended language → Embedded language ls ctx sc b c → HeadReduces ls c f → left (headStep ls f) ≡ none → shape f ≡ other
-      → (Resolved ls ctx (length sc) f → Embedded language ls ctx sc f d) → Category language ls sc f d → Reduces ls d (abs p q) → Embedded language ls ctx sc a k → Serves language ls k p → r ≡ app a f
+      → (Resolved ls ctx (length sc) f → Embedded language ls ctx sc f d) → Category language ls sc f d → Reduces ls d (abs p q) → Embedded language ls ctx sc a k → Serves language ls k p
+      → r ≡ app a f
       → Resolved ls ctx (length sc) a → Resolved ls ctx (length sc) b → ResolvedScope ls ctx sc → Embedded language ls ctx sc (app a b) r
   embed-second {sc} {a} {b} {c} {f} {d} {k} {p} {q} {r} x B red n o F′ hf rd A e i wa wb s = go (B .valid)
     where
@@ -122,7 +126,8 @@ module _ (language : Language) (ls : Lines) (W : ResolvedLines ls) (contexts : R
           let known = scope-known ls ctx sc s in
           let wc : Resolved ls ctx (length sc) (B .category) = sorted-resolved language ls W ctx (length sc) inside S in
           let wh : Resolved ls ctx (length sc) (F .form) = resolved-steps language ls W contexts M ctx (length sc) (heads-steps language ls W contexts M ctx (F .heads)) wc in
-          let T = kept-sorted language ls W ctx (heads-kept language ls W contexts M ctx (F .heads) sc (S .category) (S .has) (S .super) wc known) (S .super) (resolved-known ls ctx (length sc) (F .form) wh) known in
+          let T = kept-sorted language ls W ctx (heads-kept language ls W contexts M ctx (F .heads) sc (S .category) (S .has) (S .super) wc known) (S .super)
+          (resolved-known ls ctx (length sc) (F .form) wh) known in
           let same : Equal ls (T .category) (E .category) =
           alike-unique ls W language ctx (equal-alike ls W (not-abs (F .normal) (F .reaches)) neutral (equal-steps ls (F .reaches))) (T .has) (E .liberal) in
           let g = serves-reached language ls (lines-closed ls W) (equal-serves language ls same) (steps-trans ls (E .reaches) rd) in
@@ -155,7 +160,8 @@ module _ (language : Language) (ls : Lines) (W : ResolvedLines ls) (contexts : R
 
   sorted-domain : {sc : List Expr} {p k : Expr} → Embedded language ls ctx sc p k → IsType language k → Resolved ls ctx (length sc) p → ResolvedScope ls ctx sc → Sorted language ls ctx sc p
   sorted-domain {sc} {p} {k} P ip wp s =
-      let it = isType-served language ls W (length sc) (P .category) k (known-liberal language ls ctx W (P .liberal) (resolved-known ls ctx (length sc) p wp) (scope-known ls ctx sc s)) (equal-serves language ls (equal-steps ls (P .reaches))) ip in
+      let it = isType-served language ls W (length sc) (P .category) k (known-liberal language ls ctx W (P .liberal) (resolved-known ls ctx (length sc) p wp) (scope-known ls ctx sc s))
+      (equal-serves language ls (equal-steps ls (P .reaches))) ip in
       record { category = P .category; has = P .liberal; super = type-super it }
 
   mutual
@@ -186,7 +192,8 @@ module _ (language : Language) (ls : Lines) (W : ResolvedLines ls) (contexts : R
         let P = embed hp (w .0) s T in
         embed-abstraction P ip (embed ht (w .1) (w .0, s) (oneBinding (sorted-domain P ip (w .0) s) T)) i (w .0) (w .1) s
 
-    pub embed-fit : {sc : List Expr} {context vs : List ℕ} {earlier xs : Exprs} → Fit language ls sc context vs earlier xs → AllResolved ls ctx (length sc) xs → ResolvedScope ls ctx sc → SortedScope language ls ctx sc
+    pub embed-fit : {sc : List Expr} {context vs : List ℕ} {earlier xs : Exprs} → Fit language ls sc context vs earlier xs → AllResolved ls ctx (length sc) xs → ResolvedScope ls ctx sc
+        → SortedScope language ls ctx sc
         → Fits language ls ctx sc context vs earlier xs
     embed-fit allFit w s T = noneFits
     embed-fit (oneFits i h e f) w s T =

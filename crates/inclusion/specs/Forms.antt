@@ -3,9 +3,10 @@ use mathlib.Core.Path.{_≡_, refl, subst, sym, _∙_}
 use mathlib.Core.Logic.{_⊎_, inl, inr}
 use mathlib.Core.Bool.{Bool, true, false, _||_}
 use mathlib.Core.Option.{none}
-use Prim.Native.Nat.{ℕ}
+use Prim.Native.Nat.{ℕ, suc}
 use lib.Dec.{ltb}
 use Rattle.aut68.specs.Language.{Language, aut68, autQE, extended}
+use Rattle.aut68.specs.Sizes.{nesting}
 use Rattle.aut68.specs.Procedure.Answer.{done, ensure, Refusal, notType, tooLarge}
 use Rattle.aut68.specs.Expr.{Expr, type, prop, abs, isType, endsInType, endsInProp, Shape, shape, abstraction, other}
 use Rattle.aut68.specs.Lines.{Lines}
@@ -30,7 +31,7 @@ use Rattle.inclusion.specs.Comparing.{type-ends, prop-ends, ends-type, e
 pub opens-judged : (language : Language) (X : Type 0) (d b : ℕ) → Judged (λ _. Unit {0}) (Finding X) (opens language d b)
 unfolding opens ensure
 opens-judged aut68 X d b = isDone tt
-opens-judged autQE X d b = go (ltb d 33)
+opens-judged autQE X d b = go (ltb d (suc nesting))
   where
     go : (t : Bool) → Judged (λ _. Unit {0}) (Finding X) (ensure t tooLarge b)
     go true = isDone tt

@@ -33,17 +33,20 @@ use Rattle.inclusion.specs.Serves.{equal-serves, equal-then-serves, serv
 use Rattle.calculus.specs.Known.{known-category-steps, known-wanted}
 use Rattle.inclusion.specs.Knowing.{equal-ends}
 use Rattle.calculus.specs.HeadSearch.{head-reduces, Ended, isFunction, isOther, headForm-finds}
-use Rattle.inclusion.specs.Liberal.{Liberal, byVariable, byBound, byConstant, byApplication, byEqual, byAbstraction, Fits, noneFits, moreFits, InContext, NestedContext, known-liberal, resolved-liberal, in-context-steps}
+use Rattle.inclusion.specs.Liberal.{Liberal, byVariable, byBound, byConstant, byApplication, byEqual, byAbstraction, Fits, noneFits, moreFits, InContext}
+use Rattle.inclusion.specs.Liberal.{NestedContext, known-liberal, resolved-liberal, in-context-steps}
 use Rattle.inclusion.specs.Unique.{liberal-unique}
 use Rattle.inclusion.specs.Keeping.{isType-served}
 use Rattle.inclusion.specs.HeadKept.{heads-kept, resolved-steps}
-use Rattle.inclusion.specs.Validity.{Sorted, Valid, SortedScope, oneBinding, RightLines, type-super, kept-sorted, sorted-resolved, valid-variable, valid-bound, valid-constant, valid-application, valid-second, valid-abstraction}
+use Rattle.inclusion.specs.Validity.{Sorted, Valid, SortedScope, oneBinding, RightLines, type-super, kept-sorted, sorted-resolved, valid-variable, valid-bound}
+use Rattle.inclusion.specs.Validity.{valid-constant, valid-application, valid-second, valid-abstraction}
 use Rattle.inclusion.specs.Substituted.{all-snoc}
 use Rattle.inclusion.specs.Embedding.{scope-known}
 use Rattle.inclusion.specs.Comparing.{Categorical, compare-settles}
 use Rattle.calculus.specs.Actions.{judged-line, nth-domain, made-judged}
 use Rattle.inclusion.specs.Forms.{opens-judged, ensure-type, heads-to, ended-neutral, toFunction-finds}
-use Rattle.inclusion.specs.Denying.{constant-fits, function-category, argument-category, domain-category, body-category, first-fits, others-fit, no-argument, no-function, sort-apart, second-agrees}
+use Rattle.inclusion.specs.Denying.{constant-fits, function-category, argument-category, domain-category, body-category, first-fits, others-fit, no-argument}
+use Rattle.inclusion.specs.Denying.{no-function, sort-apart, second-agrees}
 
 sort-true : (e : Expr) → isSort e ≡ true → Basic e
 unfolding isSort
@@ -97,7 +100,8 @@ record Second (language : Language) (ls : Lines) (ctx : List ℕ) (sc : List Exp
 
 module _ (ls : Lines) (W : ResolvedLines ls) (contexts : RightContexts ls) (ctx : List ℕ) {n : ℕ} (C : Context ls n ctx) (N : NestedContext ls ctx) where
   second-finds : (language : Language) (right : RightLines language ls) (search : Search) → SearchFinds language ls ctx search
-      → (d : ℕ) (sc : List Expr) → ResolvedScope ls ctx sc → SortedScope language ls ctx sc → (a b c f : Expr) → Resolved ls ctx (length sc) b → IsFound language ls ctx sc b c → HeadReduces ls c f → Neutral ls f → (m : ℕ)
+      → (d : ℕ) (sc : List Expr) → ResolvedScope ls ctx sc → SortedScope language ls ctx sc → (a b c f : Expr) → Resolved ls ctx (length sc) b → IsFound language ls ctx sc b c
+      → HeadReduces ls c f → Neutral ls f → (m : ℕ)
       → Judged (Second language ls ctx sc f) (Finding ((r : Expr) → ¬ Liberal language ls ctx sc (app a b) r)) (secondChance language search d sc f m)
   unfolding secondChance
   second-finds aut68 right search sf d sc s T a b c f wb hc red nf m =
@@ -114,8 +118,11 @@ module _ (ls : Lines) (W : ResolvedLines ls) (contexts : RightContexts ls) (ctx 
       sorted q (inl y) = absurd (sort-false ls f nf q (y .isBasic) (ends-steps ls (y .isBasic) (y .ends) (head-reduces ls red)))
       sorted q (inr S) =
           let wc = sorted-resolved autQE ls W ctx (length sc) inside S in
-          let wf : Resolved ls ctx (length sc) f = resolved-steps autQE ls W contexts (right .middles) ctx (length sc) (head-reduces ls red) wc in
-          (kept-sorted autQE ls W ctx (heads-kept autQE ls W contexts (right .middles) ctx (heads-to ls red) sc (S .category) (S .has) (S .super) wc known) (S .super) (resolved-known ls ctx (length sc) f wf) known, wf)
+          let wf : Resolved ls ctx (length sc) f = resolved-steps autQE ls W contexts (right .middles) ctx (length sc) (head-reduces ls red) wc in (
+            kept-sorted autQE ls W ctx (heads-kept autQE ls W contexts (right .middles) ctx (heads-to ls red) sc (S .category) (S .has) (S .super) wc known) (S .super)
+                (resolved-known ls ctx (length sc) f wf) known,
+            wf,
+          )
 
       go : (t : Bool) → isSort f ≡ t
           → Judged (Second autQE ls ctx sc f) (Finding ((r : Expr) → ¬ Liberal autQE ls ctx sc (app a b) r))
@@ -147,7 +154,8 @@ module _ (language : Language) (ls : Lines) (W : ResolvedLines ls) (contexts : R
   categorical {sc} {e} h w s = record { depth = length sc; known = known-liberal language ls ctx W h (resolved-known ls ctx (length sc) e w) (scope-known ls ctx sc s) }
 
   -- `<A>B` where B's category has reached a function
-  first-chance : {sc : List Expr} {a b c p q : Expr} (cat : Act ℕ Expr) → ((m : ℕ) → Finds language ls ctx sc a (cat m)) → Resolved ls ctx (length sc) a → Resolved ls ctx (length sc) b → ResolvedScope ls ctx sc
+  first-chance : {sc : List Expr} {a b c p q : Expr} (cat : Act ℕ Expr) → ((m : ℕ) → Finds language ls ctx sc a (cat m)) → Resolved ls ctx (length sc) a → Resolved ls ctx (length sc) b
+      → ResolvedScope ls ctx sc
       → IsFound language ls ctx sc b c → HeadReduces ls c (abs p q) → (m : ℕ)
       → Finds language ls ctx sc (app a b) (andThen (λ k. λ m. andThen (λ _. made L (substitute a 0 q)) (compare language ls L k p m)) (cat m))
   unfolding ScopedCategory
@@ -169,10 +177,12 @@ module _ (language : Language) (ls : Lines) (W : ResolvedLines ls) (contexts : R
       large m₂))
 
   -- and where it has not
-  second-chance : (d : ℕ) {sc : List Expr} {a b c f : Expr} (cat : Act ℕ Expr) → ((m : ℕ) → Finds language ls ctx sc a (cat m)) → Resolved ls ctx (length sc) a → Resolved ls ctx (length sc) b → ResolvedScope ls ctx sc → SortedScope language ls ctx sc
+  second-chance : (d : ℕ) {sc : List Expr} {a b c f : Expr} (cat : Act ℕ Expr) → ((m : ℕ) → Finds language ls ctx sc a (cat m)) → Resolved ls ctx (length sc) a
+      → Resolved ls ctx (length sc) b → ResolvedScope ls ctx sc → SortedScope language ls ctx sc
       → IsFound language ls ctx sc b c → HeadReduces ls c f → shape f ≡ other → left (headStep ls f) ≡ none → (m : ℕ)
       → Finds language ls ctx sc (app a b)
-      (andThen (λ g. λ m. andThen (λ h. λ m. andThen (λ k. λ m. andThen (λ _. made L (app a f)) (compare language ls L k (h .domain) m)) (cat m)) (toFunction ls L g m)) (secondChance language search d sc f m))
+      (andThen (λ g. λ m. andThen (λ h. λ m. andThen (λ k. λ m. andThen (λ _. made L (app a f)) (compare language ls L k (h .domain) m)) (cat m)) (toFunction ls L g m))
+      (secondChance language search d sc f m))
   unfolding ScopedCategory
   second-chance d {sc} {a} {b} {c} {f} cat ih wa wb s T hc red o n m =
       let known = scope-known ls ctx sc s in
@@ -207,13 +217,15 @@ module _ (language : Language) (ls : Lines) (W : ResolvedLines ls) (contexts : R
       large m₄))))
 
   -- `<A>B`, once the head form of B's category is there
-  application-finds : (d : ℕ) {sc : List Expr} {a b c f : Expr} (cat : Act ℕ Expr) → ((m : ℕ) → Finds language ls ctx sc a (cat m)) → Resolved ls ctx (length sc) a → Resolved ls ctx (length sc) b → ResolvedScope ls ctx sc → SortedScope language ls ctx sc
+  application-finds : (d : ℕ) {sc : List Expr} {a b c f : Expr} (cat : Act ℕ Expr) → ((m : ℕ) → Finds language ls ctx sc a (cat m)) → Resolved ls ctx (length sc) a
+      → Resolved ls ctx (length sc) b → ResolvedScope ls ctx sc → SortedScope language ls ctx sc
       → IsFound language ls ctx sc b c → HeadReduces ls c f → Ended ls f → (t : Shape) → shape f ≡ t → (m : ℕ)
       → Finds language ls ctx sc (app a b)
       ((elim t as (λ _. Act ℕ Expr) [
         | abstraction p q ↦ (λ m. andThen (λ k. λ m. andThen (λ _. made L (substitute a 0 q)) (compare language ls L k p m)) (cat m))
         | other ↦ (λ m.
-            andThen (λ g. λ m. andThen (λ h. λ m. andThen (λ k. λ m. andThen (λ _. made L (app a f)) (compare language ls L k (h .domain) m)) (cat m)) (toFunction ls L g m)) (secondChance language search d sc f m))
+            andThen (λ g. λ m. andThen (λ h. λ m. andThen (λ k. λ m. andThen (λ _. made L (app a f)) (compare language ls L k (h .domain) m)) (cat m)) (toFunction ls L g m))
+            (secondChance language search d sc f m))
       ]) m)
   application-finds d {c = c} {f = f} cat ih wa wb s T hc red e (abstraction p q) i m = first-chance cat ih wa wb s hc (subst (λ z. HeadReduces ls c z) (shape-abs f i) red) m
   application-finds d cat ih wa wb s T hc red (isFunction j) other i m = absurd (function-not (sym j ∙ i))
@@ -226,14 +238,16 @@ module _ (language : Language) (ls : Lines) (W : ResolvedLines ls) (contexts : R
       function-not e = subst is e tt
   application-finds d cat ih wa wb s T hc red (isOther o n) other i m = second-chance d cat ih wa wb s T hc red o n m
 
-  no-domain : {sc : List Expr} {p t k : Expr} → Resolved ls ctx (length sc) p → ResolvedScope ls ctx sc → Liberal language ls ctx sc p k → ¬ IsType language k → (r : Expr) → ¬ Liberal language ls ctx sc (abs p t) r
+  no-domain : {sc : List Expr} {p t k : Expr} → Resolved ls ctx (length sc) p → ResolvedScope ls ctx sc → Liberal language ls ctx sc p k → ¬ IsType language k → (r : Expr)
+      → ¬ Liberal language ls ctx sc (abs p t) r
   no-domain {sc} {p} {t} {k} w s hk deny r h =
       let (k′, hk′, ip) = domain-category language ls ctx h in
       let known = scope-known ls ctx sc s in
       let kp = resolved-known ls ctx (length sc) p w in
       deny (isType-served language ls W (length sc) k k′ (known-liberal language ls ctx W hk kp known) (equal-serves language ls (liberal-unique ls W language ctx hk hk′ kp known)) ip)
 
-  no-fit : {sc : List Expr} {context us : List ℕ} {u : ℕ} {earlier xs : Exprs} {a k : Expr} {l : Line} → Resolved ls ctx (length sc) a → ResolvedScope ls ctx sc → IsLine ls u l → Liberal language ls ctx sc a k
+  no-fit : {sc : List Expr} {context us : List ℕ} {u : ℕ} {earlier xs : Exprs} {a k : Expr} {l : Line} → Resolved ls ctx (length sc) a → ResolvedScope ls ctx sc → IsLine ls u l
+      → Liberal language ls ctx sc a k
       → ¬ Serves language ls k (instantiate context earlier 0 (l .category)) → ¬ Fits language ls ctx sc context (u ∷ us) earlier (cons a xs)
   no-fit {sc} {a = a} w s i hk deny h =
       let (k′, hk′, e) = first-fits language ls ctx i h in
@@ -250,7 +264,13 @@ module _ (language : Language) (ls : Lines) (W : ResolvedLines ls) (contexts : R
         judged-then _ (opens-judged language _ d b) (λ r x. x) (λ _ b₁ _.
         judged-line _ b₁ (w .isLine)
         (made-judged L _
-        (record { strict = ofVariable (w .isLine) refl; liberal = byVariable (w .isLine) refl; valid = valid-variable language ls W contexts right ctx C w (w .isLine) (scope-known ls ctx sc s); byHeads = λ x. headsVariable (w .isLine) refl }) large b₁))
+        (record {
+          strict = ofVariable (w .isLine) refl;
+          liberal = byVariable (w .isLine) refl;
+          valid = valid-variable language ls W contexts right ctx C w (w .isLine)
+              (scope-known ls ctx sc s);
+          byHeads = λ x. headsVariable (w .isLine) refl;
+        }) large b₁))
     categoryAt-finds d sc (bound i) w s T b =
         judged-then _ (opens-judged language _ d b) (λ r x. x) (λ _ b₁ _.
         judged-then _ (nth-domain (λ _. ⊥) sc i w b₁) (λ r x. absurd x) (λ p b₂ h.
@@ -263,12 +283,19 @@ module _ (language : Language) (ls : Lines) (W : ResolvedLines ls) (contexts : R
         (finding-map (λ deny c h. deny (constant-fits language ls ctx i h)))
         (λ _ b₂ f.
         made-judged L _
-        (record { strict = ofConstant i (f .strict) refl; liberal = byConstant i (f .liberal) refl; valid = valid-constant language ls W contexts right ctx i (f .liberal) w (scope-known ls ctx sc s); byHeads = λ x. headsConstant i refl }) large b₂)))
+        (record {
+          strict = ofConstant i (f .strict) refl;
+          liberal = byConstant i (f .liberal) refl;
+          valid = valid-constant language ls W contexts right ctx i (f .liberal) w
+              (scope-known ls ctx sc s);
+          byHeads = λ x. headsConstant i refl;
+        }) large b₂)))
     categoryAt-finds d sc (app a b) w s T m =
         judged-then _ (opens-judged language _ d m) (λ r x. x) (λ _ m₁ _.
         judged-then _ (categoryAt-finds (suc d) sc b (w .1) s T m₁) (finding-map (λ deny r h. let (k, x) = function-category language ls ctx h in deny k x)) (λ c m₂ hc.
         judged-then _ (headForm-finds ls _ L c m₂) (λ r x. x) (λ f m₃ hf.
-        application-finds (suc (suc d)) (categoryAt language ls L search (suc d) sc a) (λ m. categoryAt-finds (suc d) sc a (w .0) s T m) (w .0) (w .1) s T hc (hf .heads) (hf .ended) (shape f) refl m₃)))
+        application-finds (suc (suc d)) (categoryAt language ls L search (suc d) sc a) (λ m. categoryAt-finds (suc d) sc a (w .0) s T m) (w .0) (w .1) s T hc (hf .heads) (hf .ended)
+        (shape f) refl m₃)))
     categoryAt-finds d sc (abs p t) w s T m =
         judged-then _ (opens-judged language _ d m) (λ r x. x) (λ _ m₁ _.
         judged-then _ (categoryAt-finds (suc d) sc p (w .0) s T m₁) (finding-map (λ deny r h. let (k, x, y) = domain-category language ls ctx h in deny k x)) (λ k m₂ hk.
@@ -298,9 +325,14 @@ module _ (language : Language) (ls : Lines) (W : ResolvedLines ls) (contexts : R
         judged-then _ (compare-settles ls language W L k c (categorical (hk .liberal) (w .0) s)
         (record { depth = length sc; known = subst (KnownCategory ls (length sc)) (sym q) (known-wanted ls W (length sc) context earlier i x) }) b₂)
         (finding-map (λ deny. no-fit (w .0) s i (hk .liberal) (λ e. deny (subst (λ z. Serves language ls k z) (sym q) e)))) (λ _ b₃ he.
-        judged-map (λ _ f. record { strict = oneFits i (hk .strict) (subst (λ z. Serves language ls k z) q he) (f .strict); liberal = moreFits i (hk .liberal) (subst (λ z. Serves language ls k z) q he) (f .liberal) })
+        judged-map (λ _ f. record {
+          strict = oneFits i (hk .strict) (subst (λ z. Serves language ls k z) q he) (f .strict);
+          liberal = moreFits i (hk .liberal)
+              (subst (λ z. Serves language ls k z) q he) (f .liberal);
+        })
         (finding-map (λ deny h. deny (others-fit language ls ctx h)))
-        (arguments-find d sc xs (w .1) s T us context (snoc earlier a) (all-snoc (VariableLine ls) (ConstantOf ls) (length sc) earlier a x (resolved-known ls ctx (length sc) a (w .0))) (omega arith) (λ y z. m y (there z)) b₃)))))
+        (arguments-find d sc xs (w .1) s T us context (snoc earlier a) (all-snoc (VariableLine ls) (ConstantOf ls) (length sc) earlier a x (resolved-known ls ctx (length sc) a (w .0)))
+        (omega arith) (λ y z. m y (there z)) b₃)))))
 
 module _ (language : Language) (ls : Lines) (W : ResolvedLines ls) (contexts : RightContexts ls) (right : RightLines language ls)
     (ctx : List ℕ) {n : ℕ} (C : Context ls n ctx) (N : NestedContext ls ctx) (L : ℕ) where

@@ -107,7 +107,8 @@ module _ (language : Language) (ls : Lines) (W : ResolvedLines ls) (contexts : R
 
   -- ---- head steps
 
-  function-ends : {sc : List Expr} (a : Expr) {b c p q : Expr} → Liberal language ls ctx sc b c → Reduces ls c (abs p q) → Supertype (substitute a 0 q) → Resolved ls ctx (length sc) a → Resolved ls ctx (length sc) b → KnownScope ls sc
+  function-ends : {sc : List Expr} (a : Expr) {b c p q : Expr} → Liberal language ls ctx sc b c → Reduces ls c (abs p q) → Supertype (substitute a 0 q) → Resolved ls ctx (length sc) a
+      → Resolved ls ctx (length sc) b → KnownScope ls sc
       → Supertype c
   unfolding ScopedCategory
   function-ends {sc} a {b} {c} {p} {q} hb red d wa wb s =

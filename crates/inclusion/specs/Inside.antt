@@ -12,7 +12,8 @@ use Rattle.aut68.specs.Substitution.{lift, substitute}
 use Rattle.aut68.specs.Lines.{Lines, Kind}
 use Rattle.aut68.specs.Rules.Steps.{Reduces}
 use Rattle.aut68.specs.Rules.Serving.{Basic, aType, aProp, Ends, itself, before, Supertype, Serves, IsType, theType, aSupertype}
-use Rattle.aut68.specs.Rules.Categories.{Category, ofVariable, ofBound, ofConstant, ofApplication, ofSecondChance, ofAbstraction, Fit, allFit, oneFits, writtenType, WrittenFits, isSupertype, hasType, MiddleFits, isEB, isPN, hasCategory}
+use Rattle.aut68.specs.Rules.Categories.{Category, ofVariable, ofBound, ofConstant, ofApplication, ofSecondChance, ofAbstraction, Fit, allFit, oneFits, writtenType}
+use Rattle.aut68.specs.Rules.Categories.{WrittenFits, isSupertype, hasType, MiddleFits, isEB, isPN, hasCategory}
 use Rattle.aut68.specs.Rules.Resolved.{Scoped, ConstantOf}
 use Rattle.calculus.specs.Equality.{equal-refl}
 use Rattle.calculus.specs.Scoped.{ScopedScope, ScopedCategory, category-cases, scoped-category, category-under, category-substitute, category-instantiate, scoped-arg}
@@ -93,7 +94,8 @@ module _ (ls : Lines) (W : ResolvedLines ls) where
         serves = serves-substitute autQE ls closed a (f .bodies);
       })
 
-  inside-abstraction : {sc : List Expr} {p t k c r : Expr} → Inside ls sc p k → IsType aut68 k → Inside ls (p ∷ sc) t c → r ≡ overBinding aut68 p c → Known ls (length sc) p → Known ls (suc (length sc)) t → KnownScope ls sc
+  inside-abstraction : {sc : List Expr} {p t k c r : Expr} → Inside ls sc p k → IsType aut68 k → Inside ls (p ∷ sc) t c → r ≡ overBinding aut68 p c → Known ls (length sc) p
+      → Known ls (suc (length sc)) t → KnownScope ls sc
       → Inside ls sc (abs p t) r
   unfolding ScopedScope overBinding
   inside-abstraction {sc} {p} {t} P ip T i wp wt s =
@@ -111,7 +113,8 @@ module _ (ls : Lines) (W : ResolvedLines ls) where
     inside (ofApplication hb red ha e i) w s = inside-application (inside hb (w .1) s) red (inside ha (w .0) s) e i
     inside (ofAbstraction hp ip ht i) w s = inside-abstraction (inside hp (w .0) s) ip (inside ht (w .1) (w .0, s)) i (w .0) (w .1) s
 
-    inside-fit : {sc : List Expr} {context vs : List ℕ} {earlier xs : Exprs} → Fit aut68 ls sc context vs earlier xs → AllKnown ls (length sc) xs → KnownScope ls sc → Fit autQE ls sc context vs earlier xs
+    inside-fit : {sc : List Expr} {context vs : List ℕ} {earlier xs : Exprs} → Fit aut68 ls sc context vs earlier xs → AllKnown ls (length sc) xs → KnownScope ls sc
+        → Fit autQE ls sc context vs earlier xs
     inside-fit allFit w s = allFit
     inside-fit (oneFits i h e f) w s =
         let A = inside h (w .0) s in

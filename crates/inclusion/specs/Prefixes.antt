@@ -48,7 +48,8 @@ split-last (w ∷ vs) u (x ∷ before) v more e = go (split-last vs u before v m
     go (inl h) = inl (ap (λ z. z ∷ vs) (ap head e) ∙ ap (λ z. x ∷ z) (h .0), h .1)
     go (inr h) = inr (h .0, ap (λ z. z ∷ vs) (ap head e) ∙ ap (λ z. x ∷ z) (h .1))
 
-pub context-before : {ls : Lines} {w : ℕ} {vs : List ℕ} → RightContexts ls → Context ls w vs → (before : List ℕ) (v : ℕ) (more : List ℕ) → vs ≡ before ++ (v ∷ more) → {l : Line} → IsLine ls v l → l .context ≡ before
+pub context-before : {ls : Lines} {w : ℕ} {vs : List ℕ} → RightContexts ls → Context ls w vs → (before : List ℕ) (v : ℕ) (more : List ℕ) → vs ≡ before ++ (v ∷ more) → {l : Line}
+    → IsLine ls v l → l .context ≡ before
 unfolding Split
 context-before R noContext before v more e i = absurd (not-empty before v more e)
 context-before {ls} R (within {v = u} {l = k} {vs = vs} j x h) before v more e {l} i = go (λ m q. context-before R h before v m q i) (split-last vs u before v more e)

@@ -49,7 +49,8 @@ over-domain autQE ls c e = equal-abs ls e (equal-refl ls c)
 module _ (language : Language) (ls : Lines) (W : ResolvedLines ls) (contexts : RightContexts ls) (right : RightMiddles language ls) (ctx : List ℕ) where
   -- ---- contraction
 
-  keep-second : {sc : List Expr} {a p t c f d k p′ q′ : Expr} → Extended language → Liberal language ls ctx sc (abs p t) c → Equal ls c f → Resolved ls ctx (length sc) f → Liberal language ls ctx sc f d → Supertype d → Reduces ls d (abs p′ q′)
+  keep-second : {sc : List Expr} {a p t c f d k p′ q′ : Expr} → Extended language → Liberal language ls ctx sc (abs p t) c → Equal ls c f → Resolved ls ctx (length sc) f
+      → Liberal language ls ctx sc f d → Supertype d → Reduces ls d (abs p′ q′)
       → Liberal language ls ctx sc a k → Serves language ls k p′ → Resolved ls ctx (length sc) a → Known ls (length sc) p → Resolved ls ctx (suc (length sc)) t → KnownScope ls sc
       → Kept language ls ctx sc (substitute a 0 t) (app a f)
   keep-second {sc} {a} {f = f} x (byAbstraction {p = p} {c = c} hp ip ht r) e wf hf y rd ha m wa wp wt s =
@@ -60,7 +61,8 @@ module _ (language : Language) (ls : Lines) (W : ResolvedLines ls) (contexts : R
       kept-equal language ls W ctx (liberal-substitute language ls W contexts ctx ha (serves-then-equal language ls closed m (equal-sym ls ep)) ht wa wp wt s)
       (equal-trans ls closed (app-reached ls W done) (equal-app ls (equal-refl ls a) (equal-sym ls ef)))
 
-  keep-beta : {sc : List Expr} {a p t r : Expr} → Liberal language ls ctx sc (app a (abs p t)) r → Resolved ls ctx (length sc) (app a (abs p t)) → KnownScope ls sc → Kept language ls ctx sc (substitute a 0 t) r
+  keep-beta : {sc : List Expr} {a p t r : Expr} → Liberal language ls ctx sc (app a (abs p t)) r → Resolved ls ctx (length sc) (app a (abs p t)) → KnownScope ls sc
+      → Kept language ls ctx sc (substitute a 0 t) r
   unfolding Scoped
   keep-beta {sc} {p = p} (byApplication hb red ha e q) w s =
       kept-path language ls W ctx (keep-function language ls W contexts right ctx hb red ha e (w .0) (resolved-known ls ctx (length sc) p (w .1 .0)) (w .1 .1) s) (sym q)
@@ -69,7 +71,8 @@ module _ (language : Language) (ls : Lines) (W : ResolvedLines ls) (contexts : R
 
   -- ---- inside arguments
 
-  fits-equals : {sc : List Expr} {context vs : List ℕ} {earlier earlier′ xs : Exprs} → Fits language ls ctx sc context vs earlier xs → Equals ls earlier earlier′ → Fits language ls ctx sc context vs earlier′ xs
+  fits-equals : {sc : List Expr} {context vs : List ℕ} {earlier earlier′ xs : Exprs} → Fits language ls ctx sc context vs earlier xs → Equals ls earlier earlier′
+      → Fits language ls ctx sc context vs earlier′ xs
   fits-equals noneFits h = noneFits
   fits-equals (moreFits {context = context} {l = l} {a = a} i k e f) h =
       moreFits i k (serves-then-equal language ls (lines-closed ls W) e (equal-instantiate ls (lines-closed ls W) context 0 (l .category) h))
@@ -81,7 +84,8 @@ module _ (language : Language) (ls : Lines) (W : ResolvedLines ls) (contexts : R
       moreFits i (g k h .has) (serves-trans language ls (lines-closed ls W) (g k h .serves) e) (fits-equals f (equals-snoc ls (equals-refl ls earlier) q))
 
   fits-rest : {sc : List Expr} {context vs : List ℕ} {earlier xs ys : Exprs} {a : Expr} → Fits language ls ctx sc context vs earlier (cons a xs)
-      → ((context vs : List ℕ) (earlier : Exprs) → Fits language ls ctx sc context vs earlier xs → Fits language ls ctx sc context vs earlier ys) → Fits language ls ctx sc context vs earlier (cons a ys)
+      → ((context vs : List ℕ) (earlier : Exprs) → Fits language ls ctx sc context vs earlier xs → Fits language ls ctx sc context vs earlier ys)
+      → Fits language ls ctx sc context vs earlier (cons a ys)
   fits-rest (moreFits i h e f) g = moreFits i h e (g _ _ _ f)
 
   keep-arguments : {sc : List Expr} {v : ℕ} {xs ys : Exprs} {r : Expr} → Liberal language ls ctx sc (const v xs) r → Equals ls xs ys
@@ -97,7 +101,8 @@ module _ (language : Language) (ls : Lines) (W : ResolvedLines ls) (contexts : R
 
   -- ---- inside applications and abstractions
 
-  keep-A : {sc : List Expr} {a a′ b r : Expr} → Liberal language ls ctx sc (app a b) r → Equal ls a a′ → ((k : Expr) → Liberal language ls ctx sc a k → Kept language ls ctx sc a′ k) → KnownScope ls sc → Kept language ls ctx sc (app a′ b) r
+  keep-A : {sc : List Expr} {a a′ b r : Expr} → Liberal language ls ctx sc (app a b) r → Equal ls a a′ → ((k : Expr) → Liberal language ls ctx sc a k → Kept language ls ctx sc a′ k)
+      → KnownScope ls sc → Kept language ls ctx sc (app a′ b) r
   keep-A (byApplication {k = k} {q = q} hb red ha e i) x g s =
       kept-equal language ls W ctx (kept-app language ls W ctx (kept-same language ls W ctx hb) red (g k ha) e)
       (equal-trans ls (lines-closed ls W) (equal-substitute ls (lines-closed ls W) 0 (equal-sym ls x) (equal-refl ls q)) (equal-path ls (sym i)))
@@ -105,7 +110,8 @@ module _ (language : Language) (ls : Lines) (W : ResolvedLines ls) (contexts : R
       kept-equal language ls W ctx (kept-second language ls W ctx z (kept-same language ls W ctx hb) e wf (kept-same language ls W ctx hf) y rd (g k ha) m s)
       (equal-trans ls (lines-closed ls W) (equal-app ls (equal-sym ls x) (equal-refl ls f)) (equal-path ls (sym i)))
 
-  keep-B : {sc : List Expr} {a b b′ r : Expr} → Liberal language ls ctx sc (app a b) r → ((c : Expr) → Liberal language ls ctx sc b c → Kept language ls ctx sc b′ c) → KnownScope ls sc → Kept language ls ctx sc (app a b′) r
+  keep-B : {sc : List Expr} {a b b′ r : Expr} → Liberal language ls ctx sc (app a b) r → ((c : Expr) → Liberal language ls ctx sc b c → Kept language ls ctx sc b′ c) → KnownScope ls sc
+      → Kept language ls ctx sc (app a b′) r
   keep-B (byApplication {c = c} hb red ha e i) g s = kept-path language ls W ctx (kept-app language ls W ctx (g c hb) red (kept-same language ls W ctx ha) e) (sym i)
   keep-B (byEqual {c = c} z hb e wf hf y rd ha m i) g s =
       kept-path language ls W ctx (kept-second language ls W ctx z (g c hb) e wf (kept-same language ls W ctx hf) y rd (kept-same language ls W ctx ha) m s) (sym i)
@@ -148,7 +154,8 @@ module _ (language : Language) (ls : Lines) (W : ResolvedLines ls) (contexts : R
         let kp = known-of (length sc) p (w .0) in
         keep-body h (λ k g. step-kept x (p ∷ sc) k g (w .1) (kp, s)) kp (known-of (suc (length sc)) t (w .1)) (known-of (suc (length sc)) t′ (after (suc (length sc)) x (w .1))) s
 
-    fits-kept : {xs ys : Exprs} → StepIn ls xs ys → (sc : List Expr) (context vs : List ℕ) (earlier : Exprs) → Fits language ls ctx sc context vs earlier xs → AllResolved ls ctx (length sc) xs → KnownScope ls sc
+    fits-kept : {xs ys : Exprs} → StepIn ls xs ys → (sc : List Expr) (context vs : List ℕ) (earlier : Exprs) → Fits language ls ctx sc context vs earlier xs
+        → AllResolved ls ctx (length sc) xs → KnownScope ls sc
         → Fits language ls ctx sc context vs earlier ys
     fits-kept (inFirst x) sc context vs earlier f w s = fits-first f (equal-step ls x) (λ k g. step-kept x sc k g (w .0) s)
     fits-kept (inRest x) sc context vs earlier f w s = fits-rest f (λ context vs earlier g. fits-kept x sc context vs earlier g (w .1) s)

@@ -106,7 +106,8 @@ module _ (language : Language) (ls : Lines) (W : ResolvedLines ls) (contexts : R
       below : {p : Expr} {i : ℕ} → DomainAt p [] i → ⊥
       below d = elim d [ ]
 
-  pub liberal-wider : {sc : List Expr} {e c : Expr} (narrow : List ℕ) → ((v : ℕ) → VariableOf ls narrow v → VariableOf ls ctx v) → Liberal language ls narrow [] e c → Resolved ls narrow 0 e → KnownScope ls sc
+  pub liberal-wider : {sc : List Expr} {e c : Expr} (narrow : List ℕ) → ((v : ℕ) → VariableOf ls narrow v → VariableOf ls ctx v) → Liberal language ls narrow [] e c → Resolved ls narrow 0 e
+      → KnownScope ls sc
       → Kept language ls ctx sc e c
   unfolding ScopedScope
   liberal-wider {sc} {e} {c} narrow f h w s =

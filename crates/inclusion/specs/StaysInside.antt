@@ -93,7 +93,8 @@ module _ (ls : Lines) (W : ResolvedLines ls) (contexts : RightContexts ls) (P : 
           let z : 0 ≤ length sc = omega arith in
           inr (scoped-under (VariableOf ls ctx) (ConstantOf ls) z (l .category) (scoped-map _ _ _ _ (λ u y. nested v u l x i y) (λ u k y. y) 0 (l .category) w))
 
-  plain-constant : (sc : List Expr) {v : ℕ} {l : Line} (xs : Exprs) → IsLine ls v l → Resolved ls ctx (length sc) (Expr.const v xs) → Plain ls ctx (length sc) (instantiate (l .context) xs 0 (l .category))
+  plain-constant : (sc : List Expr) {v : ℕ} {l : Line} (xs : Exprs) → IsLine ls v l → Resolved ls ctx (length sc) (Expr.const v xs)
+      → Plain ls ctx (length sc) (instantiate (l .context) xs 0 (l .category))
   unfolding Scoped instantiate
   plain-constant sc {v} {l} xs i w = go (P v l i)
     where

@@ -224,7 +224,8 @@ module _ (language : Language) (ls : Lines) (W : ResolvedLines ls) (ctx ctx′ :
           ht wp (known-of (suc (length sc)) t (w .1)) s)
           (ap (sub σ θ) (sym r))
 
-      pub fits-sub : {sc : List Expr} {context vs : List ℕ} {earlier xs : Exprs} → Fits language ls ctx sc context vs earlier xs → (sc′ : List Expr) (σ θ : ℕ → Expr) → Replaces language ls ctx ctx′ sc sc′ σ θ
+      pub fits-sub : {sc : List Expr} {context vs : List ℕ} {earlier xs : Exprs} → Fits language ls ctx sc context vs earlier xs → (sc′ : List Expr) (σ θ : ℕ → Expr)
+          → Replaces language ls ctx ctx′ sc sc′ σ θ
           → AllResolved ls ctx (length sc) xs → KnownScope ls sc → (w : ℕ) → Context ls w context → Placed context vs earlier → AllKnown ls (length sc) earlier
           → Fits language ls ctx′ sc′ context vs (subs σ θ earlier) (subs σ θ xs)
       fits-sub noneFits sc′ σ θ R x s w C P we = noneFits

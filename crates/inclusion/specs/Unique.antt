@@ -90,4 +90,5 @@ module _ (ls : Lines) (W : ResolvedLines ls) where
         rw (r, r′) (equal-app ls (equal-refl ls a) (equal-trans ls (lines-closed ls W) (equal-sym ls e) (equal-trans ls (lines-closed ls W) h e′)))
     liberal-unique {sc} (byAbstraction {p = p} {c = c} hp ip ht r) (byAbstraction {c = c′} hp′ ip′ ht′ r′) w s =
         rw (r, r′)
-        (over-equal language (suc (length sc)) p c c′ (known-liberal language ls ctx W ht (w .1) (w .0, s)) (known-liberal language ls ctx W ht′ (w .1) (w .0, s)) (liberal-unique ht ht′ (w .1) (w .0, s)))
+        (over-equal language (suc (length sc)) p c c′ (known-liberal language ls ctx W ht (w .1) (w .0, s)) (known-liberal language ls ctx W ht′ (w .1) (w .0, s))
+        (liberal-unique ht ht′ (w .1) (w .0, s)))

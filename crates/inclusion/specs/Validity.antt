@@ -117,11 +117,13 @@ module _ (language : Language) (ls : Lines) (W : ResolvedLines ls) (ctx : List �
   valid-bound {p} {sc} (outside {q = q} {i = i} d) (oneBinding h T) = subst (λ z. Sorted language ls ctx sc z) (raise-lift (suc i) p) (sorted-raise q (valid-bound d T))
 
   -- the category of an abstraction, from those of its domain and of its body's category
-  pub valid-abstraction : {sc : List Expr} {p k : Expr} (c : Expr) → Liberal language ls ctx sc p k → IsType language k → Valid language ls ctx (p ∷ sc) c → Valid language ls ctx sc (overBinding language p c)
+  pub valid-abstraction : {sc : List Expr} {p k : Expr} (c : Expr) → Liberal language ls ctx sc p k → IsType language k → Valid language ls ctx (p ∷ sc) c
+      → Valid language ls ctx sc (overBinding language p c)
   unfolding overBinding
   valid-abstraction {p = p} c hp ip (inl y) = inl (super-over language p y)
   valid-abstraction {sc} {p} c hp ip (inr h) =
-      inr (subst (λ z. Sorted language ls ctx sc z) (sym (over-sorted language)) (record { category = overBinding language p (h .category); has = byAbstraction hp ip (h .has) refl; super = super-over language p (h .super) }))
+      inr (subst (λ z. Sorted language ls ctx sc z) (sym (over-sorted language))
+      (record { category = overBinding language p (h .category); has = byAbstraction hp ip (h .has) refl; super = super-over language p (h .super) }))
     where
       over-sorted : (l : Language) → overBinding l p c ≡ abs p c
       over-sorted aut68 = go (isType c) refl
@@ -151,7 +153,8 @@ module _ (language : Language) (ls : Lines) (W : ResolvedLines ls) (contexts : R
       go (inl y) = inl y
       go (inr S) =
           let w = line-sorted i S in
-          inr (kept-sorted language ls W ctx (liberal-wider language ls W contexts ctx (l .context) wider (S .has) w s) (S .super) (under (l .category) (resolved-known ls (l .context) 0 (l .category) w)) s)
+          inr (kept-sorted language ls W ctx (liberal-wider language ls W contexts ctx (l .context) wider (S .has) w s) (S .super)
+          (under (l .category) (resolved-known ls (l .context) 0 (l .category) w)) s)
         where
           under : (e : Expr) → Known ls 0 e → Known ls (length sc) e
           under e w =
@@ -175,14 +178,16 @@ module _ (language : Language) (ls : Lines) (W : ResolvedLines ls) (contexts : R
           (scoped-instantiate (VariableLine ls) (ConstantOf ls) (VariableOf ls (l .context)) (length sc) (l .context) xs (l .category)
           (λ u x. scoped-arg (VariableLine ls) (ConstantOf ls) (length sc) xs (l .context) u all count (x .inContext)) wl) s)
 
-  pub valid-application : {sc : List Expr} {a c k p q : Expr} → Valid language ls ctx sc c → InContext ls ctx (length sc) c → HeadsTo ls c (abs p q) → Liberal language ls ctx sc a k → Serves language ls k p
+  pub valid-application : {sc : List Expr} {a c k p q : Expr} → Valid language ls ctx sc c → InContext ls ctx (length sc) c → HeadsTo ls c (abs p q) → Liberal language ls ctx sc a k
+      → Serves language ls k p
       → Resolved ls ctx (length sc) a → KnownScope ls sc → Valid language ls ctx sc (substitute a 0 q)
   unfolding Scoped
   valid-application {a = a} (inl y) w r ha e wa s = inl (super-substitute a (super-body (super-steps ls (heads-steps language ls W contexts (right .middles) ctx r) y)))
   valid-application {sc} {a} {c} {k} {p} {q} (inr h) w r ha e wa s =
       let wc : Resolved ls ctx (length sc) c = sorted-resolved language ls W ctx (length sc) w h in
       let wf : Resolved ls ctx (length sc) (abs p q) = resolved-steps language ls W contexts (right .middles) ctx (length sc) (heads-steps language ls W contexts (right .middles) ctx r) wc in
-      let S = kept-sorted language ls W ctx (heads-kept language ls W contexts (right .middles) ctx r sc (h .category) (h .has) (h .super) wc s) (h .super) (resolved-known ls ctx (length sc) (abs p q) wf) s in
+      let S = kept-sorted language ls W ctx (heads-kept language ls W contexts (right .middles) ctx r sc (h .category) (h .has) (h .super) wc s) (h .super)
+      (resolved-known ls ctx (length sc) (abs p q) wf) s in
       inr (go wf (S .has) (S .super))
     where
       go : {d : Expr} → Resolved ls ctx (length sc) (abs p q) → Liberal language ls ctx sc (abs p q) d → Supertype d → Sorted language ls ctx sc (substitute a 0 q)

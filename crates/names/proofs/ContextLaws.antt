@@ -9,11 +9,11 @@ use lib.Dec.{eqb}
 use lib.ListN.{getD}
 use borrow.Author.Tests.{eq-eqb, ne-eqb}
 use Rattle.aut68.specs.Bytes.{Bytes}
-use Rattle.aut68.specs.Lines.{Line, Lines, noLine}
+use Rattle.aut68.specs.Lines.{Line, Lines, noLine, rowCell}
 use Rattle.aut68.specs.Procedure.Resolve.{member, contextAt}
 use Rattle.aut68.specs.Rules.Names.{IsLine, Context, within}
+use Rattle.aut68.specs.Sizes.{atIndicator}
 use Rattle.lookup.specs.Contexts.{line-context, context-at}
-use Rattle.cells.specs.Cells.{rowCell}
 use Rattle.names.specs.Known.{Known}
 use Rattle.names.specs.Posts.{OnChain}
 use Rattle.names.proofs.FindLaws.{line-at}
@@ -72,13 +72,13 @@ module _ {ls : Lines} {book tb : List ℕ} {lines : ℕ} (k : Known ls book tb l
 -- following indicators from `last` came to c
 pub record ChainSoFar (tb : List ℕ) (last v c : ℕ) : Type 0 where
   pub within : c ≤ last
-  pub left : (ls : Lines) (book : Bytes) (lines : ℕ) → Known ls book tb lines → last ≤ lines → member v (contextAt ls last) ≡ member v (contextAt ls c)
+  pub rest : (ls : Lines) (book : Bytes) (lines : ℕ) → Known ls book tb lines → last ≤ lines → member v (contextAt ls last) ≡ member v (contextAt ls c)
 
 pub chain-start : {tb : List ℕ} {last v : ℕ} → ChainSoFar tb last v last
-chain-start = record { within = omega arith; left = λ ls book lines k b. refl }
+chain-start = record { within = omega arith; rest = λ ls book lines k b. refl }
 
 module _ {tb : List ℕ} {last v c : ℕ} (h : ChainSoFar tb last v c) where
-  module _ (l : v < c) {next : ℕ} (e : next ≡ rowCell tb c 2) where
+  module _ (l : v < c) {next : ℕ} (e : next ≡ rowCell tb c atIndicator) where
     next-is : (ls : Lines) (book : Bytes) (lines : ℕ) → Known ls book tb lines → last ≤ lines → (x : Line) × IsLine ls c x × (next ≡ x .indicator)
     next-is ls book lines k b =
         let (x, i) = lineAt k c (omega arith) (omega (arith, h .within)) in
@@ -88,9 +88,9 @@ module _ {tb : List ℕ} {last v c : ℕ} (h : ChainSoFar tb last v c) where
     chain-more b =
         record {
           within = omega (arith, h .within);
-          left = λ ls book lines k d.
+          rest = λ ls book lines k d.
               let (x, i, q) = next-is ls book lines k d in
-              h .left ls book lines k d
+              h .rest ls book lines k d
               ∙ member-step k v i
               ∙ ap₂ _||_ (ap (λ n. member v (contextAt ls n)) (sym q)) (ne-eqb v c (λ z. omega arith))
               ∙ or-none (member v (contextAt ls next));
@@ -109,11 +109,11 @@ module _ {tb : List ℕ} {last v c : ℕ} (h : ChainSoFar tb last v c) where
       record {
         is = λ ls book lines k d p.
             let (x, i) = lineAt k c (omega arith) (omega (arith, h .within)) in
-            sym (h .left ls book lines k d ∙ member-step k v i ∙ ap (λ t. member v (contextAt ls (x .indicator)) || t) (eq-eqb v c (sym e)) ∙ or-true (member v (contextAt ls (x .indicator))));
+            sym (h .rest ls book lines k d ∙ member-step k v i ∙ ap (λ t. member v (contextAt ls (x .indicator)) || t) (eq-eqb v c (sym e)) ∙ or-true (member v (contextAt ls (x .indicator))));
       }
 
   pub chain-passed : c ≤ v → c ≢ v → OnChain tb last v false
   chain-passed b n =
       record {
-        is = λ ls book lines k d p. sym (h .left ls book lines k d ∙ member-above k c v c (omega arith) (omega (arith, h .within)) (omega arith));
+        is = λ ls book lines k d p. sym (h .rest ls book lines k d ∙ member-above k c v c (omega arith) (omega (arith, h .within)) (omega arith));
       }

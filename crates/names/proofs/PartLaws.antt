@@ -8,16 +8,17 @@ use Prim.Native.Nat.{ℕ, zero, suc, _+_, _*_, _-_, _≤_, _<_}
 use native.Mathlib.Omega.{arith}
 use lib.Dec.{leb}
 use lib.ListN.{length, getD, take, drop, set}
-use lib.Seq.{slice, length-slice, getD-set-same, getD-set-other}
+use lib.Seq.{slice, slice-empty, length-slice, getD-set-same, getD-set-other}
 use borrow.Author.Tests.{le-leb, lt-leb, leb-true, leb-false}
+use Rattle.aut68.specs.Lines.{identifierPart, partOf, rowCell}
 use Rattle.aut68.specs.Bytes.{Bytes, sameBytes}
 use Rattle.aut68.specs.Procedure.Resolve.{placeFrom}
+use Rattle.aut68.specs.Sizes.{nesting, rowWidth, atNameStart, atNameLength}
 use Rattle.cells.specs.declared.scope.Scope.{Scope}
 use Rattle.cells.specs.Posts.{Nested, Bindable, Bound}
-use Rattle.cells.specs.Cells.{rowCell}
-use Rattle.cells.specs.RowLaws.{row-cell-is}
-use Rattle.symbols.proofs.Laws.{part, lengths-differ}
-use Rattle.names.specs.Known.{partOf, namesFrom, boundNames, identifierPart, identifierStart}
+use Rattle.symbols.proofs.SymbolLaws.{part}
+use Rattle.symbols.proofs.SameLaws.{lengths-differ}
+use Rattle.names.specs.Known.{namesFrom, boundNames, identifierStart, IdentifierPlaced}
 use Rattle.names.specs.Posts.{BindingFound}
 
 -- ---- parts
@@ -65,7 +66,7 @@ names-below s starts lens n x y (suc i) l =
 
 -- the names of a scope with one binding more
 pub bound-names : (s : Bytes) {scope inner : Scope} {start len : ℕ} → Bound scope start len inner → Bindable scope start len
-    → length (scope .starts) ≡ 32 → length (scope .lens) ≡ 32
+    → length (scope .starts) ≡ nesting → length (scope .lens) ≡ nesting
     → boundNames s inner ≡ partOf s start len ∷ boundNames s scope
 unfolding boundNames namesFrom
 bound-names s {scope} {inner} {start} {len} b f m n =
@@ -98,15 +99,15 @@ place-later k w x xs e = rw (e, placeFrom)
 
 -- the word is none of the bound names of the bindings from i on
 pub record BoundSoFar (s : Bytes) (scope : Scope) (word : Bytes) (i : ℕ) : Type 0 where
-  pub few : scope .bound ≤ 32
+  pub few : scope .bound ≤ nesting
   pub within : i ≤ scope .bound
-  pub left : 1 ≤ length word → placeFrom 0 word (boundNames s scope) ≡ placeFrom (scope .bound - i) word (namesFrom s (scope .starts) (scope .lens) i)
+  pub rest : 1 ≤ length word → placeFrom 0 word (boundNames s scope) ≡ placeFrom (scope .bound - i) word (namesFrom s (scope .starts) (scope .lens) i)
 
-pub bound-start : {s : Bytes} {scope : Scope} {word : Bytes} → scope .bound ≤ 32 → BoundSoFar s scope word (scope .bound)
+pub bound-start : {s : Bytes} {scope : Scope} {word : Bytes} → scope .bound ≤ nesting → BoundSoFar s scope word (scope .bound)
 unfolding boundNames
 bound-start {s} {scope} {word} l =
     let e : 0 ≡ scope .bound - scope .bound = omega arith in
-    record { few = l; within = omega arith; left = λ p. ap (λ k. placeFrom k word (namesFrom s (scope .starts) (scope .lens) (scope .bound))) e }
+    record { few = l; within = omega arith; rest = λ p. ap (λ k. placeFrom k word (namesFrom s (scope .starts) (scope .lens) (scope .bound))) e }
 
 -- binding i - 1 is n bytes from `first` on
 module _ {s : Bytes} {scope : Scope} {word : Bytes} {i n first : ℕ} (h : BoundSoFar s scope word i) (l : 0 < i)
@@ -124,8 +125,8 @@ module _ {s : Bytes} {scope : Scope} {word : Bytes} {i n first : ℕ} (h : Bound
       record {
         few = h .few;
         within = omega (arith, h .within);
-        left = λ p.
-            h .left p
+        rest = λ p.
+            h .rest p
             ∙ ap (placeFrom (scope .bound - i) word) entry
             ∙ place-later (scope .bound - i) word (partOf s first n) _ (e p)
             ∙ ap (λ k. placeFrom k word (namesFrom s (scope .starts) (scope .lens) (i - 1))) q;
@@ -136,75 +137,71 @@ module _ {s : Bytes} {scope : Scope} {word : Bytes} {i n first : ℕ} (h : Bound
       record {
         within = omega (arith, h .few);
         bound = λ d p q.
-            h .left p
+            h .rest p
             ∙ ap (placeFrom (scope .bound - i) word) entry
             ∙ place-here (scope .bound - i) word (partOf s first n) _ (e p)
             ∙ ap some (sym er);
         free = λ d p q. absurd (omega (arith, h .within, h .few));
       }
 
-pub bound-nowhere : {s : Bytes} {scope : Scope} {word : Bytes} {i : ℕ} → BoundSoFar s scope word i → i ≤ 0 → BindingFound s scope word 32
+pub bound-nowhere : {s : Bytes} {scope : Scope} {word : Bytes} {i : ℕ} → BoundSoFar s scope word i → i ≤ 0 → BindingFound s scope word nesting
 unfolding namesFrom placeFrom
 bound-nowhere {s} {scope} {word} {i} h l =
     let e : i ≡ 0 = omega arith in
     record {
       within = omega arith;
       bound = λ d p q. absurd (omega arith);
-      free = λ d p q. h .left p ∙ ap (λ k. placeFrom (scope .bound - i) word (namesFrom s (scope .starts) (scope .lens) k)) e;
+      free = λ d p q. h .rest p ∙ ap (λ k. placeFrom (scope .bound - i) word (namesFrom s (scope .starts) (scope .lens) k)) e;
     }
 
-pub bound-too-many : {s : Bytes} {scope : Scope} {word : Bytes} → 32 < scope .bound → BindingFound s scope word 32
+pub bound-too-many : {s : Bytes} {scope : Scope} {word : Bytes} → nesting < scope .bound → BindingFound s scope word nesting
 bound-too-many l = record { within = omega arith; bound = λ d p q. absurd (omega arith); free = λ d p q. absurd (omega arith) }
 
 -- ---- identifiers
 
 -- no identifier: the empty part at the book's start
-pub record NoIdentifier (book tb : List ℕ) (line : ℕ) : Type 0 where
-  pub start : identifierStart book tb line ≡ 0
-  pub bytes : identifierPart book tb line ≡ []
+not-placed : {book tb : List ℕ} {line : ℕ} → identifierStart book tb line ≡ 0 → identifierPart book tb line ≡ [] → IdentifierPlaced book tb line 0 0
+not-placed {book} s p =
+    record { startIs = sym s; lenIs = sym (ap length p); within = omega arith; bytesAre = slice-empty 0 book ∙ sym p }
 
-pub identifier-of-none : (book tb : List ℕ) (line : ℕ) → line ≡ 0 → NoIdentifier book tb line
+pub identifier-of-none : {book tb : List ℕ} {line : ℕ} → line ≡ 0 → IdentifierPlaced book tb line 0 0
 unfolding identifierPart identifierStart
-identifier-of-none book tb line e =
-    let l = lt-leb 1 line (omega arith) in record { start = rw (l, identifierStart); bytes = rw (l, identifierPart) }
+identifier-of-none {line = line} e =
+    let l = lt-leb 1 line (omega arith) in not-placed (rw (l, identifierStart)) (rw (l, identifierPart))
 
-pub identifier-not-whole : (book tb : List ℕ) (line : ℕ) → line ≢ 0 → length tb < 8 * line → NoIdentifier book tb line
-unfolding identifierPart identifierStart
-identifier-not-whole book tb line n l =
-    let p = le-leb 1 line (omega arith) in
-    let q = lt-leb (8 * line) (length tb) l in
-    record { start = rw (p, q, identifierStart); bytes = rw (p, q, identifierPart) }
+identifier-part : (book tb : List ℕ) (line : ℕ) {start len : ℕ} → line ≢ 0 → rowWidth * line ≤ length tb
+    → start ≡ rowCell tb line atNameStart → len ≡ rowCell tb line atNameLength → identifierPart book tb line ≡ partOf book start len
+unfolding identifierPart
+identifier-part book tb line n l es el =
+    rw (le-leb 1 line (omega arith), le-leb (rowWidth * line) (length tb) l, identifierPart) (λ j. partOf book (sym es j) (sym el j))
 
-module _ (book tb : List ℕ) {line start len : ℕ} (n : line ≢ 0) (l : 8 * line ≤ length tb)
-    (es : start ≡ getD tb (8 * line - 8) 0) (el : len ≡ getD tb (8 * line - 7) 0) where
-  first-cell : rowCell tb line 0 ≡ start
-  first-cell = let p : 8 * line + 0 - 8 ≡ 8 * line - 8 = omega arith in row-cell-is tb line 0 n ∙ ap (λ i. getD tb i 0) p ∙ sym es
-
-  second-cell : rowCell tb line 1 ≡ len
-  second-cell = let q : 8 * line + 1 - 8 ≡ 8 * line - 7 = omega arith in row-cell-is tb line 1 n ∙ ap (λ i. getD tb i 0) q ∙ sym el
-
-  identifier-part : identifierPart book tb line ≡ partOf book start len
-  unfolding identifierPart
-  identifier-part =
+module _ {book tb : List ℕ} {line : ℕ} (n : line ≢ 0) where
+  pub identifier-not-whole : length tb < rowWidth * line → IdentifierPlaced book tb line 0 0
+  unfolding identifierPart identifierStart
+  identifier-not-whole l =
       let p = le-leb 1 line (omega arith) in
-      let q = le-leb (8 * line) (length tb) l in
-      rw (p, q, identifierPart) (λ j. partOf book (first-cell j) (second-cell j))
+      let q = lt-leb (rowWidth * line) (length tb) l in
+      not-placed (rw (p, q, identifierStart)) (rw (p, q, identifierPart))
 
-  pub identifier-outside : length book < start + len → NoIdentifier book tb line
-  unfolding identifierStart
-  identifier-outside o =
-      let p = le-leb 1 line (omega arith) in
-      let q = le-leb (8 * line) (length tb) l in
-      let r = lt-leb (rowCell tb line 0 + rowCell tb line 1) (length book) (omega (arith, first-cell, second-cell)) in
-      record { start = rw (p, q, r, identifierStart); bytes = identifier-part ∙ part-outside book start len o }
+  module _ (l : rowWidth * line ≤ length tb) {start len : ℕ} (es : start ≡ rowCell tb line atNameStart) (el : len ≡ rowCell tb line atNameLength) where
+    pub identifier-outside : length book < start + len → IdentifierPlaced book tb line 0 0
+    unfolding identifierStart
+    identifier-outside o =
+        let p = le-leb 1 line (omega arith) in
+        let q = le-leb (rowWidth * line) (length tb) l in
+        let r = lt-leb (rowCell tb line atNameStart + rowCell tb line atNameLength) (length book) (omega arith) in
+        not-placed (rw (p, q, r, identifierStart)) (identifier-part book tb line n l es el ∙ part-outside book start len o)
 
-  pub identifier-starts : start + len ≤ length book → start ≡ identifierStart book tb line
-  unfolding identifierStart
-  identifier-starts i =
-      let p = le-leb 1 line (omega arith) in
-      let q = le-leb (8 * line) (length tb) l in
-      let r = le-leb (rowCell tb line 0 + rowCell tb line 1) (length book) (omega (arith, first-cell, second-cell)) in
-      rw (p, q, r, identifierStart) (sym first-cell)
-
-  pub identifier-inside : start + len ≤ length book → take (start + len - start) (drop start book) ≡ identifierPart book tb line
-  identifier-inside i = part book start (start + len) (omega arith) ∙ sym (identifier-part ∙ part-whole book start len i)
+    pub identifier-inside : start + len ≤ length book → IdentifierPlaced book tb line start len
+    unfolding identifierStart
+    identifier-inside i =
+        let p = le-leb 1 line (omega arith) in
+        let q = le-leb (rowWidth * line) (length tb) l in
+        let r = le-leb (rowCell tb line atNameStart + rowCell tb line atNameLength) (length book) (omega arith) in
+        let is : slice start (start + len) book ≡ identifierPart book tb line = sym (identifier-part book tb line n l es el ∙ part-whole book start len i) in
+        record {
+          startIs = rw (p, q, r, identifierStart) es;
+          lenIs = omega (arith, length-slice start (start + len) book i, ap length is);
+          within = i;
+          bytesAre = is;
+        }

@@ -9,14 +9,14 @@ use lib.Dec.{leb}
 use lib.ListN.{length, getD, set, length-set}
 use borrow.Author.Tests.{leb-true, leb-false}
 use Rattle.aut68.specs.Bytes.{Bytes, sameBytes}
-use Rattle.aut68.specs.Lines.{Line, Lines}
-use Rattle.aut68.specs.Rules.Names.{IsLine}
+use Rattle.aut68.specs.Lines.{Line, Lines, partOf, rowCell}
+use Rattle.aut68.specs.Rules.Names.{IsLine, anEarlier}
+use Rattle.aut68.specs.Sizes.{cellValues, atNameStart, atNameLength}
 use Rattle.lookup.specs.LineNumbers.{line-positive, line-within}
 use Rattle.lookup.specs.SameBytes.{same-true, same-false}
-use Rattle.lookup.specs.Identifiers.{NoneNamed, number-absent, number-complete}
-use Rattle.cells.specs.Cells.{rowCell}
-use Rattle.names.specs.Known.{Known, partOf}
-use Rattle.names.specs.Hints.{slotOf, nameAt, Hinted, put, full}
+use Rattle.lookup.specs.Identifiers.{NoneMeant, denotes-line, number-absent, number-complete}
+use Rattle.names.specs.Known.{Known}
+use Rattle.names.specs.Hints.{slotOf, nameAt, Hinted, put, full, probes}
 use Rattle.names.specs.Posts.{numberOr, LineSought, LineFound, LineIs, NotePost}
 use Rattle.names.proofs.PartLaws.{part-whole}
 use Rattle.names.proofs.ContextLaws.{lineAt}
@@ -27,7 +27,7 @@ module _ {book tb : List ℕ} {lines v : ℕ} {word : Bytes} where
   pub line-too-late : lines < v → LineIs book tb lines v word false
   line-too-late l = record { within = λ e. absurd (false≢true e); yes = λ p e. absurd (false≢true e); no = λ p e b. absurd (omega arith) }
 
-  pub line-compared : {first n : ℕ} {r : Bool} → v ≤ lines → first ≡ rowCell tb v 0 → n ≡ rowCell tb v 1
+  pub line-compared : {first n : ℕ} {r : Bool} → v ≤ lines → first ≡ rowCell tb v atNameStart → n ≡ rowCell tb v atNameLength
       → (1 ≤ length word → r ≡ sameBytes word (partOf book first n)) → LineIs book tb lines v word r
   unfolding nameAt
   line-compared {first} {n} {r} b ef en s =
@@ -43,14 +43,14 @@ module _ {book tb : List ℕ} {lines v : ℕ} {word : Bytes} where
 -- P holds of the first i cells from the word's slot on
 pub record Passed (P : ℕ → Type 0) (w : List ℕ) (word : Bytes) (first i : ℕ) : Type 0 where
   pub slot : first ≡ slotOf (length w) word
-  pub few : i ≤ 32
+  pub few : i ≤ probes
   pub each : (j : ℕ) → first ≤ j → j < first + i → P (getD w j 0)
 
 module _ {P : ℕ → Type 0} {w : List ℕ} {word : Bytes} {first : ℕ} where
   pub passed-start : first ≡ slotOf (length w) word → Passed P w word first 0
   passed-start e = record { slot = e; few = omega arith; each = λ j a b. absurd (omega arith) }
 
-  pub passed-more : {i : ℕ} → Passed P w word first i → i < 32 → P (getD w (first + i) 0) → Passed P w word first (i + 1)
+  pub passed-more : {i : ℕ} → Passed P w word first i → i < probes → P (getD w (first + i) 0) → Passed P w word first (i + 1)
   passed-more {i} h l p = record { slot = h .slot; few = omega arith; each = λ j a b. split j (leb (first + i) j) refl a b }
     where
       split : (j : ℕ) (t : Bool) → leb (first + i) j ≡ t → first ≤ j → j < first + (i + 1) → P (getD w j 0)
@@ -78,12 +78,13 @@ module _ {book tb : List ℕ} {lines : ℕ} {w : List ℕ} {word : Bytes} where
         within = c .within e;
         is = λ ls k g p.
             let (l, h) = lineAt k v (omega arith) (c .within e) in
-            sym (ap (numberOr 0) (number-complete (k .distinct) h (sym (name-known k h) ∙ c .yes p e)));
+            sym (ap (numberOr 0) (number-complete (k .distinct) (anEarlier h (sym (name-known k h) ∙ c .yes p e))));
       }
 
-  module _ {first i : ℕ} (h : Passed (OtherName book tb lines word) w word first i) (l : i < 32) (b : first + i < length w) (z : getD w (first + i) 0 ≡ 0) where
-    none-named : (ls : Lines) → Known ls book tb lines → Hinted book tb lines w → 1 ≤ length word → NoneNamed ls word
-    none-named ls k g p v x y q =
+  module _ {first i : ℕ} (h : Passed (OtherName book tb lines word) w word first i) (l : i < probes) (b : first + i < length w) (z : getD w (first + i) 0 ≡ 0) where
+    none-named : (ls : Lines) → Known ls book tb lines → Hinted book tb lines w → 1 ≤ length word → NoneMeant ls word
+    none-named ls k g p v o =
+        let (x, y, q) = denotes-line o in
         let m : nameAt book tb v ≡ word = name-known k y ∙ q in
         let s : slotOf (length w) (nameAt book tb v) ≡ first = ap (slotOf (length w)) m ∙ sym (h .slot) in
         let a = line-positive y in
@@ -112,10 +113,10 @@ pub note-start : {w : List ℕ} {word : Bytes} {first : ℕ} → first ≡ slotO
 note-start e = record { same = refl; passed = passed-start e }
 
 module _ {w₀ w : List ℕ} {word : Bytes} {first i : ℕ} (h : NoteSoFar w₀ w word first i) where
-  pub note-more : i < 32 → getD w (first + i) 0 ≢ 0 → NoteSoFar w₀ w word first (i + 1)
+  pub note-more : i < probes → getD w (first + i) 0 ≢ 0 → NoteSoFar w₀ w word first (i + 1)
   note-more l n = record { same = h .same; passed = passed-more (h .passed) l (λ z. n (ap (λ x. getD x (first + i) 0) (h .same) ∙ z)) }
 
-  pub noted-here : {v : ℕ} → i < 32 → first + i < length w → getD w (first + i) 0 ≡ 0 → NotePost w₀ (set w (first + i) v) word v
+  pub noted-here : {v : ℕ} → i < probes → first + i < length w → getD w (first + i) 0 ≡ 0 → NotePost w₀ (set w (first + i) v) word v
   noted-here {v} l b z =
       let s = h .passed .slot in
       let q : length w ≡ length w₀ = ap length (h .same) in
@@ -131,7 +132,7 @@ module _ {w₀ w : List ℕ} {word : Bytes} {first i : ℕ} (h : NoteSoFar w₀ 
       }
 
   -- no cell is left to a search
-  pub noted-nowhere : {v : ℕ} → ((j : ℕ) → j < first + 32 → j < length w → j < first + i) → NotePost w₀ w word v
+  pub noted-nowhere : {v : ℕ} → ((j : ℕ) → j < first + probes → j < length w → j < first + i) → NotePost w₀ w word v
   noted-nowhere n =
       let s = h .passed .slot in
       let q : length w ≡ length w₀ = ap length (h .same) in
@@ -141,5 +142,5 @@ module _ {w₀ w : List ℕ} {word : Bytes} {first i : ℕ} (h : NoteSoFar w₀ 
             full (λ j m. let f = m .from in let g = m .near in let i = m .inside in h .passed .each j (omega arith) (n j (omega arith) (omega arith))) (h .same);
       }
 
-pub not-noted : {w : List ℕ} {word : Bytes} {v : ℕ} → 65535 < v → NotePost w w word v
+pub not-noted : {w : List ℕ} {word : Bytes} {v : ℕ} → cellValues ≤ v → NotePost w w word v
 not-noted l = record { long = refl; is = λ y. absurd (omega arith) }

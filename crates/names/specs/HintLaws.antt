@@ -10,9 +10,11 @@ use lib.Dec.{leb}
 use lib.ListN.{length, getD, take, set, length-set}
 use lib.Seq.{getD-take, getD-set-same, getD-set-other}
 use borrow.Author.Tests.{le-leb, leb-true, leb-false}
+use Rattle.aut68.specs.Lines.{identifierPart}
 use Rattle.aut68.specs.Bytes.{Bytes}
-use Rattle.names.specs.Known.{identifierPart}
-use Rattle.names.specs.Hints.{mixed, hashOf, slots, slotOf, nameAt, HintBetween, Met, Hinted, Noted, put, full}
+use Rattle.aut68.specs.Sizes.{smallestLimit, rowWidth}
+use Rattle.cells.specs.Layout.{contextUnit, readerUnits}
+use Rattle.names.specs.Hints.{mixed, hashOf, slots, slotOf, nameAt, HintBetween, Met, Hinted, Noted, put, full, probes, mostSlots}
 
 -- ---- numbers
 
@@ -25,25 +27,25 @@ pub hash-below : (s : Bytes) → hashOf s < 4294967296
 unfolding hashOf
 hash-below s = mixed-below s _
 
-pub slots-most : (n : ℕ) → slots n ≤ 32768
+pub slots-most : (n : ℕ) → slots n ≤ mostSlots
 unfolding slots
-slots-most n = split (leb (n - n / 4) 32768) refl
+slots-most n = split (leb (n - n / 4) mostSlots) refl
   where
-    split : (t : Bool) → leb (n - n / 4) 32768 ≡ t → elim t as (λ _. ℕ) [ true ↦ n - n / 4 | false ↦ 32768 ] ≤ 32768
-    split true e = leb-true (n - n / 4) 32768 e
+    split : (t : Bool) → leb (n - n / 4) mostSlots ≡ t → elim t as (λ _. ℕ) [ true ↦ n - n / 4 | false ↦ mostSlots ] ≤ mostSlots
+    split true e = leb-true (n - n / 4) mostSlots e
     split false e = omega arith
 
 pub slots-inside : (n : ℕ) → slots n ≤ n - n / 4
 unfolding slots
-slots-inside n = split (leb (n - n / 4) 32768) refl
+slots-inside n = split (leb (n - n / 4) mostSlots) refl
   where
-    split : (t : Bool) → leb (n - n / 4) 32768 ≡ t → elim t as (λ _. ℕ) [ true ↦ n - n / 4 | false ↦ 32768 ] ≤ n - n / 4
+    split : (t : Bool) → leb (n - n / 4) mostSlots ≡ t → elim t as (λ _. ℕ) [ true ↦ n - n / 4 | false ↦ mostSlots ] ≤ n - n / 4
     split true e = omega arith
-    split false e = omega (arith, leb-false (n - n / 4) 32768 e)
+    split false e = omega (arith, leb-false (n - n / 4) mostSlots e)
 
 -- the cells of all searches in the store of the reader, below those that note a context
-pub slots-fit : (limit : ℕ) → 16 ≤ limit → slots (26 * limit) + 32 ≤ 23 * limit
-slots-fit limit l = omega (arith, slots-inside (26 * limit))
+pub slots-fit : (limit : ℕ) → smallestLimit ≤ limit → slots (readerUnits * limit) + probes ≤ contextUnit * limit
+slots-fit limit l = omega (arith, slots-inside (readerUnits * limit))
 
 -- where a product with a number below 2 to the 32 lands, scaled back
 scaled : (h m : ℕ) → h < 4294967296 → h * m / 4294967296 ≤ m
@@ -51,7 +53,7 @@ scaled h m b =
     let q : h * m ≤ 4294967296 * m = mul-le-mul-right m (omega arith) in
     omega arith
 
--- a search stays below cell slots n + 32
+-- a search stays below cell slots n + probes
 pub slot-below : (n : ℕ) (word : Bytes) → slotOf n word ≤ slots n
 unfolding slotOf
 slot-below n word = scaled (hashOf word) (slots n) (hash-below word)
@@ -59,9 +61,9 @@ slot-below n word = scaled (hashOf word) (slots n) (hash-below word)
 -- ---- names
 
 -- the name that a whole row points to is the identifier of its line
-pub identifier-name : (book tb : List ℕ) (v : ℕ) → 1 ≤ v → 8 * v ≤ length tb → identifierPart book tb v ≡ nameAt book tb v
+pub identifier-name : (book tb : List ℕ) (v : ℕ) → 1 ≤ v → rowWidth * v ≤ length tb → identifierPart book tb v ≡ nameAt book tb v
 unfolding identifierPart nameAt
-identifier-name book tb v p l = rw (le-leb 1 v p, le-leb (8 * v) (length tb) l, identifierPart)
+identifier-name book tb v p l = rw (le-leb 1 v p, le-leb (rowWidth * v) (length tb) l, identifierPart)
 
 -- ---- hints that stay
 
@@ -73,7 +75,7 @@ pub cell-same : (w w′ : List ℕ) (n i : ℕ) → take n w′ ≡ take n w →
 cell-same w w′ n i e h = sym (getD-take n w′ i 0 h) ∙ ap (λ x. getD x i 0) e ∙ getD-take n w i 0 h
 
 -- hints stay where the cells of all searches are as they were
-pub hinted-same : {book tb : List ℕ} {lines : ℕ} {w w′ : List ℕ} (n : ℕ) → slots (length w) + 32 ≤ n → length w′ ≡ length w → take n w′ ≡ take n w
+pub hinted-same : {book tb : List ℕ} {lines : ℕ} {w w′ : List ℕ} (n : ℕ) → slots (length w) + probes ≤ n → length w′ ≡ length w → take n w′ ≡ take n w
     → Hinted book tb lines w → Hinted book tb lines w′
 hinted-same {book} {tb} {lines} {w} {w′} n h l e H =
     record {

@@ -7,37 +7,41 @@ use mathlib.Core.List.{List}
 use Prim.Native.Nat.{ℕ, zero, suc, _+_, _-_, _*_, _/_, _%_, _≤_, _<_}
 use lib.Dec.{leb}
 use lib.ListN.{length, getD, set}
+use Rattle.aut68.specs.Lines.{partOf, rowCell}
 use Rattle.aut68.specs.Bytes.{Bytes}
-use Rattle.cells.specs.Cells.{rowCell}
-use Rattle.names.specs.Known.{partOf}
+use Rattle.aut68.specs.Sizes.{atNameStart, atNameLength}
+use Rattle.symbols.specs.Symbols.{fourAt}
 
 -- ---- the slot of a word
 
--- the four bytes of s from i on, as a number; 0 for those behind its end
-unfoldable pub chunkAt : Bytes → ℕ → ℕ
-chunkAt s i = getD s i 0 + 256 * getD s (i + 1) 0 + 65536 * getD s (i + 2) 0 + 16777216 * getD s (i + 3) 0
-
--- the first k chunks of s, mixed
+-- the first 4 × k bytes of s, mixed
 unfoldable pub mixed : Bytes → ℕ → ℕ
 mixed s zero = 0
-mixed s (suc k) = (mixed s k + chunkAt s (4 * k)) * 2146121005 % 4294967296
+mixed s (suc k) = (mixed s k + fourAt s (4 * k)) * 2146121005 % 4294967296
 
 unfoldable pub hashOf : Bytes → ℕ
 hashOf s = mixed s ((length s + 3) / 4)
 
--- a store of n cells has its slots in its first three quarters, and at most 32,768 of them
+-- a store of n cells has its slots in its first three quarters, and at most so many of them
+abbrev pub mostSlots : ℕ
+mostSlots = 32768
+
 unfoldable pub slots : ℕ → ℕ
-slots n = elim (leb (n - n / 4) 32768) [ true ↦ n - n / 4 | false ↦ 32768 ]
+slots n = elim (leb (n - n / 4) mostSlots) [ true ↦ n - n / 4 | false ↦ mostSlots ]
 
 -- where the search for a word begins
 unfoldable pub slotOf : ℕ → Bytes → ℕ
 slotOf n word = hashOf word * slots n / 4294967296
 
+-- how many cells a search looks at
+abbrev pub probes : ℕ
+probes = 32
+
 -- ---- what the hints say
 
 -- the identifier that the row of line v points to
 unfoldable pub nameAt : Bytes → List ℕ → ℕ → Bytes
-nameAt book tb v = partOf book (rowCell tb v 0) (rowCell tb v 1)
+nameAt book tb v = partOf book (rowCell tb v atNameStart) (rowCell tb v atNameLength)
 
 -- one of the cells from `from` on and before `to` has the number v
 pub record HintBetween (w : List ℕ) (from to v : ℕ) : Type 0 where
@@ -49,7 +53,7 @@ pub record HintBetween (w : List ℕ) (from to v : ℕ) : Type 0 where
 -- a search from `slot` on comes to the cell e
 pub record Met (slot n e : ℕ) : Type 0 where
   pub from : slot ≤ e
-  pub near : e < slot + 32
+  pub near : e < slot + probes
   pub inside : e < n
 
 -- The first `lines` lines are hinted: a search for the identifier of one of them meets its number ahead of an empty slot.

@@ -2,16 +2,16 @@
 use mathlib.Core.Path.{_≡_}
 use mathlib.Core.Bool.{true, false, _&&_}
 use mathlib.Core.List.{List, [], _∷_}
-use Prim.Native.Nat.{ℕ, zero, suc, _+_, _*_, _<_}
+use Prim.Native.Nat.{ℕ, zero, suc, _+_, _*_, _≤_, _<_}
 use lib.Dec.{leb}
 use lib.ListN.{length, getD}
 use denote.Ref.{RefT}
 use lib.Seq.{slice}
 use Rattle.aut68.specs.Bytes.{Bytes}
-use Rattle.aut68.specs.Lines.{Line, Lines}
+use Rattle.aut68.specs.Lines.{partOf, identifierPart, Line, Lines, rowCell}
 use Rattle.aut68.specs.Rules.Names.{IsLine, Context}
-use Rattle.lookup.specs.Identifiers.{DistinctNames}
-use Rattle.cells.specs.Cells.{rowCell}
+use Rattle.aut68.specs.Sizes.{lineLimit, rowWidth, atNameStart, atNameLength}
+use Rattle.lookup.specs.Identifiers.{Distinct}
 use Rattle.cells.specs.Rows.{Rows, Named}
 use Rattle.cells.specs.declared.scope.Scope.{Scope}
 
@@ -20,14 +20,10 @@ pub record Known (ls : Lines) (book tb : List ℕ) (lines : ℕ) : Type 0 where
   pub rows : Rows ls tb
   pub named : Named ls book tb
   pub count : length ls ≡ lines
-  pub few : lines < 8192
+  pub few : lines < lineLimit
   pub contexts : {v : ℕ} {l : Line} → IsLine ls v l → Context ls (l .indicator) (l .context)
-  pub distinct : DistinctNames ls
+  pub distinct : Distinct ls
   pub behind : {v : ℕ} {l : Line} → IsLine ls v l → l .indicator < v
-
--- the len bytes of s from `start` on; the empty part where they are not whole in s
-unfoldable pub partOf : Bytes → ℕ → ℕ → Bytes
-partOf s start len = elim (leb (start + len) (length s)) [ true ↦ slice start (start + len) s | false ↦ [] ]
 
 -- the bound names of the first n bindings, innermost first
 unfoldable pub namesFrom : Bytes → List ℕ → List ℕ → ℕ → List Bytes
@@ -43,13 +39,14 @@ pub record PartLent (s r : RefT (List ℕ)) (start : ℕ) (bytes : Bytes) : Type
   pub place : r .ptr .1 ≡ s .ptr .1 + start
   pub contents : r .now ≡ bytes
 
--- the identifier of a line: the empty part if the line is 0, its row is not whole in the table, or the row points outside
--- the book
-unfoldable pub identifierPart : Bytes → List ℕ → ℕ → Bytes
-identifierPart book tb line =
-    elim (leb 1 line && leb (8 * line) (length tb)) [ true ↦ partOf book (rowCell tb line 0) (rowCell tb line 1) | false ↦ [] ]
-
 -- where in the book that part starts; an empty part at the book's start where there is no identifier
 unfoldable pub identifierStart : Bytes → List ℕ → ℕ → ℕ
 identifierStart book tb line =
-    elim (leb 1 line && leb (8 * line) (length tb) && leb (rowCell tb line 0 + rowCell tb line 1) (length book)) [ true ↦ rowCell tb line 0 | false ↦ 0 ]
+    elim (leb 1 line && leb (rowWidth * line) (length tb) && leb (rowCell tb line atNameStart + rowCell tb line atNameLength) (length book)) [ true ↦ rowCell tb line atNameStart | false ↦ 0 ]
+
+-- the identifier of a line is the len bytes of the book from `start` on
+pub record IdentifierPlaced (book tb : List ℕ) (line start len : ℕ) : Type 0 where
+  pub startIs : start ≡ identifierStart book tb line
+  pub lenIs : len ≡ length (identifierPart book tb line)
+  pub within : start + len ≤ length book
+  pub bytesAre : slice start (start + len) book ≡ identifierPart book tb line

@@ -4,3 +4,4 @@ pub mod Hints
 pub mod HintLaws
 pub mod NotedContext
 pub mod Posts
+pub mod Meanings

@@ -1,36 +1,45 @@
 // Contexts: which earlier lines are variables of the line that is read. specs/NotedContext says what is noted of them.
+use cells::CONTEXT_UNIT;
+use cells::READER_UNITS;
 use cells::field;
+use constants::CELL_VALUES;
+use constants::CONTEXT_LENGTH;
+use constants::Cell;
+use constants::INDICATOR;
 ghost use Rattle.names.specs.Posts.{OnChain, InContext, VariablePut, ContextPost};
 
+// How many variables are noted.
+const NOTED_VARIABLES: usize = 64;
+
 // Notes line c as variable i of the context, if there is a cell for it.
-fn put_variable(w: &mut [u16], i: usize, c: usize)
+fn put_variable(w: &mut [Cell], i: usize, c: usize)
     ensures { λ _. ⌜ VariablePut (now (w .entry)) (now (w .exit)) i c ⌝ }
 {
-    if c > 65535 {
+    if c >= CELL_VALUES {
         return;
     }
-    let unit = w.len() / 26;
+    let unit = w.len() / READER_UNITS;
     if i >= unit {
         return;
     }
-    let at = 23 * unit + i;
-    w[at] = c as u16;
+    let at = CONTEXT_UNIT * unit + i;
+    w[at] = c as Cell;
 }
 
-// Notes the context that ends with line `last`, its last 64 variables: so a line costs no more in a long context. Each variable's
+// Notes the context that ends with line `last`, its last variables: so a line costs no more in a long context. Each variable's
 // number is the length of its own line's context.
-pub fn note_context(table: &[u32], w: &mut [u16], last: usize)
+pub fn note_context(table: &[u32], w: &mut [Cell], last: usize)
     ensures { λ _. ⌜ ContextPost (now (table .entry)) (now (w .entry)) (now (w .exit)) last ⌝ }
 {
-    let end = field(table, last, 3);
+    let end = field(table, last, CONTEXT_LENGTH);
     let mut c = last;
     while c > 0 {
-        let next = field(table, c, 2);
+        let next = field(table, c, INDICATOR);
         if next >= c {
             return;
         }
-        let i = field(table, c, 3);
-        if i + 64 <= end {
+        let i = field(table, c, CONTEXT_LENGTH);
+        if i + NOTED_VARIABLES <= end {
             return;
         }
         put_variable(w, i, c);
@@ -45,7 +54,7 @@ fn on_chain(table: &[u32], last: usize, v: usize) -> bool
 {
     let mut c = last;
     while c > v {
-        let next = field(table, c, 2);
+        let next = field(table, c, INDICATOR);
         if next >= c {
             return false;
         }
@@ -58,25 +67,25 @@ fn on_chain(table: &[u32], last: usize, v: usize) -> bool
 }
 
 // The same by what is noted of that context in w; along the chain for a variable that is not noted.
-pub fn in_context(table: &[u32], w: &[u16], last: usize, v: usize) -> bool
+pub fn in_context(table: &[u32], w: &[Cell], last: usize, v: usize) -> bool
     ensures { λ r. ⌜ InContext (now (table .entry)) (now (w .entry)) last v r ⌝ }
 {
     if last == 0 {
         return false;
     }
-    let i = field(table, v, 3);
-    let most = field(table, last, 3);
+    let i = field(table, v, CONTEXT_LENGTH);
+    let most = field(table, last, CONTEXT_LENGTH);
     if i > most {
         return false;
     }
-    if i + 64 <= most {
+    if i + NOTED_VARIABLES <= most {
         return on_chain(table, last, v);
     }
-    let unit = w.len() / 26;
+    let unit = w.len() / READER_UNITS;
     if i >= unit {
         return on_chain(table, last, v);
     }
-    let at = 23 * unit + i;
+    let at = CONTEXT_UNIT * unit + i;
     let noted = w[at] as usize;
     noted == v
 }

@@ -9,13 +9,15 @@ use lib.ListN.{length}
 use Rattle.aut68.specs.Language.{Language}
 use Rattle.aut68.specs.Bytes.{Bytes}
 use Rattle.aut68.specs.Lines.{Line, Lines}
-use Rattle.aut68.specs.Rules.Names.{IsLine}
+use Rattle.aut68.specs.Rules.Names.{IsLine, anEarlier}
+use Rattle.aut68.specs.Rules.Orders.{Names}
+use Rattle.lookup.specs.Identifiers.{denotes-line, unused-named}
 use Rattle.aut68.specs.Rules.Derivation.{Derivation, Derived, noMore, line}
 use Rattle.lookup.specs.LineNumbers.{line-append, line-seam, line-behind, line-cases, line-map, line-unmap}
 use Rattle.lookup.specs.DerivedBooks.{derived-append, derived-extends}
 use Rattle.orders.specs.Renumbering.{renumberLine}
 use Rattle.orders.specs.RenumberedSteps.{Renumbered}
-use Rattle.orders.specs.RenumberedNames.{derivation-renumbered}
+use Rattle.orders.specs.RenumberedNames.{KeptName, derivation-renumbered}
 use Rattle.orders.specs.Appending.{Any, line-any}
 
 module _ (ks : Lines) where
@@ -38,13 +40,16 @@ module _ (ks : Lines) where
 
   module _ {language : Language} {all : Lines} (apart : (u v : ℕ) (k l : Line) → IsLine ks u k → IsLine all v l → k .identifier ≢ l .identifier) where
     join-line : {ls : Lines} (rest : Lines) {b : Bytes} {l : Line} → all ≡ ls ++ (l ∷ []) ++ rest → Derivation language ls b l → Derivation language (joinedLines ls) b (renumberLine behindLines l)
-    join-line {ls} rest {b} {l} e d = derivation-renumbered (joined-renumbered ls) d (line-any l) fresh
+    join-line {ls} rest {b} {l} e d = derivation-renumbered ls (joinedLines ls) (joined-renumbered ls) d (line-any l) kept (unused-named fresh)
       where
+        kept : (w : Bytes) → Names (d .source) w → KeptName ls Any behindLines (joinedLines ls) w
+        kept w n v h s = let (k, i, e) = denotes-line h in anEarlier (joined-renumbered ls .placed tt i) e
+
         at : {v : ℕ} {k : Line} → IsLine ks v k ⊎ ((u : ℕ) × (v ≡ length ks + u) × IsLine (map (renumberLine behindLines) ls) u k) → k .identifier ≢ l .identifier
         at {v} {k} (inl i) q = apart v (suc (length ls)) k l i (rw e (line-append rest (line-seam ls l []))) q
         at (inr (u, x, i)) q =
             let (j, a, r) = line-unmap (renumberLine behindLines) ls i in
-            d .unused a (sym (ap (λ x. x .identifier) r) ∙ q)
+            d .unused .noLine (anEarlier a (sym (ap (λ x. x .identifier) r) ∙ q))
 
         fresh : (v : ℕ) (k : Line) → IsLine (joinedLines ls) v k → k .identifier ≢ l .identifier
         fresh v k i = at (line-cases ks i)

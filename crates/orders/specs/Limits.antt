@@ -3,26 +3,28 @@ use mathlib.Core.Path.{_≡_, refl, ap, sym, _∙_, subst}
 use mathlib.Core.Bool.{Bool, true, false}
 use mathlib.Core.Option.{Option, none, some}
 use mathlib.Core.List.{List, [], _∷_}
-use Prim.Native.Nat.{ℕ, zero, suc, _+_, _-_, _*_, _≤_}
+use Prim.Native.Nat.{ℕ, zero, suc, _+_, _-_, _≤_}
 use native.Mathlib.Omega.{arith}
 use lib.Dec.{leb, ltb, eqb}
 use lib.ListN.{length}
 use Rattle.aut68.specs.Language.{Language, aut68, autQE}
+use Rattle.aut68.specs.Sizes.{smallestLimit, nesting}
+use Rattle.aut68.specs.Stores.{Limits, Larger}
 use Rattle.aut68.specs.Bytes.{Bytes, lines}
 use Rattle.aut68.specs.Expr.{Expr, Exprs, type, prop, var, bound, const, app, abs, nil, cons, snoc, size, isSort, Shape, shape, abstraction, other, firstCell, parts, overBinding}
 use Rattle.aut68.specs.Substitution.{lift, substitute, instantiate}
-use Rattle.aut68.specs.Lines.{Lines, Kind, variable, primitive, abbreviation}
-use Rattle.aut68.specs.Procedure.Answer.{Answer, stop, Act, done, _>>=_, refuse, notFunction, notType, tooLarge}
+use Rattle.aut68.specs.Lines.{Line, Lines, Kind, variable, primitive, abbreviation}
+use Rattle.aut68.specs.Procedure.Answer.{Answer, stop, Act, aside, done, _>>=_, refuse, notFunction, notType, tooLarge}
 use Rattle.aut68.specs.Procedure.HeadStep.{headStep, left}
 use Rattle.aut68.specs.Procedure.Compare.{Next, same, byParts, stepLeft, stepRight, next, Comparison, each, hasSurplus, compareParts, sides, compareAt, compare}
 use Rattle.aut68.specs.Procedure.Category.{nth, theLine, made, headForm, toFunction, servesAsType, opens, Search, secondChance, categoryAt, arguments, searches, category}
 use Rattle.aut68.specs.Procedure.Category
-use Rattle.aut68.specs.Procedure.CheckLine.{checkDomain, checkSupertype, checkWritten, checkMiddle, checkLine}
-use Rattle.aut68.specs.Procedure.CheckLine.{Passed}
+use Rattle.aut68.specs.Procedure.CheckLine.{Passed, readLine, room, store, checkDomain, checkSupertype, checkWritten, checkMiddle, checkCategories, checkLine}
 use Rattle.aut68.specs.Procedure.Run.{Recorded, accepted, refusedAt, codeAt, lineAt, stepsAt, tableEnd, termsEnd, checkLines, nothing, run}
-use Rattle.aut68.specs.Demands.{Verdict, LargerLimits}
-use Rattle.lookup.specs.Runs.{Admitted, run-admitted, verdict-admitted, verdict-decides}
-use Rattle.lookup.specs.Answers.{Decides, large-undecided, spent-undecided, Kept, Grows, grows-give, grows-refuse, grows-then, grows-ensure, grows-size, grows-reading, grows-names, larger}
+use Rattle.aut68.specs.Demands.{Verdict, LargerLimits, Admitted}
+use Rattle.lookup.specs.Runs.{run-admitted, verdict-admitted, verdict-decides}
+use Rattle.lookup.specs.Answers.{Decides, large-undecided, spent-undecided, Kept, Grows, grows-give, grows-refuse, grows-then, grows-ensure, grows-size, grows-aside}
+use Rattle.lookup.specs.Answers.{stays-same, stays-then, stays-size, larger}
 
 -- ---- comparison
 
@@ -33,7 +35,8 @@ grows-each deeper deeper′ h nil (cons r rs) = grows-refuse
 grows-each deeper deeper′ h (cons l ls) nil = grows-refuse
 grows-each deeper deeper′ h (cons l ls) (cons r rs) = grows-then (h l r) (λ _. grows-each deeper deeper′ h ls rs)
 
-grows-parts : (language : Language) (deeper deeper′ : Comparison) → ((l r : Expr) → Grows (deeper l r) (deeper′ l r)) → (l r : Expr) → Grows (compareParts language deeper l r) (compareParts language deeper′ l r)
+grows-parts : (language : Language) (deeper deeper′ : Comparison) → ((l r : Expr) → Grows (deeper l r) (deeper′ l r)) → (l r : Expr)
+    → Grows (compareParts language deeper l r) (compareParts language deeper′ l r)
 unfolding compareParts
 grows-parts language deeper deeper′ h l r = sure (hasSurplus language l r) refl
   where
@@ -102,7 +105,7 @@ module _ (language : Language) (ls : Lines) {L L′ : ℕ} (hL : L ≤ L′) whe
 
   grows-compare : (l r : Expr) → Grows (compare language ls L l r) (compare language ls L′ l r)
   unfolding compare
-  grows-compare l r = grows-compareAt 32 l r
+  grows-compare l r = grows-compareAt nesting l r
 
   -- ---- categories
 
@@ -164,7 +167,7 @@ module _ (language : Language) (ls : Lines) {L L′ : ℕ} (hL : L ≤ L′) whe
     where
       go : (l : Language) → Grows (opens l d) (opens l d)
       go aut68 = grows-give
-      go autQE = grows-ensure (ltb d 33) tooLarge
+      go autQE = grows-ensure (ltb d (suc nesting)) tooLarge
 
   GrowsSearch : Search → Search → Type 0
   GrowsSearch search search′ = (d : ℕ) (sc : List Expr) (e : Expr) → Grows (search d sc e) (search′ d sc e)
@@ -174,7 +177,8 @@ module _ (language : Language) (ls : Lines) {L L′ : ℕ} (hL : L ≤ L′) whe
     unfolding secondChance GrowsSearch
     grows-second d sc f = go language
       where
-        at : (t : Bool) → Grows {A = Expr} (elim t as (λ _. Act ℕ Expr) [ true ↦ refuse notFunction | false ↦ search d sc f ]) (elim t as (λ _. Act ℕ Expr) [ true ↦ refuse notFunction | false ↦ search′ d sc f ])
+        at : (t : Bool) → Grows {A = Expr} (elim t as (λ _. Act ℕ Expr) [ true ↦ refuse notFunction | false ↦ search d sc f ])
+            (elim t as (λ _. Act ℕ Expr) [ true ↦ refuse notFunction | false ↦ search′ d sc f ])
         at true = grows-refuse
         at false = hs d sc f
 
@@ -227,7 +231,8 @@ module _ (language : Language) (ls : Lines) {L L′ : ℕ} (hL : L ≤ L′) whe
           grows-then (grows-at t (suc d) (p ∷ sc)) λ c.
           grows-made (overBinding language p c)
 
-      grows-arguments : (xs : Exprs) (d : ℕ) (sc : List Expr) (vs context : List ℕ) (earlier : Exprs) → Grows (arguments language ls L search d sc xs vs context earlier) (arguments language ls L′ search′ d sc xs vs context earlier)
+      grows-arguments : (xs : Exprs) (d : ℕ) (sc : List Expr) (vs context : List ℕ) (earlier : Exprs)
+          → Grows (arguments language ls L search d sc xs vs context earlier) (arguments language ls L′ search′ d sc xs vs context earlier)
       grows-arguments nil d sc [] context earlier = grows-give
       grows-arguments nil d sc (v ∷ vs) context earlier = grows-refuse
       grows-arguments (cons a xs) d sc [] context earlier = grows-refuse
@@ -277,69 +282,75 @@ module _ (language : Language) (ls : Lines) {L L′ : ℕ} (hL : L ≤ L′) whe
   grows-middle primitive c = grows-give
   grows-middle (abbreviation m) c = grows-then (grows-category 1 [] m) (λ k. grows-compare k c)
 
-  pub grows-line : (table terms : ℕ) (bytes : Bytes) → Grows (checkLine language ls L table terms bytes) (checkLine language ls L′ table terms bytes)
-  unfolding checkLine
-  grows-line table terms bytes =
-      grows-then (grows-reading _) λ r.
-      grows-then (grows-names _) λ v.
-      grows-then (grows-ensure _ _) λ _.
-      grows-then (grows-size hL _) λ _.
-      grows-then (grows-size hL _) λ _.
-      grows-then (grows-names _) λ k.
-      grows-then (grows-names _) λ c.
-      grows-then (grows-ensure _ _) λ _.
-      grows-then (grows-written c) λ _.
-      grows-then (grows-middle k c) λ _.
-      grows-give
+  pub grows-read : (bytes : Bytes) → Grows (aside (readLine language ls L bytes tt)) (aside (readLine language ls L′ bytes tt))
+  unfolding readLine
+  grows-read bytes =
+      grows-aside
+      (stays-then stays-same λ r _.
+      stays-then stays-same λ v _.
+      stays-then stays-same λ _ _.
+      stays-then (stays-size hL _ _) λ _ _.
+      stays-then (stays-size hL _ _) λ _ _.
+      stays-same)
+
+  pub grows-categories : (l : Line) → Grows (checkCategories language ls L l) (checkCategories language ls L′ l)
+  unfolding checkCategories
+  grows-categories l = grows-then (grows-written (l .category)) (λ _. grows-middle (l .kind) (l .category))
+
+-- a line, the table and the shelf being as long
+grows-line : (language : Language) (ls : Lines) (m m′ : Limits) → Larger m m′ → (bytes : Bytes) → Grows (checkLine language ls m bytes) (checkLine language ls m′ bytes)
+unfolding checkLine store room
+grows-line language ls m m′ h bytes =
+    rw (h .sameTable, h .sameTerms)
+    (grows-then (grows-read language ls (h .limit) bytes) λ p.
+    grows-then (grows-ensure _ _) λ _.
+    grows-then (grows-categories language ls (h .limit) (p .line)) λ _.
+    grows-give)
 
 module _ (language : Language) where
   -- ---- books
 
-  module _ {L L′ : ℕ} (hL : L ≤ L′) (N N′ d : ℕ) (hN : N′ ≡ N + d) (table terms : ℕ) where
+  module _ {m m′ : Limits} (h : Larger m m′) (d : ℕ) (more : m′ .budget ≡ m .budget + d) where
     lines-same : (pieces : List Bytes) (k : Recorded) (at b c : ℕ) → c ≡ b + d
-        → Verdict (checkLines language N L table terms k at b pieces)
-        → checkLines language N′ L′ table terms k at c pieces ≡ checkLines language N L table terms k at b pieces
+        → Verdict (checkLines language m k at b pieces)
+        → checkLines language m′ k at c pieces ≡ checkLines language m k at b pieces
     unfolding checkLines
-    lines-same [] k at b c e v = let q : N′ - c ≡ N - b = omega arith in ap (λ n. accepted n k) q
-    lines-same (bytes ∷ more) k at b c e v =
-        go (checkLine language (k .recorded) L table terms bytes b) refl ((grows-line language (k .recorded) hL table terms bytes) .kept b c d e) v
-        (lines-same more)
+    lines-same [] k at b c e v = let q : m′ .budget - c ≡ m .budget - b = omega arith in ap (λ n. accepted n k) q
+    lines-same (bytes ∷ rest) k at b c e v =
+        go (checkLine language (k .recorded) m bytes b) refl ((grows-line language (k .recorded) m m′ h bytes) .kept b c d e) v
+        (lines-same rest)
       where
-        go : (x : Answer ℕ Passed) → checkLine language (k .recorded) L table terms bytes b ≡ x
-            → Kept d x (checkLine language (k .recorded) L′ table terms bytes c)
-            → Verdict (checkLines language N L table terms k at b (bytes ∷ more))
-            → ((k : Recorded) (at b c : ℕ) → c ≡ b + d → Verdict (checkLines language N L table terms k at b more) → checkLines language N′ L′ table terms k at c more ≡ checkLines language N L table terms k at b more)
-            → checkLines language N′ L′ table terms k at c (bytes ∷ more) ≡ checkLines language N L table terms k at b (bytes ∷ more)
+        go : (x : Answer ℕ Passed) → checkLine language (k .recorded) m bytes b ≡ x
+            → Kept d x (checkLine language (k .recorded) m′ bytes c)
+            → Verdict (checkLines language m k at b (bytes ∷ rest))
+            → ((k : Recorded) (at b c : ℕ) → c ≡ b + d → Verdict (checkLines language m k at b rest) → checkLines language m′ k at c rest ≡ checkLines language m k at b rest)
+            → checkLines language m′ k at c (bytes ∷ rest) ≡ checkLines language m k at b (bytes ∷ rest)
         go (done p b′) q h v ih = rw (q, h, checkLines) (ih _ _ b′ (b′ + d) refl (rw (q, checkLines) at v))
         go (stop r b′) q h v ih =
             let w : Decides r = verdict-decides r _ _ _ (rw (q, checkLines) at v) in
-            let n : N′ - (b′ + d) ≡ N - b′ = omega arith in
+            let n : m′ .budget - (b′ + d) ≡ m .budget - b′ = omega arith in
             rw (q, h w, checkLines) (ap (λ n. refusedAt r (suc (length (k .recorded))) n k) n)
 
-  -- a verdict is the same ending, budget and limit being larger
-  pub same-ending : (book : Bytes) (N L N′ L′ work work′ table terms : ℕ)
-      → N ≤ N′
-      → L ≤ L′ → L′ ≤ 4096 → 128 * L′ ≤ work′
-      → Verdict (run language book N L table terms work)
-      → run language book N′ L′ table terms work′ ≡ run language book N L table terms work
-  same-ending book N L N′ L′ work work′ table terms hN hL hM hW v =
-      let a = verdict-admitted language book N L table terms work v in
-      let l : 16 ≤ L′ = (let p = a .atLeast in omega arith) in
-      let a′ : Admitted language book L′ work′ = record { atLeast = l; atMost = hM; enough = hW; short = a .short } in
-      let e = run-admitted language book N L table terms work a in
-      let k : N′ ≡ N + (N′ - N) = omega arith in
-      run-admitted language book N′ L′ table terms work′ a′
-      ∙ lines-same hL N N′ (N′ - N) k table terms (lines book) nothing 0 N N′ k (subst Verdict e v)
+  -- a verdict is the same ending under larger limits
+  pub same-ending : (book : Bytes) (m m′ : Limits) → Larger m m′ → Verdict (run language book m) → run language book m′ ≡ run language book m
+  same-ending book m m′ h v =
+      let a = verdict-admitted language book m v in
+      let l : smallestLimit ≤ m′ .limit = (let p = a .atLeast in let q = h .limit in omega arith) in
+      let a′ : Admitted language book m′ = record { atLeast = l; atMost = h .permitted; enough = h .enough; short = a .short } in
+      let e = run-admitted language book m a in
+      let k : m′ .budget ≡ m .budget + (m′ .budget - m .budget) = (let n = h .budget in omega arith) in
+      run-admitted language book m′ a′
+      ∙ lines-same h (m′ .budget - m .budget) k (lines book) nothing 0 (m .budget) (m′ .budget) k (subst Verdict e v)
       ∙ sym e
 
   pub larger-limits : LargerLimits language
   unfolding LargerLimits
-  larger-limits book N L N′ L′ work work′ table terms hN hL hM hW v =
-      let e = same-ending book N L N′ L′ work work′ (length table) (length terms) (omega arith) hL hM hW v in
+  larger-limits book m m′ s h v =
+      let e = same-ending book m m′ h v in
       record {
         code = ap codeAt e;
         line = ap lineAt e;
         steps = ap stepsAt e;
-        tableCells = ap (λ x. tableEnd x table) e;
-        termsCells = ap (λ x. termsEnd x terms) e;
+        tableCells = ap (λ x. tableEnd x (s .table)) e;
+        termsCells = ap (λ x. termsEnd x (s .terms)) e;
       }

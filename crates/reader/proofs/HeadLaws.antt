@@ -15,7 +15,7 @@ use Rattle.aut68.specs.Procedure.Answer.{Answer, done, stop, andThen, malformed
 use Rattle.aut68.specs.Procedure.Parse.{Read, spaces, starts, byte, aName, anIndicator, aLine, bytesLeft}
 use Rattle.kinds.specs.Kinds.{KindsTable, kindOf, placeOr0, kind-of-name, name-of-kind, one-of-kind}
 use Rattle.symbols.specs.Symbols.{firstKind, PastSpaces, KindAt, PastSymbol, NameAt}
-use Rattle.symbols.proofs.Laws.{step, byte-here, byte-missing, byte-end}
+use Rattle.symbols.proofs.SymbolLaws.{step, byte-here, byte-missing, byte-end}
 use Rattle.reader.specs.declared.heading.Prefix.{Prefix}
 use Rattle.reader.specs.declared.heading.Head.{Head}
 use Rattle.reader.specs.ReadLine.{afterHeading, nameOr}

@@ -3,5 +3,7 @@ pub mod LineEndLaws
 pub mod HeadLaws
 pub mod IndicatorLaws
 pub mod EndingLaws
+pub mod MiddleLaws
 pub mod BodyLaws
+pub mod StepLaws
 pub mod LineLaws

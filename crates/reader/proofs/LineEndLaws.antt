@@ -8,8 +8,8 @@ use lib.ListN.{length, getD, drop, take, length-drop, length-take}
 use lib.Seq.{take-suc, take-add, getD-take, getD-drop, drop-drop}
 use borrow.Author.Tests.{ne-eqb}
 use Rattle.aut68.specs.Bytes.{Bytes, onto, lines}
-use Rattle.symbols.proofs.Laws.{step, ended}
-use Rattle.reader.specs.Posts.{NoEnd, LineEnd}
+use Rattle.symbols.proofs.SymbolLaws.{step, ended}
+use Rattle.reader.specs.Posts.{NoEnd, LineEnd, stride}
 
 -- bytes without byte 10, in front of lines
 pub ontoAll : Bytes → List Bytes → List Bytes
@@ -48,13 +48,13 @@ no-lines = refl
 pub record NoEndSoFar (book : Bytes) (at i : ℕ) : Type 0 where
   pub from : at ≤ i
   pub within : at ≤ length book → i ≤ length book
-  pub left : lines (drop at book) ≡ ontoAll (take (i - at) (drop at book)) (lines (drop i book))
+  pub rest : lines (drop at book) ≡ ontoAll (take (i - at) (drop at book)) (lines (drop i book))
 
 pub no-end-start : (book : Bytes) (at : ℕ) → NoEndSoFar book at at
 unfolding ontoAll
 no-end-start book at =
     let e : at - at ≡ 0 = omega arith in
-    record { from = omega arith; within = λ l. l; left = ap (λ n. ontoAll (take n (drop at book)) (lines (drop at book))) (sym e) }
+    record { from = omega arith; within = λ l. l; rest = ap (λ n. ontoAll (take n (drop at book)) (lines (drop at book))) (sym e) }
 
 -- one byte more
 taken-more : (book : Bytes) (at i : ℕ) → at ≤ i → i < length book → take (i + 1 - at) (drop at book) ≡ take (i - at) (drop at book) ++ (getD book i 0 ∷ [])
@@ -71,8 +71,8 @@ module _ {book : Bytes} {at i : ℕ} (h : NoEndSoFar book at i) where
       record {
         from = omega (arith, h .from);
         within = λ m. omega arith;
-        left =
-            h .left
+        rest =
+            h .rest
             ∙ ap (ontoAll (take (i - at) (drop at book))) (ap lines (step book i l) ∙ lines-on (getD book i 0) (drop (i + 1) book) n)
             ∙ sym (all-onto (take (i - at) (drop at book)) (getD book i 0) (lines (drop (i + 1) book)))
             ∙ ap (λ xs. ontoAll xs (lines (drop (i + 1) book))) (sym (taken-more book at i (h .from) l));
@@ -84,7 +84,7 @@ module _ {book : Bytes} {at i : ℕ} (h : NoEndSoFar book at i) where
         from = λ m. omega (arith, h .from);
         within = λ m. omega arith;
         is = λ m.
-            h .left
+            h .rest
             ∙ ap (ontoAll (take (i - at) (drop at book))) (ap lines (step book i l ∙ ap (λ b. b ∷ drop (i + 1) book) e) ∙ lines-end (drop (i + 1) book))
             ∙ all-cons (take (i - at) (drop at book)) (10 ∷ []) (lines (drop (i + 1) book))
             ∙ ap (λ xs. xs ∷ lines (drop (i + 1) book)) (sym (taken-more book at i (h .from) l ∙ ap (λ b. take (i - at) (drop at book) ++ (b ∷ [])) e));
@@ -96,7 +96,7 @@ module _ {book : Bytes} {at i : ℕ} (h : NoEndSoFar book at i) where
         from = λ m. omega arith;
         within = h .within;
         is = λ m.
-            h .left
+            h .rest
             ∙ ap (ontoAll (take (i - at) (drop at book))) (ap lines (ended book i l) ∙ no-lines)
             ∙ all-last (take (i - at) (drop at book)) (λ e. omega (arith, length-take (i - at) (drop at book), length-drop at book))
             ∙ ap (λ ls. take (i - at) (drop at book) ∷ ls) (sym (ap lines (ended book i l) ∙ no-lines));
@@ -109,7 +109,7 @@ module _ {book : Bytes} {at i : ℕ} (h : NoEndSoFar book at i) where
         from = λ m. omega (arith, h .from, e .from l);
         within = λ m. e .within (omega arith);
         is = λ m.
-            h .left
+            h .rest
             ∙ ap (ontoAll (take (i - at) (drop at book))) (e .is l)
             ∙ all-cons (take (i - at) (drop at book)) (take (r - i) (drop i book)) (lines (drop r book))
             ∙ ap (λ xs. xs ∷ lines (drop r book)) (taken-on (e .from l));
@@ -130,7 +130,7 @@ no-end-many {book} {at} {i} (suc n) h l f =
     let e : i + n + 1 ≡ i + suc n = omega arith in
     subst (NoEndSoFar book at) e (no-end-more (no-end-many n h (omega arith) (λ j m. f j (omega arith))) (omega arith) (f n (omega arith)))
 
--- the 32 bytes that has_end passes
-pub no-end-part : {book : Bytes} {at i : ℕ} → NoEndSoFar book at i → i + 32 ≤ length book → NoEnd (take (i + 32 - i) (drop i book)) 32 → NoEndSoFar book at (i + 32)
+-- the bytes that has_end passes
+pub no-end-part : {book : Bytes} {at i : ℕ} → NoEndSoFar book at i → i + stride ≤ length book → NoEnd (take (i + stride - i) (drop i book)) stride → NoEndSoFar book at (i + stride)
 no-end-part {book} {at} {i} h l f =
-    no-end-many 32 h l (λ j m e. f j m (getD-take (i + 32 - i) (drop i book) j 0 (omega arith) ∙ getD-drop i book j 0 ∙ e))
+    no-end-many stride h l (λ j m e. f j m (getD-take (i + stride - i) (drop i book) j 0 (omega arith) ∙ getD-drop i book j 0 ∙ e))

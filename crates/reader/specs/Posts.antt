@@ -13,15 +13,17 @@ use Rattle.aut68.specs.Bytes.{Bytes, lines, sameBytes, wordPN, wordEB}
 use Rattle.aut68.specs.Source.{Src, Middle, variable, primitive, meaning, cellsOfSrc, middleCells}
 use Rattle.aut68.specs.Expr.{cells}
 use Rattle.aut68.specs.Lines.{Lines, kindCells, kindNumber, lineCells}
-use Rattle.aut68.specs.Procedure.Answer.{done, stop, malformed, unknownName}
+use Rattle.aut68.specs.Procedure.Answer.{Answer, done, stop, malformed, unknownName}
 use Rattle.aut68.specs.Procedure.Parse.{Placed, aLine, anIndicator, aMiddle, anExpression, wordAhead}
-use Rattle.aut68.specs.Procedure.Resolve.{Found, resolve, resolveMiddle, contextAt}
-use Rattle.aut68.specs.Procedure.CheckLine.{Passed}
+use Rattle.aut68.specs.Procedure.Resolve.{found, refused, resolve, resolveMiddle, contextAt}
+use Rattle.aut68.specs.Procedure.CheckLine.{Passed, readLine}
+use Rattle.aut68.specs.Sizes.{lineLimit, smallestLimit, nesting}
 use Rattle.cells.specs.Cells.{At, Outside}
 use Rattle.cells.specs.Results.{Result}
+use Rattle.cells.specs.Layout.{contextUnit, lineUnit, readerUnits}
 use Rattle.kinds.specs.Kinds.{KindsTable}
 use Rattle.names.specs.Known.{Known}
-use Rattle.names.specs.Hints.{slots, Hinted}
+use Rattle.names.specs.Hints.{slots, Hinted, probes}
 use Rattle.names.specs.NotedContext.{ContextNoted}
 use Rattle.expressions.specs.declared.parts.Reading.{Reading}
 use Rattle.expressions.specs.Walk as Walk
@@ -30,7 +32,7 @@ use Rattle.expressions.specs.Posts.{Onward}
 use Rattle.reader.specs.declared.heading.Prefix.{Prefix}
 use Rattle.reader.specs.declared.heading.Head.{Head}
 use Rattle.reader.specs.declared.lines.Line.{Line}
-use Rattle.reader.specs.ReadLine.{readLine, afterHeading, nameOr}
+use Rattle.reader.specs.ReadLine.{afterHeading, nameOr}
 
 -- the indicator was read, if there is one
 pub record PrefixRead (ks s : Bytes) (p : Prefix) : Type 0 where
@@ -66,9 +68,9 @@ pub record Lookup (ls : Lines) (ks s book tb : List ℕ) (lines indicator : ℕ)
   pub table : KindsTable ks
   pub known : Known ls book tb lines
   pub hinted : Hinted book tb lines w
-  pub below : slots (length w) + 32 ≤ to
+  pub below : slots (length w) + probes ≤ to
   pub context : ContextNoted ls indicator w
-  pub above : 24 * (length w / 26) ≤ to
+  pub above : lineUnit * (length w / readerUnits) ≤ to
   pub earlier : indicator ≤ lines
   pub short : length s < 4294967296
 
@@ -94,7 +96,7 @@ pub record MiddleRead (ks s book tb : List ℕ) (lines indicator : ℕ) (w w′ 
 pub record CategoryRead (ks s book tb : List ℕ) (lines indicator : ℕ) (w w′ : List ℕ) (r r′ : Reading) : Type 0 where
   pub onward : Onward s w w′ r r′
   pub read : (ls : Lines) → Lookup ls ks s book tb lines indicator w (r .to)
-      → ReadTo s (WrittenCategory ls indicator w w′ (r .to) (r′ .to) (r .fault) (r′ .fault)) (r′ .code) (r′ .at) (anExpression aut68 32 ending (drop (r .at) s))
+      → ReadTo s (WrittenCategory ls indicator w w′ (r .to) (r′ .to) (r .fault) (r′ .fault)) (r′ .code) (r′ .at) (anExpression aut68 nesting ending (drop (r .at) s))
 
 -- the cells of the line p: the middle's from `to` on below index `middle`, the category's behind them up to `end`
 pub record LineWritten (ls : Lines) (indicator : ℕ) (w w′ : List ℕ) (to kind middle end fault : ℕ) (before : ℕ) (i : Option Bytes) (name : Bytes) (p : Placed) : Type 0 where
@@ -116,10 +118,10 @@ pub record BodyRead (ks s book tb : List ℕ) (lines indicator : ℕ) (w w′ : 
   pub read : (ls : Lines) → Lookup ls ks s book tb lines indicator w to → MiddleKind ks s at kind → (i : Option Bytes) (before : ℕ) (name : Bytes)
       → ReadTo s (LineWritten ls indicator w w′ to kind (r′ .count) (r′ .to) (r′ .fault) before i name) (r′ .code) (r′ .at) (afterHeading aut68 i before name (drop at s))
 
--- r is the indicator's line, 0 if empty; 8,192 where it is no `EB` line
-pub data IndicatorFound (lines r : ℕ) : Found ℕ → Type 0 where
-  isLine : {v : ℕ} → r ≡ v → v ≤ lines → IndicatorFound lines r (Found.found v)
-  noLine : r ≡ 8192 → IndicatorFound lines r (Found.refused unknownName)
+-- r is the indicator's line, 0 if empty; `lineLimit` where it is no `EB` line
+pub data IndicatorFound (lines r : ℕ) : Answer (Unit {0}) ℕ → Type 0 where
+  isLine : {v : ℕ} → r ≡ v → v ≤ lines → IndicatorFound lines r (found v)
+  noLine : r ≡ lineLimit → IndicatorFound lines r (refused unknownName)
 
 -- the line p as it was read: where its identifier is, its row's numbers, and its cells in the store from `to` on
 pub record LineRead (s : Bytes) (w′ : List ℕ) (to : ℕ) (l : Line) (p : Passed) : Type 0 where
@@ -135,21 +137,24 @@ pub record LineRead (s : Bytes) (w′ : List ℕ) (to : ℕ) (l : Line) (p : Pas
   pub after : List ℕ
   pub cellsAt : At w′ to (lineCells (p .line)) after
 
--- the same for a store of 26 × limit cells: hints in the first 23 × limit, which stay as they were, then the line's context and,
--- from 24 × limit on, its cells
+-- the same for a store of the reader's units: the hints, which stay as they were, then the line's context and its cells
 pub record LineReadInto (ks s book tb : List ℕ) (lines limit : ℕ) (w w′ : List ℕ) (l : Line) : Type 0 where
-  pub below : SameBelow (23 * limit) w w′
-  pub read : (ls : Lines) → KindsTable ks → Known ls book tb lines → length s < 4294967296 → 16 ≤ limit → Hinted book tb lines w
-      → (b : ℕ) → Result (LineRead s w′ (24 * limit) l) (l .code) b (readLine aut68 ls limit s b)
+  pub below : SameBelow (contextUnit * limit) w w′
+  pub read : (ls : Lines) → KindsTable ks → Known ls book tb lines → length s < 4294967296 → smallestLimit ≤ limit → Hinted book tb lines w
+      → Result (LineRead s w′ (lineUnit * limit) l) (l .code) tt (readLine aut68 ls limit s tt)
 
--- Only the units 23 to 25 are written. With them there, the code is 0 where the line passes, and else that of its first refusal;
+-- Only the units of the context and of the cells are written. With them there, the code is 0 where the line passes, and else that of its first refusal;
 -- without them it is 10.
 pub record LineReadTo (ks s book tb : List ℕ) (lines limit : ℕ) (w w′ : List ℕ) (l : Line) : Type 0 where
-  pub outside : Outside (23 * limit) (26 * limit) w w′
-  pub noRoom : length w < 26 * limit → (w′ ≡ w) × (l .code ≡ 10)
-  pub read : (ls : Lines) → KindsTable ks → Known ls book tb lines → length s < 4294967296 → 16 ≤ limit → 26 * limit ≤ length w
-      → Hinted book tb lines (take (26 * limit) w)
-      → (b : ℕ) → Result (LineRead s w′ (24 * limit) l) (l .code) b (readLine aut68 ls limit s b)
+  pub outside : Outside (contextUnit * limit) (readerUnits * limit) w w′
+  pub noRoom : length w < readerUnits * limit → (w′ ≡ w) × (l .code ≡ 10)
+  pub read : (ls : Lines) → KindsTable ks → Known ls book tb lines → length s < 4294967296 → smallestLimit ≤ limit → readerUnits * limit ≤ length w
+      → Hinted book tb lines (take (readerUnits * limit) w)
+      → Result (LineRead s w′ (lineUnit * limit) l) (l .code) tt (readLine aut68 ls limit s tt)
+
+-- how many bytes are looked at at once for the end of a line
+abbrev pub stride : ℕ
+stride = 32
 
 -- none of the first n bytes is 10
 abbrev pub NoEnd : Bytes → ℕ → Type 0

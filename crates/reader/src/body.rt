@@ -1,9 +1,10 @@
 // `middle:category` and byte 10.
+use constants::Cell;
 use expressions::Reading;
 use expressions::expression;
 use expressions::put;
 use expressions::refused;
-use symbols::same_bytes;
+use symbols::same_word;
 use symbols::spaces;
 use symbols::symbol;
 use symbols::word_end;
@@ -18,10 +19,10 @@ pub fn middle_kind(line: &[u8], kinds: &[u8; 256], at: usize) -> u32
 {
     let start = spaces(line, at);
     let end = word_end(line, kinds, start);
-    if same_bytes(&line[start..end], b"EB") {
+    if same_word(&line[start..end], b"EB") {
         return 0;
     }
-    if same_bytes(&line[start..end], b"PN") {
+    if same_word(&line[start..end], b"PN") {
         return 1;
     }
     2
@@ -35,7 +36,7 @@ fn middle(
     table: &[u32],
     lines: usize,
     indicator: usize,
-    w: &mut [u16],
+    w: &mut [Cell],
     at: usize,
     to: usize,
     kind: u32,
@@ -78,7 +79,7 @@ fn category(
     table: &[u32],
     lines: usize,
     indicator: usize,
-    w: &mut [u16],
+    w: &mut [Cell],
     r: Reading,
 ) -> Reading
     requires { ⌜ (r .to ≤ length (now w) + r .at) × (r .at ≤ length (now line)) ⌝ }
@@ -86,7 +87,7 @@ fn category(
 {
     let start = spaces(line, r.at);
     let end = word_end(line, kinds, start);
-    if same_bytes(&line[start..end], b"type") {
+    if same_word(&line[start..end], b"type") {
         put(w, r.to, 0);
         return Reading {
             code: 0,
@@ -121,7 +122,7 @@ pub fn body(
     table: &[u32],
     lines: usize,
     indicator: usize,
-    w: &mut [u16],
+    w: &mut [Cell],
     at: usize,
     to: usize,
     kind: u32,
@@ -135,7 +136,7 @@ pub fn body(
     }
     let colon = symbol(line, kinds, m.at, kinds::COLON);
     if colon > line.len() {
-        return refused(cells::MALFORMED, m.at, m.to);
+        return refused(constants::MALFORMED, m.at, m.to);
     }
     let here = Reading {
         code: 0,
@@ -150,7 +151,7 @@ pub fn body(
     }
     let next = symbol(line, kinds, c.at, kinds::NEWLINE);
     if next != line.len() {
-        return refused(cells::MALFORMED, c.at, c.to);
+        return refused(constants::MALFORMED, c.at, c.to);
     }
     Reading {
         code: 0,

@@ -2,16 +2,19 @@
 ghost use mathlib.Core.Path.{_≡_};
 ghost use mathlib.Core.Bool.{false};
 ghost use lib.ListN.{length};
-ghost use Rattle.reader.specs.Posts.{NoEnd, LineEnd};
+ghost use Rattle.reader.specs.Posts.{stride, NoEnd, LineEnd};
 
-// Is there a byte 10 among the 32 bytes?
+// How many bytes are looked at at once.
+const STRIDE: usize = 32;
+
+// Is there a byte 10 among so many bytes?
 fn has_end(part: &[u8]) -> bool
-    requires { ⌜ length (now part) ≡ 32 ⌝ }
-    ensures { λ r. ⌜ (r ≡ false → NoEnd (now (part .entry)) 32) ⌝ }
+    requires { ⌜ length (now part) ≡ stride ⌝ }
+    ensures { λ r. ⌜ (r ≡ false → NoEnd (now (part .entry)) stride) ⌝ }
 {
     let mut found = false;
     let mut j = 0;
-    while j < 32 {
+    while j < STRIDE {
         if part[j] == 10 {
             found = true;
         }
@@ -34,16 +37,16 @@ fn byte_end(book: &[u8], at: usize) -> usize
     i
 }
 
-// The end of the line that starts at `at`: behind its byte 10, or the book's end. 32 bytes at once are passed that do not end it.
+// The end of the line that starts at `at`: behind its byte 10, or the book's end. STRIDE bytes at once are passed that do not end it.
 pub fn line_end(book: &[u8], at: usize) -> usize
     ensures { λ r. ⌜ LineEnd (now (book .entry)) at r ⌝ }
 {
     let mut i = at;
     while i < book.len() {
-        if book.len() - i < 32 {
+        if book.len() - i < STRIDE {
             return byte_end(book, i);
         }
-        let next = i + 32;
+        let next = i + STRIDE;
         if has_end(&book[i..next]) {
             return byte_end(book, i);
         }

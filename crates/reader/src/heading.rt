@@ -34,7 +34,7 @@ fn prefix_of(line: &[u8], kinds: &[u8; 256]) -> Prefix
     let len = n.len;
     if len == 0 {
         return Prefix {
-            code: cells::MALFORMED,
+            code: constants::MALFORMED,
             at: 0,
             start: 0,
             len: 0,
@@ -62,7 +62,7 @@ fn bad_head() -> Head
     ensures { λ h. ⌜ (h .code ≡ 3) × (h .at ≡ 0) × (h .start + h .len ≡ 0) × (h .first + h .size ≡ 0) ⌝ }
 {
     Head {
-        code: cells::MALFORMED,
+        code: constants::MALFORMED,
         at: 0,
         start: 0,
         len: 0,

@@ -2,31 +2,39 @@
 use crate::body::body;
 use crate::body::middle_kind;
 use crate::heading::heading;
+use cells::LINE_UNIT;
+use cells::READER_UNITS;
+use constants::CONTEXT_LENGTH;
+use constants::Cell;
+use constants::KIND;
+use constants::LINE_LIMIT;
 use names::find;
 use names::note_context;
 ghost use mathlib.Core.Path.{_≡_};
 ghost use Prim.Native.Nat.{_+_, _*_, _≤_, _<_};
 ghost use lib.ListN.{length};
-ghost use Rattle.aut68.specs.Lines.{Lines};
+ghost use Rattle.aut68.specs.Sizes.{lineLimit, atContext};
+ghost use Rattle.aut68.specs.Lines.{Lines, rowCell};
 ghost use Rattle.aut68.specs.Procedure.Resolve.{indicatorLine};
-ghost use Rattle.cells.specs.Cells.{rowCell};
+ghost use Rattle.cells.specs.Layout.{readerUnits};
 ghost use Rattle.names.specs.Known.{Known};
 ghost use Rattle.names.specs.Hints.{Hinted};
 ghost use Rattle.reader.specs.ReadLine.{nameOr};
 ghost use Rattle.reader.specs.Posts.{IndicatorFound, LineReadInto, LineReadTo};
 
-// The indicator's line (indicatorLine): 0 if empty, 8,192 where it is no EB line.
+// The indicator's line (indicatorLine): 0 if empty, LINE_LIMIT where it is no EB line.
 fn indicator_line(
     line: &[u8],
     book: &[u8],
     table: &[u32],
     lines: usize,
-    w: &[u16],
+    w: &[Cell],
     start: usize,
     len: usize,
 ) -> usize
     requires { ⌜ start + len ≤ length (now line) ⌝ }
-    ensures { λ r. ⌜ ((ls : Lines) → Known ls (now (book .entry)) (now (table .entry)) lines → Hinted (now (book .entry)) (now (table .entry)) lines (now (w .entry)) → IndicatorFound lines r (indicatorLine ls (nameOr (now (line .entry)) start len))) ⌝ }
+    ensures { λ r. ⌜ ((ls : Lines) → Known ls (now (book .entry)) (now (table .entry)) lines → Hinted (now (book .entry)) (now (table .entry)) lines (now (w .entry))
+        → IndicatorFound lines r (indicatorLine ls (nameOr (now (line .entry)) start len) tt)) ⌝ }
 {
     if len == 0 {
         return 0;
@@ -34,11 +42,11 @@ fn indicator_line(
     let end = start + len;
     let v = find(book, table, lines, w, &line[start..end]);
     if v == 0 {
-        return 8192;
+        return LINE_LIMIT;
     }
-    let kind = cells::field(table, v, 4);
+    let kind = cells::field(table, v, KIND);
     if kind != 0 {
-        return 8192;
+        return LINE_LIMIT;
     }
     v
 }
@@ -72,7 +80,7 @@ fn bad_line(code: u32) -> Line
     }
 }
 
-// The line: form, indicator, identifier, sizes, names, in that order of refusals (readLine). Of the 26 units of w, the last two
+// The line: form, indicator, identifier, sizes, names, in that order of refusals (readLine). Of the units of w, the last two
 // get the cells of middle and category, the one before them the line's context; hints lie below.
 fn read_into(
     line: &[u8],
@@ -80,13 +88,13 @@ fn read_into(
     book: &[u8],
     table: &[u32],
     lines: usize,
-    w: &mut [u16],
+    w: &mut [Cell],
     limit: usize,
 ) -> Line
-    requires { ⌜ length (now w) ≡ 26 * limit ⌝ }
+    requires { ⌜ length (now w) ≡ readerUnits * limit ⌝ }
     ensures { λ l. ⌜ LineReadInto (now (kinds .entry)) (now (line .entry)) (now (book .entry)) (now (table .entry)) lines limit (now (w .entry)) (now (w .exit)) l ⌝ }
 {
-    let to = 24 * limit;
+    let to = LINE_UNIT * limit;
     let h = heading(line, kinds);
     if h.code != 0 {
         return bad_line(h.code);
@@ -102,21 +110,21 @@ fn read_into(
     if b.code != 0 {
         return bad_line(b.code);
     }
-    if found > 8191 {
-        return bad_line(cells::UNKNOWN_NAME);
+    if found >= LINE_LIMIT {
+        return bad_line(constants::UNKNOWN_NAME);
     }
     let end = first + size;
     let taken = find(book, table, lines, w, &line[first..end]);
     if taken != 0 {
-        return bad_line(cells::DUPLICATE);
+        return bad_line(constants::DUPLICATE);
     }
     let cells = b.count - to;
     let all = b.to - to;
     if cells > limit {
-        return bad_line(cells::TOO_LARGE);
+        return bad_line(constants::TOO_LARGE);
     }
     if all - cells > limit {
-        return bad_line(cells::TOO_LARGE);
+        return bad_line(constants::TOO_LARGE);
     }
     if b.fault != 0 {
         return bad_line(b.fault);
@@ -134,31 +142,31 @@ fn read_into(
     }
 }
 
-// The line, with the cells of middle and category from unit 24 of w on, its context in unit 23, and the hints in the units before
-// it. Writes the units 23 to 25 alone; where w does not have them, nothing, and the answer is 10.
+// The line, with the cells of middle and category from LINE_UNIT of w on, its context in the unit before, and the hints below.
+// Writes these three units alone; where w does not have them, nothing, and the answer is 10.
 pub fn read_line(
     line: &[u8],
     kinds: &[u8; 256],
     book: &[u8],
     table: &[u32],
     lines: usize,
-    w: &mut [u16],
+    w: &mut [Cell],
     limit: usize,
 ) -> Line
     ensures { λ l. ⌜ LineReadTo (now (kinds .entry)) (now (line .entry)) (now (book .entry)) (now (table .entry)) lines limit (now (w .entry)) (now (w .exit)) l ⌝ }
 {
-    if limit > w.len() / 26 {
-        return bad_line(cells::TOO_LARGE);
+    if limit > w.len() / READER_UNITS {
+        return bad_line(constants::TOO_LARGE);
     }
-    let n = 26 * limit;
+    let n = READER_UNITS * limit;
     read_into(line, kinds, book, table, lines, &mut w[..n], limit)
 }
 
 // The line's number; 0 where it is none.
 fn known_line(v: usize) -> usize
-    ensures { λ r. ⌜ (8191 < v → r ≡ 0) × (v ≤ 8191 → r ≡ v) ⌝ }
+    ensures { λ r. ⌜ (lineLimit ≤ v → r ≡ 0) × (v < lineLimit → r ≡ v) ⌝ }
 {
-    if v > 8191 {
+    if v >= LINE_LIMIT {
         return 0;
     }
     v
@@ -166,10 +174,10 @@ fn known_line(v: usize) -> usize
 
 // The length of the context that ends with line v; 0 where v is 0.
 fn context_length(table: &[u32], v: usize) -> usize
-    ensures { λ r. ⌜ (v ≡ 0 → r ≡ 0) × (1 ≤ v → r ≡ rowCell (now (table .entry)) v 3 + 1) ⌝ }
+    ensures { λ r. ⌜ (v ≡ 0 → r ≡ 0) × (1 ≤ v → r ≡ rowCell (now (table .entry)) v atContext + 1) ⌝ }
 {
     if v == 0 {
         return 0;
     }
-    cells::field(table, v, 3) + 1
+    cells::field(table, v, CONTEXT_LENGTH) + 1
 }

@@ -7,6 +7,8 @@ use native.Mathlib.Omega.{arith}
 use lib.ListN.{length, take, drop, length-append}
 use lib.Seq.{sets, take-at}
 use Rattle.aut68.specs.Language.{Language}
+use Rattle.aut68.specs.Sizes.{lineLimit, largestLimit, bookLimit}
+use Rattle.aut68.specs.Stores.{Stores, limitsOf}
 use Rattle.aut68.specs.Bytes.{Bytes}
 use Rattle.aut68.specs.Expr.{cells}
 use Rattle.aut68.specs.Lines.{Line, Lines, Kind, variable, primitive, abbreviation, kindCells, kindNumber, lineCells, termsOf, rowOf}
@@ -49,28 +51,28 @@ kind-number-small (abbreviation m) = omega arith
 
 -- ---- a line read after what is recorded
 
-module _ {language : Language} {book : Bytes} {L : ℕ} {tb₀ ts₀ : List ℕ} {k : Recorded} {n used : ℕ} {tb ts : List ℕ} (h : Reached language book L tb₀ ts₀ k n used tb ts) where
+module _ {language : Language} {book : Bytes} {N L : ℕ} {s : Stores} {k : Recorded} {n used : ℕ} {tb ts : List ℕ} (h : Reached language book N L s k n used tb ts) where
   -- table and term store hold the recorded lines
   pub reached-stores : Holds book (k .firsts) (k .recorded) tb ts
   unfolding over
-  reached-stores = reached-holds h ts (drop (length (termsOf (k .recorded))) ts₀) (h .termsAre)
+  reached-stores = reached-holds h ts (drop (length (termsOf (k .recorded))) (s .terms)) (h .termsAre)
 
   -- the cells of the lines, with L at most 4,096
-  pub used-small : L ≤ 4096 → used ≤ 67108864
+  pub used-small : L ≤ largestLimit → used ≤ 2 * lineLimit * largestLimit
   used-small l =
       let t = terms-bound L (k .recorded) (λ v x i. h .small i) in
-      let a : length (k .recorded) * (2 * L) ≤ 8192 * (2 * L) = mul-le-mul-right (2 * L) (let f = h .few in let q = h .linesAre in omega arith) in
+      let a : length (k .recorded) * (2 * L) ≤ lineLimit * (2 * L) = mul-le-mul-right (2 * L) (let f = h .few in let q = h .linesAre in omega arith) in
       let u = h .usedIs in
       omega arith
 
   module _ {bytes : Bytes} {p : Passed} (r : LineRead language (k .recorded) L bytes p) where
-    pub size-small : L ≤ 4096 → length (lineCells (p .line)) ≤ 8192
+    pub size-small : L ≤ largestLimit → length (lineCells (p .line)) ≤ 2 * largestLimit
     size-small l =
         let c = line-cells-bound L (p .line) (record { middleSize = r .middleFits; categorySize = r .categoryFits }) in
         omega arith
 
     -- the term store with the line's cells, cut behind them
-    pub stored-cells : HasRoom (k .recorded) (length tb₀) (length ts₀) (p .line)
+    pub stored-cells : HasRoom (k .recorded) (limitsOf N L s) (p .line)
         → take (used + length (lineCells (p .line))) (sets ts used (lineCells (p .line))) ≡ termsOf (k .recorded) ++ lineCells (p .line)
     unfolding over
     stored-cells f =
@@ -78,12 +80,12 @@ module _ {language : Language} {book : Bytes} {L : ℕ} {tb₀ ts₀ : List ℕ}
         let t = termsOf (k .recorded) in
         let e : length (t ++ m) ≡ used + length m = let u = h .usedIs in omega (arith, u, length-append t m) in
         ap (λ (x : List ℕ). take (used + length m) (sets x used m)) (h .termsAre)
-        ∙ ap (λ (i : ℕ). take (used + length m) (sets (over t ts₀) i m)) (h .usedIs)
-        ∙ ap (take (used + length m)) (over-more t ts₀ m (f .cellsFit))
-        ∙ take-at (t ++ m) (drop (length (t ++ m)) ts₀) (used + length m) e
+        ∙ ap (λ (i : ℕ). take (used + length m) (sets (over t (s .terms)) i m)) (h .usedIs)
+        ∙ ap (take (used + length m)) (over-more t (s .terms) m (f .cellsFit))
+        ∙ take-at (t ++ m) (drop (length (t ++ m)) (s .terms)) (used + length m) e
 
     -- every number of its row is below 2^32
-    pub row-small : (at : ℕ) → L ≤ 4096 → at + length bytes ≤ 16777215 → Below 4294967296 (rowOf (at + p .before) used (p .line))
+    pub row-small : (at : ℕ) → L ≤ largestLimit → at + length bytes ≤ bookLimit → Below 4294967296 (rowOf (at + p .before) used (p .line))
     unfolding Below rowOf lineCells
     row-small at l b =
         let i = r .named .within in

@@ -2,5 +2,6 @@
 pub mod Tables
 pub mod ReadLines
 pub mod Reached
-pub mod Refusals
+pub mod Runs
 pub mod Bounds
+pub mod OnRecord

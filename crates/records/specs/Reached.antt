@@ -11,12 +11,14 @@ use lib.ListN.{length, take, drop, length-append}
 use lib.Seq.{slice, sets, take-take, drop-drop, take-nil, length-slice}
 use borrow.Author.Tests.{ltb-true, leb-true}
 use Rattle.aut68.specs.Language.{Language}
+use Rattle.aut68.specs.Sizes.{lineLimit, rowWidth}
+use Rattle.aut68.specs.Stores.{Stores, Limits, limitsOf}
 use Rattle.aut68.specs.Bytes.{Bytes}
 use Rattle.aut68.specs.Expr.{cells}
 use Rattle.aut68.specs.Lines.{Line, Lines, kindCells, lineCells, termsOf, rowOf, rowsFrom, tableOf}
 use Rattle.aut68.specs.Procedure.Answer.{done}
 use Rattle.aut68.specs.Procedure.CheckLine.{Passed, checkLine, room}
-use Rattle.aut68.specs.Procedure.Run.{Recorded, nothing, over}
+use Rattle.aut68.specs.Procedure.Run.{Recorded, nothing, oneMore, over}
 use Rattle.aut68.specs.Rules.Names.{IsLine, Context, noContext, within}
 use Rattle.aut68.specs.Rules.Derivation.{Derived, noMore, line}
 use Rattle.lookup.specs.LineNumbers.{no-line, line-within, line-snoc}
@@ -51,17 +53,18 @@ indicators-before d = derived-before d (λ v l i. absurd (no-line i))
 
 -- ---- room
 
-module _ (ls : Lines) (table terms : ℕ) (l : Line) where
+module _ (ls : Lines) (m : Limits) (l : Line) where
   pub record HasRoom : Type 0 where
-    pub fewLines : suc (length ls) < 8192
-    pub rowFits : 8 * suc (length ls) ≤ table
-    pub cellsFit : length (termsOf ls) + length (lineCells l) ≤ terms
+    pub fewLines : suc (length ls) < lineLimit
+    pub rowFits : rowWidth * suc (length ls) ≤ m .table
+    pub cellsFit : length (termsOf ls) + length (lineCells l) ≤ m .terms
 
-  pub room-is : room ls table terms l ≡ true → HasRoom
+  pub room-is : room ls m l ≡ true → HasRoom
   unfolding room
-  room-is h = go (ltb (suc (length ls)) 8192) (leb (8 * suc (length ls)) table) (leb (length (termsOf ls) + length (lineCells l)) terms) refl refl refl h
+  room-is h = go (ltb (suc (length ls)) lineLimit) (leb (rowWidth * suc (length ls)) (m .table)) (leb (length (termsOf ls) + length (lineCells l)) (m .terms)) refl refl refl h
     where
-      go : (a b c : Bool) → ltb (suc (length ls)) 8192 ≡ a → leb (8 * suc (length ls)) table ≡ b → leb (length (termsOf ls) + length (lineCells l)) terms ≡ c → (a && b && c) ≡ true → HasRoom
+      go : (a b c : Bool) → ltb (suc (length ls)) lineLimit ≡ a → leb (rowWidth * suc (length ls)) (m .table) ≡ b → leb (length (termsOf ls) + length (lineCells l)) (m .terms) ≡ c
+          → (a && b && c) ≡ true → HasRoom
       go true true true p q r h = record { fewLines = ltb-true _ _ p; rowFits = leb-true _ _ q; cellsFit = leb-true _ _ r }
       go false b c p q r h = absurd (false≢true h)
       go true false c p q r h = absurd (false≢true h)
@@ -100,23 +103,23 @@ pub record SmallLine (L : ℕ) (l : Line) : Type 0 where
   pub middleSize : length (kindCells (l .kind)) ≤ L
   pub categorySize : length (cells (l .category)) ≤ L
 
--- With stores that were table₀ and terms₀, the lines of k are recorded: as many as `lines`, with `used` term cells.
-pub record Reached (language : Language) (book : Bytes) (L : ℕ) (table₀ terms₀ : List ℕ) (k : Recorded) (lines used : ℕ) (table terms : List ℕ) : Type 0 where
+-- With the stores s lent, under N and L, the lines of k are recorded: as many as `lines`, with `used` term cells.
+pub record Reached (language : Language) (book : Bytes) (N L : ℕ) (s : Stores) (k : Recorded) (lines used : ℕ) (table terms : List ℕ) : Type 0 where
   pub past : List Bytes
   pub derived : Derived language [] past (k .recorded)
   pub spelled : Spelled book (k .firsts) (k .recorded)
   pub small : {v : ℕ} {l : Line} → IsLine (k .recorded) v l → SmallLine L l
   pub linesAre : lines ≡ length (k .recorded)
   pub usedIs : used ≡ length (termsOf (k .recorded))
-  pub few : lines < 8192
-  pub tableRoom : 8 * lines ≤ length table₀
-  pub termsRoom : used ≤ length terms₀
-  pub tableIs : table ≡ over (tableOf (k .firsts) (k .recorded)) table₀
-  pub termsAre : terms ≡ over (termsOf (k .recorded)) terms₀
+  pub few : lines < lineLimit
+  pub tableRoom : rowWidth * lines ≤ length (s .table)
+  pub termsRoom : used ≤ length (s .terms)
+  pub tableIs : table ≡ over (tableOf (k .firsts) (k .recorded)) (s .table)
+  pub termsAre : terms ≡ over (termsOf (k .recorded)) (s .terms)
 
-pub reached-nothing : (language : Language) (book : Bytes) (L : ℕ) (table terms : List ℕ) → Reached language book L table terms nothing 0 0 table terms
+pub reached-nothing : (language : Language) (book : Bytes) (N L : ℕ) (s : Stores) → Reached language book N L s nothing 0 0 (s .table) (s .terms)
 unfolding nothing over tableOf termsOf rowsFrom
-reached-nothing language book L table terms =
+reached-nothing language book N L s =
     record {
       past = [];
       derived = noMore;
@@ -131,25 +134,21 @@ reached-nothing language book L table terms =
       termsAre = refl;
     }
 
--- what is recorded with the line p behind it, whose bytes start at `at`
-unfoldable pub oneMore : Recorded → ℕ → Passed → Recorded
-oneMore k at p = record { firsts = k .firsts ++ ((at + p .before) ∷ []); recorded = k .recorded ++ (p .line ∷ []) }
-
-module _ {language : Language} {book : Bytes} {L : ℕ} {table₀ terms₀ : List ℕ} {k : Recorded} {lines used : ℕ} {table terms : List ℕ} (h : Reached language book L table₀ terms₀ k lines used table terms) where
+module _ {language : Language} {book : Bytes} {N L : ℕ} {s : Stores} {k : Recorded} {lines used : ℕ} {table terms : List ℕ} (h : Reached language book N L s k lines used table terms) where
   -- table and term store hold the lines, and still do with other cells behind theirs
   pub reached-holds : (ts rest : List ℕ) → ts ≡ termsOf (k .recorded) ++ rest → Holds book (k .firsts) (k .recorded) table ts
   unfolding over
   reached-holds ts rest e =
       record {
         spelled = h .spelled;
-        tableRest = drop (length (tableOf (k .firsts) (k .recorded))) table₀;
+        tableRest = drop (length (tableOf (k .firsts) (k .recorded))) (s .table);
         tableIs = h .tableIs;
         termsRest = rest;
         termsAre = e;
       }
 
   module _ (at next : ℕ) (bytes : Bytes) (p : Passed) (inBook : next ≤ length book) (from : at ≤ next) (bytesAre : bytes ≡ slice at next book) (r : LineRead language (k .recorded) L bytes p)
-      (fits : HasRoom (k .recorded) (length table₀) (length terms₀) (p .line)) where
+      (fits : HasRoom (k .recorded) (limitsOf N L s) (p .line)) where
     one-spelled : Spelled book (oneMore k at p .firsts) (oneMore k at p .recorded)
     unfolding oneMore
     one-spelled =
@@ -169,33 +168,33 @@ module _ {language : Language} {book : Bytes} {L : ℕ} {table₀ terms₀ : Lis
         go (inr (e, q)) = subst (SmallLine L) (sym e) (record { middleSize = r .middleFits; categorySize = r .categoryFits })
 
     -- the term store with the line's cells
-    pub terms-more : sets terms used (lineCells (p .line)) ≡ over (termsOf (oneMore k at p .recorded)) terms₀
+    pub terms-more : sets terms used (lineCells (p .line)) ≡ over (termsOf (oneMore k at p .recorded)) (s .terms)
     unfolding oneMore
     terms-more =
         let m = lineCells (p .line) in
         ap (λ (x : List ℕ). sets x used m) (h .termsAre)
-        ∙ ap (λ (n : ℕ). sets (over (termsOf (k .recorded)) terms₀) n m) (h .usedIs)
-        ∙ over-more (termsOf (k .recorded)) terms₀ m (fits .cellsFit)
-        ∙ ap (λ (x : List ℕ). over x terms₀) (sym (terms-snoc (k .recorded) (p .line)))
+        ∙ ap (λ (n : ℕ). sets (over (termsOf (k .recorded)) (s .terms)) n m) (h .usedIs)
+        ∙ over-more (termsOf (k .recorded)) (s .terms) m (fits .cellsFit)
+        ∙ ap (λ (x : List ℕ). over x (s .terms)) (sym (terms-snoc (k .recorded) (p .line)))
 
     -- the table with the line's row
-    pub table-more : sets table (8 * lines) (rowOf (at + p .before) used (p .line)) ≡ over (tableOf (oneMore k at p .firsts) (oneMore k at p .recorded)) table₀
+    pub table-more : sets table (rowWidth * lines) (rowOf (at + p .before) used (p .line)) ≡ over (tableOf (oneMore k at p .firsts) (oneMore k at p .recorded)) (s .table)
     unfolding oneMore rowOf
     table-more =
         let long = table-long (k .firsts) (k .recorded) (spelled-long (h .spelled)) in
         let row = rowOf (at + p .before) (length (termsOf (k .recorded))) (p .line) in
-        let e : 8 * lines ≡ length (tableOf (k .firsts) (k .recorded)) = let q = h .linesAre in omega (arith, q, long) in
+        let e : rowWidth * lines ≡ length (tableOf (k .firsts) (k .recorded)) = let q = h .linesAre in omega (arith, q, long) in
         let f = fits .rowFits in
-        ap (λ (n : ℕ). sets table (8 * lines) (rowOf (at + p .before) n (p .line))) (h .usedIs)
-        ∙ ap (λ (x : List ℕ). sets x (8 * lines) row) (h .tableIs)
-        ∙ ap (λ (n : ℕ). sets (over (tableOf (k .firsts) (k .recorded)) table₀) n row) e
-        ∙ over-more (tableOf (k .firsts) (k .recorded)) table₀ row (omega arith)
-        ∙ ap (λ (x : List ℕ). over x table₀) (sym (table-snoc (k .firsts) (k .recorded) (at + p .before) (p .line) (spelled-long (h .spelled))))
+        ap (λ (n : ℕ). sets table (rowWidth * lines) (rowOf (at + p .before) n (p .line))) (h .usedIs)
+        ∙ ap (λ (x : List ℕ). sets x (rowWidth * lines) row) (h .tableIs)
+        ∙ ap (λ (n : ℕ). sets (over (tableOf (k .firsts) (k .recorded)) (s .table)) n row) e
+        ∙ over-more (tableOf (k .firsts) (k .recorded)) (s .table) row (omega arith)
+        ∙ ap (λ (x : List ℕ). over x (s .table)) (sym (table-snoc (k .firsts) (k .recorded) (at + p .before) (p .line) (spelled-long (h .spelled))))
 
     -- a line that passed is recorded
-    pub reached-more : (b b′ : ℕ) → checkLine language (k .recorded) L (length table₀) (length terms₀) bytes b ≡ done p b′
-        → Reached language book L table₀ terms₀ (oneMore k at p) (lines + 1) (used + length (lineCells (p .line)))
-        (sets table (8 * lines) (rowOf (at + p .before) used (p .line))) (sets terms used (lineCells (p .line)))
+    pub reached-more : (b b′ : ℕ) → checkLine language (k .recorded) (limitsOf N L s) bytes b ≡ done p b′
+        → Reached language book N L s (oneMore k at p) (lines + 1) (used + length (lineCells (p .line)))
+        (sets table (rowWidth * lines) (rowOf (at + p .before) used (p .line))) (sets terms used (lineCells (p .line)))
     unfolding oneMore
     reached-more b b′ e =
         let q = h .linesAre in
@@ -205,7 +204,7 @@ module _ {language : Language} {book : Bytes} {L : ℕ} {table₀ terms₀ : Lis
         let f₃ = fits .cellsFit in
         record {
           past = h .past ++ (bytes ∷ []);
-          derived = derived-snoc (h .derived) (passed-derivation language (k .recorded) (h .derived) L (length table₀) (length terms₀) bytes b e);
+          derived = derived-snoc (h .derived) (passed-derivation language (k .recorded) (h .derived) (limitsOf N L s) bytes b e);
           spelled = one-spelled;
           small = λ i. one-small i;
           linesAre = omega (arith, length-append (k .recorded) (p .line ∷ []));

@@ -10,23 +10,24 @@ use lib.ListN.{length, drop, length-append}
 use lib.Seq.{slice, take-at, drop-at}
 use borrow.Author.Tests.{leb-true}
 use Rattle.aut68.specs.Language.{Language}
+use Rattle.aut68.specs.Sizes.{nesting}
+use Rattle.aut68.specs.Stores.{Limits}
 use Rattle.aut68.specs.Bytes.{Bytes, nameByte}
 use Rattle.aut68.specs.Source.{Src, Srcs, Middle, SourceLine, cellsOfSrc, cellsOfSrcs, middleCells}
 use Rattle.aut68.specs.Expr.{Expr, Exprs, size, sizes, cells}
 use Rattle.aut68.specs.Lines.{Lines, Kind, kindCells}
-use Rattle.aut68.specs.Procedure.Answer.{Answer, done, stop, andThen, malformed}
+use Rattle.aut68.specs.Procedure.Answer.{Answer, done, stop, andThen, malformed, duplicate, tooLarge, outOfSpace}
 use Rattle.aut68.specs.Procedure.Parse.{Placed, aLine, spaces, byte, symbol, starts, wordOf, afterWord, wordAhead, nameFits, aName, anIndicator, bytesLeft}
-use Rattle.aut68.specs.Procedure.Resolve.{found, indicatorLine, contextAt, unused, resolveMiddle, resolve}
-use Rattle.aut68.specs.Procedure.CheckLine.{Passed}
+use Rattle.aut68.specs.Procedure.Resolve.{found, contextAt, unused}
+use Rattle.aut68.specs.Procedure.CheckLine.{Passed, readLine, room, store, checkLine}
 use Rattle.aut68.specs.Rules.Names.{Means, MeanAll, aBound, aVariable, aConstant, anApplication, anAbstraction, aType, aProp, noMore, oneMore, MiddleMeans, isEB, isPN, isMeaning}
-use Rattle.lookup.specs.Answers.{stop≢done, done-value, done-rest, after}
-use Rattle.lookup.specs.Identifiers.{unused-sound}
-use Rattle.lookup.specs.Contexts.{RightContexts, indicator-sound}
-use Rattle.lookup.specs.Resolving.{middle-sound, resolve-sound}
+use Rattle.lookup.specs.Answers.{stop≢done, done-value, done-rest, after, aside-done, ensure-done}
+use Rattle.lookup.specs.Contexts.{RightContexts}
 use Rattle.reading.specs.Symbols.{run-whole}
 use Rattle.reading.specs.Sound.{parse-sound}
-use Rattle.reading.specs.Depths.{lineDepth}
+use Rattle.aut68.specs.Depths.{lineDepth}
 use Rattle.reading.specs.Readings.{Reading}
+use Rattle.reading.specs.Stages.{found-reading}
 use Rattle.cells.specs.Forests.{size-is-length}
 
 -- ---- where the identifier stands
@@ -169,39 +170,44 @@ module _ (ls : Lines) (vs : List ℕ) where
 pub record LineRead (language : Language) (ls : Lines) (L : ℕ) (bytes : Bytes) (p : Passed) : Type 0 where
   pub source : SourceLine
   pub reading : Reading language ls bytes source (p .line)
-  -- nested 32 deep at most
-  pub shallow : lineDepth source ≤ 32
+  pub shallow : lineDepth source ≤ nesting
   pub middleFits : length (kindCells (p .line .kind)) ≤ L
   pub categoryFits : length (cells (p .line .category)) ≤ L
   pub named : Identifies bytes (p .before) (p .line .identifier)
 
-pub line-read : (language : Language) (ls : Lines) (L : ℕ) (bytes : Bytes) → RightContexts ls → {r : Placed} {rest : Bytes} {v : ℕ} {k : Kind} {c : Expr}
-    → aLine language (length bytes) bytes ≡ done r rest
-    → indicatorLine ls (r .line .indicator) ≡ found v
-    → unused (r .line .identifier) ls ≡ true
-    → leb (middleCells (r .line .middle)) L ≡ true
-    → leb (cellsOfSrc (r .line .category)) L ≡ true
-    → resolveMiddle ls (contextAt ls v) (r .line .middle) ≡ found k
-    → resolve ls (contextAt ls v) [] (r .line .category) ≡ found c
-    → LineRead language ls L bytes (record { before = r .before; line = record { identifier = r .line .identifier; indicator = v; context = contextAt ls v; kind = k; category = c } })
-line-read language ls L bytes R {r} {v = v} f₁ f₂ f₃ f₄ f₅ f₆ f₇ =
-    let (i, x) = indicator-sound (r .line .indicator) R f₂ in
-    let m = middle-sound ls (contextAt ls v) (r .line .middle) f₆ in
-    let c = resolve-sound ls (contextAt ls v) [] (r .line .category) f₇ in
-    record {
+pub line-read : (language : Language) (ls : Lines) (L : ℕ) (bytes : Bytes) → RightContexts ls → {p : Passed} → readLine language ls L bytes tt ≡ found p → LineRead language ls L bytes p
+unfolding readLine
+line-read language ls L bytes c h =
+    after _ _ h λ r _ e₁ h₁.
+    after _ _ h₁ λ v _ e₂ h₂.
+    after _ _ h₂ λ u₃ _ e₃ h₃.
+    after _ _ h₃ λ u₄ _ e₄ h₄.
+    after _ _ h₄ λ u₅ _ e₅ h₅.
+    after _ _ h₅ λ k _ e₆ h₆.
+    after _ _ h₆ λ g _ e₇ h₇.
+    aside-done (aLine language (length bytes) bytes) e₁ λ rest f₁ _.
+    ensure-done (unused (r .line .identifier) ls) duplicate e₃ λ f₃ _.
+    ensure-done (leb (middleCells (r .line .middle)) L) tooLarge e₄ λ f₄ _.
+    ensure-done (leb (cellsOfSrc (r .line .category)) L) tooLarge e₅ λ f₅ _.
+    let x = found-reading language (r .line) c (parse-sound language (length bytes) bytes f₁ .1) e₂ f₃ e₆ e₇ in
+    subst (LineRead language ls L bytes) (done-value h₇)
+    (record {
       source = r .line;
-      reading =
-          record {
-            form = parse-sound language (length bytes) bytes f₁ .1;
-            identifierIs = refl;
-            indicatorIs = i;
-            contextIs = x;
-            unused = unused-sound f₃;
-            middleIs = m;
-            categoryIs = c;
-          };
+      reading = x;
       shallow = parse-sound language (length bytes) bytes f₁ .2;
-      middleFits = (let h = leb-true (middleCells (r .line .middle)) L f₄ in omega (arith, h, middle-size ls (contextAt ls v) m));
-      categoryFits = (let h = leb-true (cellsOfSrc (r .line .category)) L f₅ in omega (arith, h, category-size ls (contextAt ls v) c));
+      middleFits = (let h = leb-true (middleCells (r .line .middle)) L f₄ in omega (arith, h, middle-size ls (contextAt ls v) (x .middleIs)));
+      categoryFits = (let h = leb-true (cellsOfSrc (r .line .category)) L f₅ in omega (arith, h, category-size ls (contextAt ls v) (x .categoryIs)));
       named = identifier-place language bytes f₁;
-    }
+    })
+
+-- a line that passed was read, and there was room for it
+pub passed-read : (language : Language) (ls : Lines) (m : Limits) (bytes : Bytes) (b : ℕ) → RightContexts ls → {p : Passed} {b′ : ℕ} → checkLine language ls m bytes b ≡ done p b′
+    → LineRead language ls (m .limit) bytes p × (room ls m (p .line) ≡ true)
+unfolding checkLine store
+passed-read language ls m bytes b c h =
+    after _ _ h λ q b₁ e₁ h₁.
+    after _ _ h₁ λ u₂ b₂ e₂ h₂.
+    after _ _ h₂ λ u₃ b₃ e₃ h₃.
+    aside-done (readLine language ls (m .limit) bytes tt) e₁ λ _ f₁ q₁.
+    ensure-done (room ls m (q .line)) outOfSpace e₂ λ f₂ q₂.
+    subst (λ (x : Passed). LineRead language ls (m .limit) bytes x × (room ls m (x .line) ≡ true)) (done-value h₃) (line-read language ls (m .limit) bytes c f₁, f₂)

@@ -6,12 +6,14 @@ use native.Mathlib.Nat.{zero-add, add-zero}
 use native.Mathlib.Omega.{arith}
 use lib.ListN.{length, getD, drop, length-append, length-drop}
 use lib.Seq.{slice, sets, sets-eq, getD-drop, drop-append-add, drop-append-le, take-at, drop-at, drop-drop}
+use borrow.Author.Tests.{le-leb}
+use Rattle.aut68.specs.Sizes.{rowWidth, atNameStart, atNameLength}
 use Rattle.aut68.specs.Bytes.{Bytes}
 use Rattle.aut68.specs.Expr.{cells}
-use Rattle.aut68.specs.Lines.{Line, Lines, kindCells, lineCells, termsOf, rowOf, rowsFrom, tableOf}
+use Rattle.aut68.specs.Lines.{Line, Lines, kindCells, lineCells, termsOf, rowOf, rowsFrom, tableOf, rowCell, partOf, identifierPart}
 use Rattle.aut68.specs.Rules.Names.{IsLine, first, later}
 use Rattle.aut68.specs.Procedure.Run.{over}
-use Rattle.cells.specs.Cells.{rowCell}
+use Rattle.lookup.specs.LineNumbers.{line-positive}
 use Rattle.cells.specs.Rows.{RowOf, CellsOf, NameOf, Rows, Stored, Named}
 use Rattle.cells.specs.RowLaws.{row-cell-is}
 
@@ -233,6 +235,21 @@ module _ {book : Bytes} {firsts : List ℕ} {ls : Lines} {tb ts : List ℕ} (h :
           within = (let q = p .within in omega (arith, cell-here 0, cell-here 1));
           bytesAre = rw (cell-here 0, cell-here 1) (p .bytesAre);
         }
+
+    -- the part of the book that the row points to is the identifier
+    pub held-identifier : identifierPart book tb v ≡ l .identifier
+    unfolding identifierPart partOf
+    held-identifier =
+        let n = held-name in
+        rw (
+          le-leb 1 v (line-positive i),
+          le-leb (rowWidth * v) (length tb) (held-row .whole),
+          le-leb (rowCell tb v atNameStart + rowCell tb v atNameLength) (length book)
+              (n .within),
+          identifierPart,
+          partOf,
+        )
+        (n .bytesAre)
 
   pub held-rows : Rows ls tb
   held-rows = record { row = λ i. held-row i }

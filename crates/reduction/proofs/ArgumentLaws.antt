@@ -5,6 +5,7 @@ use Prim.Native.Nat.{ℕ, _+_, _-_, _≤_, _<_}
 use native.Mathlib.Numerals.{add-one}
 use native.Mathlib.Omega.{arith}
 use lib.ListN.{length, getD, set, length-set}
+use Rattle.aut68.specs.Sizes.{cellValues}
 use Rattle.aut68.specs.Expr.{Exprs, nil, cons, size, cells, cellss, countExprs}
 use Rattle.cells.specs.Cells.{AllFormed, Wfs, At}
 use Rattle.cells.specs.Forests.{at-one, cells-one, size-is-length}
@@ -16,16 +17,14 @@ use Rattle.reduction.specs.Posts.{ArgumentsAtPost}
 -- of the arguments at `at`, the first i are passed, and the next one starts at `next`; starts has become starts′
 pub record Listed (tb w : List ℕ) (at count : ℕ) (starts starts′ : List ℕ) (i next : ℕ) : Type 0 where
   pub long : length starts′ ≡ length starts
-  pub low : i ≤ 63
   pub few : i ≤ count
   pub means : length starts ≡ 64 → getD starts 0 0 ≡ 0 → (xs : Exprs) {rest : List ℕ} → countExprs xs ≡ count → Wfs tb xs → At w at (cellss xs) rest
-      → length (cellss xs) < 65536 → StartedTo i xs starts′ × (next ≡ at + startOf xs i)
+      → length (cellss xs) < cellValues → StartedTo i xs starts′ × (next ≡ at + startOf xs i)
 
 module _ {tb w : List ℕ} {at count : ℕ} {starts : List ℕ} where
   pub listed-none : Listed tb w at count starts starts 0 at
   listed-none = record {
     long = refl;
-    low = omega arith;
     few = omega arith;
     means = λ m z xs n f a l. (started-none z, omega (arith, start-first xs));
   }
@@ -33,7 +32,7 @@ module _ {tb w : List ℕ} {at count : ℕ} {starts : List ℕ} where
   -- the argument with number i lies at `next`
   listed-next : {starts′ : List ℕ} {i next next′ : ℕ} → Listed tb w at count starts starts′ i next → Skipped tb w next 1 next′ → i < count
       → length starts ≡ 64 → getD starts 0 0 ≡ 0 → (xs : Exprs) {rest : List ℕ}
-      → countExprs xs ≡ count → Wfs tb xs → At w at (cellss xs) rest → length (cellss xs) < 65536
+      → countExprs xs ≡ count → Wfs tb xs → At w at (cellss xs) rest → length (cellss xs) < cellValues
       → (next′ ≡ at + startOf xs (i + 1)) × (at + startOf xs (i + 1) ≤ at + length (cellss xs))
   unfolding AllFormed countExprs
   listed-next {i = i} {next} {next′} L S h m z xs {rest} n f a l =
@@ -48,7 +47,6 @@ module _ {tb w : List ℕ} {at count : ℕ} {starts : List ℕ} where
       → Listed tb w at count starts (set starts′ (i + 1) (next′ - at)) (i + 1) next′
   listed-more {starts′} {i} {next} {next′} L S h k = record {
     long = length-set starts′ (i + 1) (next′ - at) ∙ L .long;
-    low = omega arith;
     few = omega arith;
     means = λ m z xs n f a l.
         let N = listed-next L S k m z xs n f a l in
@@ -57,7 +55,7 @@ module _ {tb w : List ℕ} {at count : ℕ} {starts : List ℕ} where
 
   -- it ends before it starts, or too far on: that is not met
   pub listed-wrong : {starts′ : List ℕ} {i next next′ : ℕ} → Listed tb w at count starts starts′ i next → Skipped tb w next 1 next′ → i < count
-      → (at ≤ next′ → 65535 < next′ - at) → ArgumentsAtPost tb w at count starts starts′
+      → (at ≤ next′ → cellValues ≤ next′ - at) → ArgumentsAtPost tb w at count starts starts′
   listed-wrong L S k h = record {
     started = λ m z xs n f a l. let N = listed-next L S k m z xs n f a l in absurd (omega (arith, h (omega (arith, N .0)), N .0, N .1));
   }

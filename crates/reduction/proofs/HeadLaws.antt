@@ -4,22 +4,24 @@ use mathlib.Core.List.{List, _∷_, _++_}
 use Prim.Native.Nat.{ℕ, _+_, _-_, _*_, _/_, _%_, _<_}
 use native.Mathlib.Omega.{arith}
 use lib.ListN.{length, getD, length-append}
+use Rattle.aut68.specs.Sizes.{cellFactor, atKind}
 use Rattle.aut68.specs.Expr.{Expr, Exprs, type, prop, var, bound, const, app, abs, nil, cons, snoc, size, firstCell, cells, countExprs, shape, other}
 use Rattle.aut68.specs.Substitution.{substitute, instantiate}
-use Rattle.aut68.specs.Lines.{Line, Lines, Kind, variable, primitive, abbreviation, kindNumber}
+use Rattle.aut68.specs.Lines.{Line, Lines, Kind, variable, primitive, abbreviation, kindNumber, rowCell}
 use Rattle.aut68.specs.Rules.Names.{IsLine}
-use Rattle.aut68.specs.Procedure.HeadStep.{Head, noStep, headStep}
+use Rattle.aut68.specs.Procedure.HeadStep.{noStep, headStep}
 use Rattle.aut68.specs.Rules.Resolved.{Scoped, ConstantOf}
 use Rattle.lookup.specs.LineNumbers.{line-lineOf, primitive≢abbreviation, variable≢abbreviation}
 use Rattle.calculus.specs.Scoped.{ScopedCategory, scoped-category}
 use Rattle.calculus.specs.Resolved.{VariableLine, Known, KnownCategory}
-use Rattle.cells.specs.Cells.{rowCell, AllFormed, At}
+use Rattle.cells.specs.Cells.{AllFormed, At}
 use Rattle.cells.specs.Forests.{at-first, at-front, at-second, at-one, at-tail, cells-one, size-is-length, size-positive, number-of, kind-of}
 use Rattle.cells.specs.Posts.{Skipped}
-use Rattle.reduction.specs.Book.{Book, known-wf}
-use Rattle.reduction.specs.Heads.{applied, front, wrapped, applied-snoc, front-snoc, wrapped-snoc, wrapped-none, wrapped-beta, wrapped-delta, app-contracts, app-passes, const-unfolds, const-stays, HeadIs, no-head, contraction, unfolding-of}
-use Rattle.reduction.specs.Posts.{HeadCell}
 use Rattle.reduction.specs.declared.heads.Head as struct
+use Rattle.reduction.specs.Book.{Book, known-wf}
+use Rattle.reduction.specs.Heads.{applied, front, wrapped, applied-snoc, front-snoc, wrapped-snoc, wrapped-none, wrapped-beta, wrapped-delta}
+use Rattle.reduction.specs.Heads.{app-contracts, app-passes, const-unfolds, const-stays, HeadIs, no-head, contraction, unfolding-of}
+use Rattle.reduction.specs.Posts.{HeadCell}
 
 -- the A's fs of e, which has n cells from index `start` on, are passed; at index i stands the rest of it, `head`
 pub record Searching (ls : Lines) (k : ℕ) (w : List ℕ) (start i n : ℕ) (e : Expr) : Type 0 where
@@ -61,19 +63,19 @@ search-inside s = omega (arith, s .ends, size-positive (s .head))
 
 module _ {ls : Lines} {L : ℕ} {tb ts : List ℕ} (B : Book ls L tb ts) (r : struct.Head) where
   stays-put : (start i : ℕ) (fs : Exprs) (v : ℕ) (xs : Exprs) (e : Expr) (l : Line) → headStep ls e ≡ wrapped fs (headStep ls (const v xs)) → IsLine ls v l
-      → ((m : Expr) → l .kind ≡ abbreviation m → ⊥) → kindNumber (l .kind) < 2 → HeadCell tb (8 * v + 3) i (i - start) r
+      → ((m : Expr) → l .kind ≡ abbreviation m → ⊥) → kindNumber (l .kind) < 2 → HeadCell tb (cellFactor * v + 3) i (i - start) r
       → HeadIs ls start (r .kind) (r .at) (r .kept) (r .line) e
   stays-put start i fs v xs e l s j n z h =
       no-head (s ∙ ap (wrapped fs) (const-stays ls v xs (λ m g. n m (ap (λ (x : Line). x .kind) (sym (line-lineOf j)) ∙ g))) ∙ wrapped-none fs)
-      (h .stays (λ a b. omega (arith, B .rows .row j .kindIs, ap (λ (n : ℕ). rowCell tb n 4) (number-of v 3 (omega arith)))))
+      (h .stays (λ a b. omega (arith, B .rows .row j .kindIs, ap (λ (n : ℕ). rowCell tb n atKind) (number-of v 3 (omega arith)))))
 
   -- a constant, by the kind of its line
   of-constant : (start i : ℕ) (fs : Exprs) (v : ℕ) (xs : Exprs) (e : Expr) (l : Line) (q : Kind) → e ≡ applied fs (const v xs)
       → headStep ls e ≡ wrapped fs (headStep ls (const v xs)) → i ≡ start + length (front fs) → IsLine ls v l → l .kind ≡ q
-      → HeadCell tb (8 * v + 3) i (i - start) r → HeadIs ls start (r .kind) (r .at) (r .kept) (r .line) e
+      → HeadCell tb (cellFactor * v + 3) i (i - start) r → HeadIs ls start (r .kind) (r .at) (r .kept) (r .line) e
   unfolding kindNumber
   of-constant start i fs v xs e l (abbreviation m) w s p j g h =
-      let row : rowCell tb ((8 * v + 3) / 8) 4 ≡ 2 = ap (λ (n : ℕ). rowCell tb n 4) (number-of v 3 (omega arith)) ∙ B .rows .row j .kindIs ∙ ap kindNumber g in
+      let row : rowCell tb ((cellFactor * v + 3) / cellFactor) atKind ≡ 2 = ap (λ (n : ℕ). rowCell tb n atKind) (number-of v 3 (omega arith)) ∙ B .rows .row j .kindIs ∙ ap kindNumber g in
       let u = h .unfolds (kind-of v 3 (omega arith)) row in
       let line : r .line ≡ v = u .1 ∙ number-of v 3 (omega arith) in
       subst (λ (n : ℕ). HeadIs ls start (r .kind) (r .at) (r .kept) n e) (sym line)
@@ -85,7 +87,7 @@ module _ {ls : Lines} {L : ℕ} {tb ts : List ℕ} (B : Book ls L tb ts) (r : st
   of-constant start i fs v xs e l primitive w s p j g h = stays-put start i fs v xs e l s j (λ m n. primitive≢abbreviation (sym g ∙ n)) (omega (arith, ap kindNumber g)) h
 
   no-step : (start : ℕ) (fs : Exprs) (x : ℕ) (i : ℕ) (e : Expr) (g : Expr) → headStep ls g ≡ noStep → headStep ls e ≡ wrapped fs (headStep ls g)
-      → (x % 8 ≡ 3 → ⊥) → HeadCell tb x i (i - start) r → HeadIs ls start (r .kind) (r .at) (r .kept) (r .line) e
+      → (x % cellFactor ≡ 3 → ⊥) → HeadCell tb x i (i - start) r → HeadIs ls start (r .kind) (r .at) (r .kept) (r .line) e
   no-step start fs x i e g q s n h = no-head (s ∙ ap (wrapped fs) q ∙ wrapped-none fs) (h .stays (λ a b. n a))
 
   of-cell : (k start i : ℕ) (fs : Exprs) (e g : Expr) → e ≡ applied fs g → headStep ls e ≡ wrapped fs (headStep ls g) → i ≡ start + length (front fs)
@@ -93,8 +95,8 @@ module _ {ls : Lines} {L : ℕ} {tb ts : List ℕ} (B : Book ls L tb ts) (r : st
   unfolding firstCell headStep ScopedCategory
   of-cell k start i fs e type w s p K n h = no-step start fs 0 i e type refl s (λ z. omega arith) h
   of-cell k start i fs e prop w s p K n h = no-step start fs 6 i e prop refl s (λ z. omega arith) h
-  of-cell k start i fs e (var v) w s p K n h = no-step start fs (8 * v + 1) i e (var v) refl s (λ z. omega arith) h
-  of-cell k start i fs e (bound v) w s p K n h = no-step start fs (8 * v + 2) i e (bound v) refl s (λ z. omega arith) h
+  of-cell k start i fs e (var v) w s p K n h = no-step start fs (cellFactor * v + 1) i e (var v) refl s (λ z. omega arith) h
+  of-cell k start i fs e (bound v) w s p K n h = no-step start fs (cellFactor * v + 2) i e (bound v) refl s (λ z. omega arith) h
   of-cell k start i fs e (const v xs) w s p K n h =
       let c = K .0 in
       of-constant start i fs v xs e (c .line) (c .line .kind) w s p (c .isLine) refl h

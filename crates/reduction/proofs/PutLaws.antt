@@ -6,16 +6,17 @@ use Prim.Native.Nat.{ℕ, _+_, _-_, _*_, _≤_, _<_}
 use native.Mathlib.Omega.{arith}
 use lib.ListN.{length, getD, drop, length-append}
 use lib.Seq.{sets, take-all}
+use Rattle.aut68.specs.Sizes.{cellFactor, cellValues, largestLimit, workUnits, atContext, atMiddle, atCategory}
 use Rattle.aut68.specs.Expr.{Expr, const, app, abs, nil, cons, size, cells, cellss, countExprs}
 use Rattle.aut68.specs.Substitution.{instantiate}
-use Rattle.aut68.specs.Lines.{Line, Lines, abbreviation, kindCells}
+use Rattle.aut68.specs.Lines.{Line, Lines, abbreviation, kindCells, rowCell}
 use Rattle.aut68.specs.Rules.Names.{IsLine}
 use Rattle.aut68.specs.Procedure.HeadStep.{left}
 use Rattle.aut68.specs.Rules.Resolved.{Scoped, ConstantOf}
 use Rattle.calculus.specs.Scoped.{scoped-category}
 use Rattle.calculus.specs.Known.{known-category-head}
 use Rattle.calculus.specs.Resolved.{VariableLine, KnownCategory}
-use Rattle.cells.specs.Cells.{rowCell, AllFormed, Wf, At, copyCells}
+use Rattle.cells.specs.Cells.{AllFormed, Wf, At, copyCells}
 use Rattle.cells.specs.CopyLaws.{copy-outside, copy-at}
 use Rattle.cells.specs.Forests.{at-inside, at-tail, at-front, at-second, at-one, cells-one, cells-long, size-is-length, sizes-is-length}
 use Rattle.cells.specs.Layout.{unitAt, scratchUnit, resultUnit, unit-below, unit-inside}
@@ -35,11 +36,11 @@ module _ (limit : ℕ) where
   pub scratch-below-result : unitAt limit scratchUnit + limit ≤ unitAt limit resultUnit
   scratch-below-result = unit-below limit (omega arith)
 
-  pub result-inside : unitAt limit resultUnit + limit ≤ 128 * limit
+  pub result-inside : unitAt limit resultUnit + limit ≤ workUnits * limit
   result-inside = unit-inside limit (omega arith)
 
 -- nothing was done
-pub prepared-none : {limit room : ℕ} {w : List ℕ} → Prepared limit room 65536 w w
+pub prepared-none : {limit room : ℕ} {w : List ℕ} → Prepared limit room cellValues w w
 unfolding noRoom
 prepared-none = record { quiet = framed-same; answers = inr refl }
 
@@ -56,7 +57,9 @@ in-result limit {room} {e} {r} {to} {w} {w′} q h m = record {
     m .fits s,
     record {
       rest = drop (to + length (cells e)) w;
-      at = subst (λ (i : ℕ). At w′ i (cells e) (drop (to + length (cells e)) w)) q (subst (λ (l : List ℕ). At l to (cells e) (drop (to + length (cells e)) w)) (written s) (at-sets w (cells e) to (omega (arith, size-is-length e))));
+      at =
+          subst (λ (i : ℕ). At w′ i (cells e) (drop (to + length (cells e)) w)) q
+          (subst (λ (l : List ℕ). At l to (cells e) (drop (to + length (cells e)) w)) (written s) (at-sets w (cells e) to (omega (arith, size-is-length e))));
     },
   );
   large = λ s. m .large s;
@@ -70,7 +73,6 @@ in-result limit {room} {e} {r} {to} {w} {w′} q h m = record {
 -- <A>[x,P]T from index `at` on: where A, the abstraction and T start
 pub record Contracting (tb w : List ℕ) (at f : ℕ) (a p t : Expr) (rest : List ℕ) : Type 0 where
   pub argument : At w (at + 1) (cells a) (5 ∷ (cells p ++ cells t) ++ rest)
-  pub function : At w f (5 ∷ (cells p ++ cells t)) rest
   pub inside : f + 1 + length (cells p) + length (cells t) ≤ length w
   pub body : {g : ℕ} → Skipped tb w (f + 1) 1 g → (g ≡ f + 1 + length (cells p)) × At w g (cells t) rest
 
@@ -87,7 +89,6 @@ contracting {tb} {w} {at} {f} a p t {rest} wa wp h s =
     let parts : At w (f + 1) (cells p ++ cells t) rest = record { is = at-tail w f 5 ((cells p ++ cells t) ++ rest) (fun .is) } in
     record {
       argument = first;
-      function = fun;
       inside = omega (arith, q, at-inside (app a (abs p t)) h, length-append (cells a) (5 ∷ (cells p ++ cells t)), length-append (cells p) (cells t));
       body = λ {g} z.
           let b : g ≡ f + 1 + length (cells p) =
@@ -96,13 +97,13 @@ contracting {tb} {w} {at} {f} a p t {rest} wa wp h s =
     }
 
 -- a redex that the store has no cells for is none
-pub contracted-none : {tb w : List ℕ} {limit at room : ℕ} → length w ≤ at → ContractedPost tb w w limit at room 65536
+pub contracted-none : {tb w : List ℕ} {limit at room : ℕ} → length w ≤ at → ContractedPost tb w w limit at room cellValues
 contracted-none h = record {
   prepared = prepared-none;
   made = λ l m a p t wa wp wt z b o. absurd (omega (arith, at-inside (app a (abs p t)) z, cells-long (app a (abs p t))));
 }
 
-pub contracted-no-function : {tb w : List ℕ} {limit at room f : ℕ} → Skipped tb w (at + 1) 1 f → length w ≤ f → ContractedPost tb w w limit at room 65536
+pub contracted-no-function : {tb w : List ℕ} {limit at room f : ℕ} → Skipped tb w (at + 1) 1 f → length w ≤ f → ContractedPost tb w w limit at room cellValues
 contracted-no-function s h = record {
   prepared = prepared-none;
   made = λ l m a p t wa wp wt z b o. absurd (omega (arith, contracting a p t wa wp z s .inside));
@@ -126,13 +127,13 @@ contracted-law {tb} {w} {limit = limit} {at} {f = f} {g} {result} q s z S = reco
 
 -- ---- an unfolding
 
-pub unfolded-none : {tb ts w : List ℕ} {limit at v room : ℕ} → length w ≤ at → UnfoldedPost tb ts w w limit at v room 65536
+pub unfolded-none : {tb ts w : List ℕ} {limit at v room : ℕ} → length w ≤ at → UnfoldedPost tb ts w w limit at v room cellValues
 unfolded-none {v = v} h = record {
   prepared = prepared-none;
   made = λ l m B k xs i g W z a b s. absurd (omega (arith, at-inside (const v xs) a, cells-long (const v xs)));
 }
 
-pub unfolded-law : {tb ts w w′ : List ℕ} {limit at v room r from count result : ℕ} {starts starts′ : List ℕ} → limit ≤ 4096 → from ≡ rowCell tb v 5 → count ≡ rowCell tb v 3
+pub unfolded-law : {tb ts w w′ : List ℕ} {limit at v room r from count result : ℕ} {starts starts′ : List ℕ} → limit ≤ largestLimit → from ≡ rowCell tb v atMiddle → count ≡ rowCell tb v atContext
     → length starts ≡ 64 → getD starts 0 0 ≡ 0 → ArgumentsAtPost tb w (at + 1) count starts starts′ → result ≡ unitAt limit resultUnit
     → InstantiatePost tb ts w w′ from (at + 1) count starts′ result room r → UnfoldedPost tb ts w w′ limit at v room r
 unfolding cells size Scoped kindCells left
@@ -149,7 +150,7 @@ unfolded-law {tb} {ts} {w} {limit = limit} {at} {v} {count = count} {result} sma
       let U = scratch-below-result limit in
       let n : countExprs xs ≡ count = right-count (B .rows) v (countExprs xs) (W .0) ∙ sym ec in
       let f = all-known-wf (B .rows) k xs (W .1) in
-      let p : At w (at + 1) (cellss xs) rest = record { is = at-tail w at (8 * v + 3) (cellss xs ++ rest) (a .is) } in
+      let p : At w (at + 1) (cellss xs) rest = record { is = at-tail w at (cellFactor * v + 3) (cellss xs ++ rest) (a .is) } in
       in-result limit t (omega arith)
       (I .made (l .context) xs m _ (omega arith) (middle-numbered B j xs m g)
       (record {
@@ -159,14 +160,15 @@ unfolded-law {tb} {ts} {w} {limit = limit} {at} {v} {count = count} {result} sma
         rest = _;
         lies = at-before {n = result} (omega (arith, sizes-is-length xs)) p;
       })
-      (subst (λ (i : ℕ). At ts i (cells m) (S .afterMiddle)) (sym ef) (subst (λ (c : List ℕ). At ts (rowCell tb v 5) c (S .afterMiddle)) e (S .middleAt)))
+      (subst (λ (i : ℕ). At ts i (cells m) (S .afterMiddle)) (sym ef) (subst (λ (c : List ℕ). At ts (rowCell tb v atMiddle) c (S .afterMiddle)) e (S .middleAt)))
       (instantiated-below ls (B .few) k (l .context) xs m known z (omega arith) (omega (arith, size-is-length m))));
 }
 
 -- ---- an abbreviation without arguments
 
 -- the middle's size is told by where the category starts
-middle-size : {tb ts : List ℕ} {v from end : ℕ} → from ≡ rowCell tb v 5 → end ≡ rowCell tb v 6 → {ls : Lines} {limit : ℕ} → Book ls limit tb ts → {l : Line} {m : Expr} → IsLine ls v l → l .kind ≡ abbreviation m
+middle-size : {tb ts : List ℕ} {v from end : ℕ} → from ≡ rowCell tb v atMiddle → end ≡ rowCell tb v atCategory
+    → {ls : Lines} {limit : ℕ} → Book ls limit tb ts → {l : Line} {m : Expr} → IsLine ls v l → l .kind ≡ abbreviation m
     → (end ≡ from + size m) × Lies ts from m
 unfolding kindCells
 middle-size ef ee B {l} {m} j g =
@@ -176,8 +178,8 @@ middle-size ef ee B {l} {m} j g =
       record { rest = S .afterMiddle; at = rw (ef, sym e) (S .middleAt) },
     )
 
-module _ {tb ts w : List ℕ} {at v room from end : ℕ} (ef : from ≡ rowCell tb v 5) (ee : end ≡ rowCell tb v 6) where
-  pub in-place-none : (from ≤ end → room < end - from) → InPlacePost tb ts w w at v room 65536
+module _ {tb ts w : List ℕ} {at v room from end : ℕ} (ef : from ≡ rowCell tb v atMiddle) (ee : end ≡ rowCell tb v atCategory) where
+  pub in-place-none : (from ≤ end → room < end - from) → InPlacePost tb ts w w at v room cellValues
   unfolding noRoom
   in-place-none h = record {
     outside = outside-same;

@@ -6,15 +6,16 @@ use mathlib.Core.List.{List, _++_, append-assoc}
 use Prim.Native.Nat.{ℕ, suc, _+_, _-_, _*_, _≤_, _<_}
 use native.Mathlib.Omega.{arith}
 use lib.ListN.{length, drop}
+use Rattle.aut68.specs.Sizes.{cellValues, largestLimit, workUnits, atContext}
 use Rattle.aut68.specs.Expr.{Expr, Exprs, const, app, abs, size, cells}
 use Rattle.aut68.specs.Substitution.{substitute, instantiate}
-use Rattle.aut68.specs.Lines.{Lines}
+use Rattle.aut68.specs.Lines.{Lines, rowCell}
 use Rattle.aut68.specs.Procedure.HeadStep.{headStep, left}
 use Rattle.aut68.specs.Rules.Resolved.{Scoped, ConstantOf}
 use Rattle.calculus.specs.Scoped.{scoped-category}
 use Rattle.calculus.specs.Known.{known-category-head}
 use Rattle.calculus.specs.Resolved.{VariableLine, Known, KnownCategory}
-use Rattle.cells.specs.Cells.{rowCell, At, Outside, moveCells}
+use Rattle.cells.specs.Cells.{At, Outside, moveCells}
 use Rattle.cells.specs.CopyLaws.{move-outside, move-at}
 use Rattle.cells.specs.Forests.{at-front, at-second, size-is-length}
 use Rattle.cells.specs.Layout.{unitAt, scratchUnit, resultUnit}
@@ -58,7 +59,7 @@ module _ {tb ts w w′ : List ℕ} {limit : ℕ} (h : Head) {room r : ℕ} where
     made = λ l m {ls} B k e {start} {rest} K z s a u H n. go l m B k e K z s a u n H;
   }
     where
-      go : 128 * limit ≤ length w → room ≤ limit → {ls : Lines} → Book ls limit tb ts → (k : ℕ) (e : Expr) {start : ℕ} {rest : List ℕ} → KnownCategory ls k e → k ≤ 4096
+      go : workUnits * limit ≤ length w → room ≤ limit → {ls : Lines} → Book ls limit tb ts → (k : ℕ) (e : Expr) {start : ℕ} {rest : List ℕ} → KnownCategory ls k e → k ≤ largestLimit
           → size e ≤ limit → At w start (cells e) rest → start + limit ≤ unitAt limit scratchUnit → (h .kind ≡ 0 → ⊥)
           → HeadIs ls start (h .kind) (h .at) (h .kept) (h .line) e → Redex ls (unitAt limit resultUnit) room e (h .kept) r w′
       go l m B k e K z s a u n (no-head q o) = absurd (n o)
@@ -76,7 +77,9 @@ module _ {tb ts w w′ : List ℕ} {limit : ℕ} (h : Head) {room r : ℕ} where
             stands = C .made l m x p t (known-wf (B .rows) k x (W .0)) (known-wf (B .rows) k p (W .1 .0)) (known-wf (B .rows) (suc k) t (W .1 .1))
                 (redex-at fs (app x (abs p t)) q d a)
                 (omega arith)
-                (substituted-below ls (B .few) k x t (known-category-head ls (B .resolved) k (app x (abs p t)) _ (ap left (app-contracts ls x p t)) (scoped-category (VariableLine ls) (ConstantOf ls) k (app x (abs p t)) W)) z (omega (arith, B .limit)) (omega (arith, B .limit)));
+                (substituted-below ls (B .few) k x t
+                (known-category-head ls (B .resolved) k (app x (abs p t)) _ (ap left (app-contracts ls x p t))
+                (scoped-category (VariableLine ls) (ConstantOf ls) k (app x (abs p t)) W)) z (omega (arith, B .limit)) (omega (arith, B .limit)));
           }
 
   pub unfolded-redex : (h .kind ≡ 1 → ⊥) → UnfoldedPost tb ts w w′ limit (h .at) (h .line) room r → RedexPost tb ts w w′ limit h room r
@@ -86,7 +89,7 @@ module _ {tb ts w w′ : List ℕ} {limit : ℕ} (h : Head) {room r : ℕ} where
     made = λ l m {ls} B k e {start} {rest} K z s a u H n. go l m B k e K z s a u n H;
   }
     where
-      go : 128 * limit ≤ length w → room ≤ limit → {ls : Lines} → Book ls limit tb ts → (k : ℕ) (e : Expr) {start : ℕ} {rest : List ℕ} → KnownCategory ls k e → k ≤ 4096
+      go : workUnits * limit ≤ length w → room ≤ limit → {ls : Lines} → Book ls limit tb ts → (k : ℕ) (e : Expr) {start : ℕ} {rest : List ℕ} → KnownCategory ls k e → k ≤ largestLimit
           → size e ≤ limit → At w start (cells e) rest → start + limit ≤ unitAt limit scratchUnit → (h .kind ≡ 0 → ⊥)
           → HeadIs ls start (h .kind) (h .at) (h .kept) (h .line) e → Redex ls (unitAt limit resultUnit) room e (h .kept) r w′
       go l m B k e K z s a u n (no-head q o) = absurd (n o)
@@ -105,8 +108,8 @@ module _ {tb ts w w′ : List ℕ} {limit : ℕ} (h : Head) {room r : ℕ} where
           }
 
 -- an abbreviation that takes no arguments, in place
-pub in-place-redex : {tb ts w w′ : List ℕ} {limit : ℕ} (h : Head) {room r : ℕ} → h .kind ≡ 2 → rowCell tb (h .line) 3 ≡ 0 → room ≡ limit - h .kept
-    → InPlacePost tb ts w w′ (h .at) (h .line) room r → 128 * limit ≤ length w → {ls : Lines} → Book ls limit tb ts → (e : Expr) {start : ℕ}
+pub in-place-redex : {tb ts w w′ : List ℕ} {limit : ℕ} (h : Head) {room r : ℕ} → h .kind ≡ 2 → rowCell tb (h .line) atContext ≡ 0 → room ≡ limit - h .kept
+    → InPlacePost tb ts w w′ (h .at) (h .line) room r → workUnits * limit ≤ length w → {ls : Lines} → Book ls limit tb ts → (e : Expr) {start : ℕ}
     → start + limit ≤ unitAt limit scratchUnit → h .kept ≤ limit → HeadIs ls start (h .kind) (h .at) (h .kept) (h .line) e → Redex ls (h .at) room e (h .kept) r w′
 unfolding left
 in-place-redex h two none free U l B e u s (no-head q o) = absurd (omega arith)
@@ -144,10 +147,10 @@ lies-applied {w} {w′} {start} {at} {rest = rest} e fs old next q p a o z = rec
       (subst (λ (i : ℕ). At w′ i (cells next) (z .rest)) p (z .at)));
 }
 
-module _ {limit kept room : ℕ} (small : limit ≤ 4096) (within : kept ≤ limit) (free : room ≡ limit - kept) {ls : Lines} {place m : ℕ} {e : Expr} {w₁ : List ℕ}
+module _ {limit kept room : ℕ} (small : limit ≤ largestLimit) (within : kept ≤ limit) (free : room ≡ limit - kept) {ls : Lines} {place m : ℕ} {e : Expr} {w₁ : List ℕ}
     (X : Redex ls place room e kept m w₁) where
   -- the redex has more cells than the room: the expression has more than the limit
-  stepped-refused : {start : ℕ} → room < m → Stepped ls limit start e 65536 w₁
+  stepped-refused : {start : ℕ} → room < m → Stepped ls limit start e cellValues w₁
   unfolding noRoom
   stepped-refused g = record {
     next = applied (X .fs) (X .made);
@@ -176,7 +179,7 @@ module _ {limit kept room : ℕ} (small : limit ≤ 4096) (within : kept ≤ lim
       }
 
 module _ {tb ts w : List ℕ} {limit : ℕ} {h : Head} where
-  pub step-no-limit : 4096 < limit → StepPost tb ts w w limit h 65536
+  pub step-no-limit : largestLimit < limit → StepPost tb ts w w limit h cellValues
   unfolding noRoom
   step-no-limit g = record {
     framed = framed-same;
@@ -185,7 +188,7 @@ module _ {tb ts w : List ℕ} {limit : ℕ} {h : Head} where
     made = λ l B k e K z s a u H n. absurd (omega (arith, B .limit));
   }
 
-  pub step-no-place : limit < h .kept → StepPost tb ts w w limit h 65536
+  pub step-no-place : limit < h .kept → StepPost tb ts w w limit h cellValues
   unfolding noRoom
   step-no-place g = record {
     framed = framed-same;
@@ -195,9 +198,9 @@ module _ {tb ts w : List ℕ} {limit : ℕ} {h : Head} where
   }
 
   -- the redex is made in the result unit
-  module _ {w₁ : List ℕ} {room m : ℕ} (small : limit ≤ 4096) (kept : h .kept ≤ limit) (free : room ≡ limit - h .kept) (R : RedexPost tb ts w w₁ limit h room m) where
+  module _ {w₁ : List ℕ} {room m : ℕ} (small : limit ≤ largestLimit) (kept : h .kept ≤ limit) (free : room ≡ limit - h .kept) (R : RedexPost tb ts w w₁ limit h room m) where
     -- it has more cells than the room
-    pub step-refused : room < m → StepPost tb ts w w₁ limit h 65536
+    pub step-refused : room < m → StepPost tb ts w w₁ limit h cellValues
     unfolding noRoom
     step-refused g = record {
       framed = quiet-framed (R .prepared .quiet);
@@ -212,7 +215,7 @@ module _ {tb ts w : List ℕ} {limit : ℕ} {h : Head} where
       move-there = subst (λ (l : List ℕ). Outside (h .at) (h .at + m) w₁ l) (sym moved) (move-outside w₁ result m (h .at))
 
       -- where it was made, the expression is as it was
-      moved-lies : {start : ℕ} {rest : List ℕ} (e : Expr) → 128 * limit ≤ length w → start + limit ≤ unitAt limit scratchUnit → At w start (cells e) rest → size e ≤ limit
+      moved-lies : {start : ℕ} {rest : List ℕ} (e : Expr) → workUnits * limit ≤ length w → start + limit ≤ unitAt limit scratchUnit → At w start (cells e) rest → size e ≤ limit
           → h .at ≡ start + h .kept → (fs : Exprs) (old next : Expr) → e ≡ applied fs old → h .kept ≡ length (front fs) → m ≡ size next → Lies w₁ (unitAt limit resultUnit) next
           → Lies w₂ start (applied fs next)
       moved-lies {start} {rest} e l u a s p fs old next q f d z =
@@ -242,9 +245,9 @@ module _ {tb ts w : List ℕ} {limit : ℕ} {h : Head} where
       }
 
   -- the redex is an abbreviation without arguments, and its middle is put in its place
-  module _ {w₁ : List ℕ} {room m : ℕ} (small : limit ≤ 4096) (kept : h .kept ≤ limit) (free : room ≡ limit - h .kept) (two : h .kind ≡ 2)
-      (none : rowCell tb (h .line) 3 ≡ 0) (U : InPlacePost tb ts w w₁ (h .at) (h .line) room m) where
-    pub in-place-refused : room < m → StepPost tb ts w w₁ limit h 65536
+  module _ {w₁ : List ℕ} {room m : ℕ} (small : limit ≤ largestLimit) (kept : h .kept ≤ limit) (free : room ≡ limit - h .kept) (two : h .kind ≡ 2)
+      (none : rowCell tb (h .line) atContext ≡ 0) (U : InPlacePost tb ts w w₁ (h .at) (h .line) room m) where
+    pub in-place-refused : room < m → StepPost tb ts w w₁ limit h cellValues
     unfolding noRoom
     in-place-refused g = record {
       framed = rw (U .refused g) framed-same;

@@ -3,6 +3,7 @@ use mathlib.Core.Path.{sym, _∙_}
 use mathlib.Core.List.{List}
 use Prim.Native.Nat.{ℕ, suc, _≤_, _<_}
 use lib.ListN.{length}
+use Rattle.aut68.specs.Sizes.{lineLimit, largestLimit}
 use Rattle.aut68.specs.Expr.{Expr, Exprs, type, prop, var, bound, const, app, abs, nil, cons, size, countExprs}
 use Rattle.aut68.specs.Lines.{Line, Lines, kindCells}
 use Rattle.aut68.specs.Rules.Names.{IsLine, Context}
@@ -14,7 +15,7 @@ use Rattle.cells.specs.Rows.{Rows, Stored}
 
 pub record Book (ls : Lines) (L : ℕ) (tb ts : List ℕ) : Type 0 where
   -- their numbers fit a cell
-  pub few : length ls < 8192
+  pub few : length ls < lineLimit
   pub rows : Rows ls tb
   pub stored : Stored ls tb ts
   pub resolved : ResolvedLines ls
@@ -22,7 +23,7 @@ pub record Book (ls : Lines) (L : ℕ) (tb ts : List ℕ) : Type 0 where
   pub earlier : {v : ℕ} {l : Line} → IsLine ls v l → l .indicator < v
   pub middleSize : {v : ℕ} {l : Line} → IsLine ls v l → length (kindCells (l .kind)) ≤ L
   pub categorySize : {v : ℕ} {l : Line} → IsLine ls v l → size (l .category) ≤ L
-  pub limit : L ≤ 4096
+  pub limit : L ≤ largestLimit
 
 -- what is scoped is formed, under weaker demands
 module _ (X X′ : ℕ → Type 0) (C C′ : ℕ → ℕ → Type 0) (f : (v : ℕ) → X v → X′ v) (g : (v n : ℕ) → C v n → C′ v n) where

@@ -4,10 +4,11 @@ use mathlib.Core.Path.{_≡_, refl, subst}
 use mathlib.Core.Bool.{Bool, true, false}
 use mathlib.Core.Option.{Option, none, some}
 use mathlib.Core.List.{List, [], _∷_, _++_}
-use Prim.Native.Nat.{ℕ, suc, _+_, _-_, _*_, _≤_, _<_}
+use Prim.Native.Nat.{ℕ, suc, _+_, _-_, _*_, _/_, _≤_, _<_}
 use native.Mathlib.Omega.{arith}
 use lib.Dec.{eqb}
 use lib.ListN.{length}
+use Rattle.aut68.specs.Sizes.{cellFactor, cellValues, lineLimit, largestLimit}
 use Rattle.aut68.specs.Expr.{Expr, Exprs, type, prop, var, bound, const, app, abs, nil, cons, size, sizes, cells, cellss}
 use Rattle.aut68.specs.Substitution.{lift, lifts, substituteBound, substitute, substitutes, argumentFor, instantiateVariable, instantiate, instantiates}
 use Rattle.aut68.specs.Lines.{Lines}
@@ -158,25 +159,25 @@ module _ (X : ℕ → Type 0) (C : ℕ → ℕ → Type 0) (n : ℕ) (f : (v : �
   mutual
     unfolding Scoped Deep cells Below
 
-    pub deep-below : (k d : ℕ) (e : Expr) → Scoped X C k e → Deep d e → k + d ≤ n → Below (8 * n) (cells e)
+    pub deep-below : (k d : ℕ) (e : Expr) → Scoped X C k e → Deep d e → k + d ≤ n → Below (cellFactor * n) (cells e)
     deep-below k d type w h l = absurd w
     deep-below k d prop w h l = absurd w
     deep-below k d (var v) w h l = let m = f v w in (omega arith, tt)
     deep-below k d (bound i) w h l = (omega arith, tt)
     deep-below k d (const v xs) w h l = let m = g v _ (w .0) in (omega arith, all-deep-below k d xs (w .1) h l)
     deep-below k d (app a b) w h l =
-        let q = below-append (8 * n) (cells a) (cells b) (deep-below k d a (w .0) (h .0) l) (deep-below k d b (w .1) (h .1) l) in
+        let q = below-append (cellFactor * n) (cells a) (cells b) (deep-below k d a (w .0) (h .0) l) (deep-below k d b (w .1) (h .1) l) in
         (omega arith, q)
     deep-below k d (abs p t) w h l =
-        let q = below-append (8 * n) (cells p) (cells t) (deep-below k d p (w .0) (h .0) l) (deep-below (suc k) (d - 1) t (w .1) (h .2) (omega arith)) in
+        let q = below-append (cellFactor * n) (cells p) (cells t) (deep-below k d p (w .0) (h .0) l) (deep-below (suc k) (d - 1) t (w .1) (h .2) (omega arith)) in
         (omega arith, q)
 
-    all-deep-below : (k d : ℕ) (es : Exprs) → AllScoped X C k es → AllDeep d es → k + d ≤ n → Below (8 * n) (cellss es)
+    all-deep-below : (k d : ℕ) (es : Exprs) → AllScoped X C k es → AllDeep d es → k + d ≤ n → Below (cellFactor * n) (cellss es)
     all-deep-below k d nil w h l = tt
     all-deep-below k d (cons a xs) w h l =
-        below-append (8 * n) (cells a) (cellss xs) (deep-below k d a (w .0) (h .0) l) (all-deep-below k d xs (w .1) (h .1) l)
+        below-append (cellFactor * n) (cells a) (cellss xs) (deep-below k d a (w .0) (h .0) l) (all-deep-below k d xs (w .1) (h .1) l)
 
-  pub category-below : (k d : ℕ) (e : Expr) → ScopedCategory X C k e → Deep d e → k + d ≤ n → Below (8 * n) (cells e)
+  pub category-below : (k d : ℕ) (e : Expr) → ScopedCategory X C k e → Deep d e → k + d ≤ n → Below (cellFactor * n) (cells e)
   unfolding Scoped ScopedCategory Deep cells Below
   category-below k d type w h l = (omega arith, tt)
   category-below k d prop w h l = (omega arith, tt)
@@ -185,34 +186,33 @@ module _ (X : ℕ → Type 0) (C : ℕ → ℕ → Type 0) (n : ℕ) (f : (v : �
   category-below k d (const v xs) w h l = deep-below k d (const v xs) w h l
   category-below k d (app a b) w h l = deep-below k d (app a b) w h l
   category-below k d (abs p t) w h l =
-      let q = below-append (8 * n) (cells p) (cells t) (deep-below k d p (w .0) (h .0) l) (category-below (suc k) (d - 1) t (w .1) (h .2) (omega arith)) in
+      let q = below-append (cellFactor * n) (cells p) (cells t) (deep-below k d p (w .0) (h .0) l) (category-below (suc k) (d - 1) t (w .1) (h .2) (omega arith)) in
       (omega arith, q)
 
 -- ---- known categories
 
-module _ (ls : Lines) (few : length ls < 8192) where
-  line-small : (v : ℕ) → v ≤ length ls → v < 8192
+abbrev half : ℕ
+half = largestLimit / 2
+
+module _ (ls : Lines) (few : length ls < lineLimit) where
+  line-small : (v : ℕ) → v ≤ length ls → v < lineLimit
   line-small v r = omega arith
 
-  pub known-below : (k d : ℕ) (e : Expr) → KnownCategory ls k e → Deep d e → k + d ≤ 8192 → Below 65536 (cells e)
+  pub known-below : (k d : ℕ) (e : Expr) → KnownCategory ls k e → Deep d e → k + d ≤ lineLimit → Below cellValues (cells e)
   known-below k d e w h l =
-      category-below (VariableLine ls) (ConstantOf ls) 8192 (λ v x. line-small v (line-within (x .isLine))) (λ v n x. line-small v (line-within (x .isLine))) (omega arith)
+      category-below (VariableLine ls) (ConstantOf ls) lineLimit (λ v x. line-small v (line-within (x .isLine))) (λ v n x. line-small v (line-within (x .isLine))) (omega arith)
       k d e w h l
 
-  -- by its size alone
-  pub known-sized : (k : ℕ) (e : Expr) → KnownCategory ls k e → k + size e ≤ 8192 → Below 65536 (cells e)
-  known-sized k e w h = known-below k (size e) e w (deep-size (size e) e (omega arith)) h
-
   -- what is made of two such, or of one with such arguments
-  pub substituted-below : (k : ℕ) (a t : Expr) → KnownCategory ls k (substitute a 0 t) → k ≤ 4096 → size a ≤ 4096 → size t ≤ 4096 → Below 65536 (cells (substitute a 0 t))
+  pub substituted-below : (k : ℕ) (a t : Expr) → KnownCategory ls k (substitute a 0 t) → k ≤ largestLimit → size a ≤ largestLimit → size t ≤ largestLimit → Below cellValues (cells (substitute a 0 t))
   substituted-below k a t w h x y =
-      known-below k 4096 (substitute a 0 t) w (deep-substitute 2048 2048 a 0 t (deep-size 2048 a (omega arith)) (deep-size 2048 t (omega arith))) (omega arith)
+      known-below k largestLimit (substitute a 0 t) w (deep-substitute half half a 0 t (deep-size half a (omega arith)) (deep-size half t (omega arith))) (omega arith)
 
-  pub instantiated-below : (k : ℕ) (vs : List ℕ) (xs : Exprs) (m : Expr) → KnownCategory ls k (instantiate vs xs 0 m) → k ≤ 4096 → sizes xs ≤ 4096 → size m ≤ 4096
-      → Below 65536 (cells (instantiate vs xs 0 m))
+  pub instantiated-below : (k : ℕ) (vs : List ℕ) (xs : Exprs) (m : Expr) → KnownCategory ls k (instantiate vs xs 0 m) → k ≤ largestLimit → sizes xs ≤ largestLimit → size m ≤ largestLimit
+      → Below cellValues (cells (instantiate vs xs 0 m))
   instantiated-below k vs xs m w h x y =
-      known-below k 4096 (instantiate vs xs 0 m) w
-      (deep-instantiate 2048 2048 vs xs 0 m (all-deep-size 2048 xs (omega arith)) (deep-size 2048 m (omega arith))) (omega arith)
+      known-below k largestLimit (instantiate vs xs 0 m) w
+      (deep-instantiate half half vs xs 0 m (all-deep-size half xs (omega arith)) (deep-size half m (omega arith))) (omega arith)
 
-  pub lifted-below : (k d : ℕ) (e : Expr) → KnownCategory ls k (lift d 0 e) → k ≤ 4096 → size e ≤ 4096 → Below 65536 (cells (lift d 0 e))
-  lifted-below k d e w h l = known-below k 2048 (lift d 0 e) w (deep-lift 2048 d 0 e (deep-size 2048 e (omega arith))) (omega arith)
+  pub lifted-below : (k d : ℕ) (e : Expr) → KnownCategory ls k (lift d 0 e) → k ≤ largestLimit → size e ≤ largestLimit → Below cellValues (cells (lift d 0 e))
+  lifted-below k d e w h l = known-below k half (lift d 0 e) w (deep-lift half d 0 e (deep-size half e (omega arith))) (omega arith)

@@ -1,10 +1,10 @@
 -- What stays below an index of the store: below the scratch unit a step touches its own expression alone.
-use mathlib.Core.Path.{_≡_, refl, _∙_}
+use mathlib.Core.Path.{_≡_, refl, sym, _∙_}
 use mathlib.Core.Logic.{_⊎_, inl, inr, ⊎-elim}
 use mathlib.Core.List.{List}
 use Prim.Native.Nat.{ℕ, _+_, _≤_, _<_}
 use native.Mathlib.Omega.{arith}
-use lib.ListN.{length, getD, drop}
+use lib.ListN.{length, getD, drop, List·getD-eq-default}
 use Rattle.aut68.specs.Expr.{Expr, cells}
 use Rattle.cells.specs.Cells.{At, Outside}
 use Rattle.cells.specs.Stores.{at-same}
@@ -49,3 +49,21 @@ outside-quiet h p = record { long = p .long; same = λ i l d. p .same i (inl (om
 pub at-framed : {top from end : ℕ} {w w′ : List ℕ} {i : ℕ} {xs rest : List ℕ} → Framed top from end w w′ → i + length xs ≤ top
     → (i + length xs ≤ from) ⊎ (end ≤ i) → At w i xs rest → At w′ i xs (drop (i + length xs) w′)
 at-framed p t h a = at-same (p .long) (λ j l k. p .same j (omega arith) (⊎-elim (λ b. inl (omega arith)) (λ b. inr (omega arith)) h)) a
+
+-- what is unchanged below a part is unchanged below any lower one
+pub frame-of : {a b a′ : ℕ} {w w′ : List ℕ} → Outside a b w w′ → a′ ≤ a → Outside a′ (length w) w w′
+frame-of {w = w} {w′} p h = record {
+  long = p .long;
+  same = λ i k.
+      ⊎-elim (λ x. p .same i (inl (omega arith)))
+      (λ x. List·getD-eq-default w′ 0 (omega (arith, p .long)) ∙ sym (List·getD-eq-default w 0 x)) k;
+}
+
+-- what is unchanged below an index, but for a part of it
+pub framed-frame : {top from end a : ℕ} {w w′ : List ℕ} → Framed top from end w w′ → a ≤ from → a ≤ top → Outside a (length w) w w′
+framed-frame {w = w} {w′} p h k = record {
+  long = p .long;
+  same = λ i d.
+      ⊎-elim (λ x. p .same i (omega arith) (inl (omega arith)))
+      (λ x. List·getD-eq-default w′ 0 (omega (arith, p .long)) ∙ sym (List·getD-eq-default w 0 x)) d;
+}

@@ -5,16 +5,17 @@ use mathlib.Core.Option.{some}
 use mathlib.Core.List.{List}
 use Prim.Native.Nat.{ℕ, _+_, _-_, _*_, _/_, _%_, _≤_, _<_}
 use lib.ListN.{length, getD}
+use Rattle.aut68.specs.Sizes.{cellFactor, cellValues, largestLimit, workUnits, atKind}
 use Rattle.aut68.specs.Expr.{Expr, Exprs, const, app, abs, size, cells, cellss, countExprs}
 use Rattle.aut68.specs.Substitution.{substitute, instantiate}
-use Rattle.aut68.specs.Lines.{Line, Lines, abbreviation}
+use Rattle.aut68.specs.Lines.{Line, Lines, abbreviation, rowCell}
 use Rattle.aut68.specs.Rules.Names.{IsLine}
 use Rattle.aut68.specs.Procedure.Answer.{Refusal, done, stop, codeOf}
 use Rattle.aut68.specs.Procedure.HeadStep.{noStep, headStep, left}
 use Rattle.aut68.specs.Procedure.Category.{headForm, toFunction}
 use Rattle.aut68.specs.Procedure.Category
 use Rattle.calculus.specs.Resolved.{Known, KnownCategory}
-use Rattle.cells.specs.Cells.{rowCell, Wf, Wfs, At, Below, Outside}
+use Rattle.cells.specs.Cells.{Wf, Wfs, At, Below, Outside}
 use Rattle.cells.specs.Layout.{unitAt, scratchUnit, resultUnit}
 use Rattle.cells.specs.Posts.{Skipped}
 use Rattle.cells.specs.Results.{Result}
@@ -32,8 +33,8 @@ use Rattle.reduction.specs.declared.functions.Function.{Function}
 -- of an expression that is no application, with the first cell x at index i
 pub record HeadCell (tb : List ℕ) (x i kept : ℕ) (r : Head) : Type 0 where
   pub placed : (r .at ≡ i) × (r .kept ≡ kept)
-  pub unfolds : x % 8 ≡ 3 → rowCell tb (x / 8) 4 ≡ 2 → (r .kind ≡ 2) × (r .line ≡ x / 8)
-  pub stays : (x % 8 ≡ 3 → rowCell tb (x / 8) 4 ≡ 2 → ⊥) → r .kind ≡ 0
+  pub unfolds : x % cellFactor ≡ 3 → rowCell tb (x / cellFactor) atKind ≡ 2 → (r .kind ≡ 2) × (r .line ≡ x / cellFactor)
+  pub stays : (x % cellFactor ≡ 3 → rowCell tb (x / cellFactor) atKind ≡ 2 → ⊥) → r .kind ≡ 0
 
 -- of the expression of n cells at index `at` of w
 pub record HeadPost (tb w : List ℕ) (at n : ℕ) (r : Head) : Type 0 where
@@ -57,20 +58,20 @@ pub record Prepared (limit room r : ℕ) (w w′ : List ℕ) : Type 0 where
 -- where the `count` arguments that lie from index `at` of w on start is entered in `starts`, whose first place has 0
 pub record ArgumentsAtPost (tb w : List ℕ) (at count : ℕ) (starts starts′ : List ℕ) : Type 0 where
   pub started : length starts ≡ 64 → getD starts 0 0 ≡ 0 → (xs : Exprs) {rest : List ℕ} → countExprs xs ≡ count → Wfs tb xs → At w at (cellss xs) rest
-      → length (cellss xs) < 65536 → Started xs starts′
+      → length (cellss xs) < cellValues → Started xs starts′
 
 -- <A>[x,P]T at index `at`
 pub record ContractedPost (tb w w′ : List ℕ) (limit at room r : ℕ) : Type 0 where
   pub prepared : Prepared limit room r w w′
-  pub made : 128 * limit ≤ length w → room ≤ limit → (a p t : Expr) {rest : List ℕ} → Wf tb a → Wf tb p → Wf tb t
-      → At w at (cells (app a (abs p t))) rest → at + size (app a (abs p t)) ≤ unitAt limit scratchUnit → Below 65536 (cells (substitute a 0 t))
+  pub made : workUnits * limit ≤ length w → room ≤ limit → (a p t : Expr) {rest : List ℕ} → Wf tb a → Wf tb p → Wf tb t
+      → At w at (cells (app a (abs p t))) rest → at + size (app a (abs p t)) ≤ unitAt limit scratchUnit → Below cellValues (cells (substitute a 0 t))
       → MadeAt (unitAt limit resultUnit) room (substitute a 0 t) r w′
 
 -- the constant of line v at index `at`
 pub record UnfoldedPost (tb ts w w′ : List ℕ) (limit at v room r : ℕ) : Type 0 where
   pub prepared : Prepared limit room r w w′
-  pub made : 128 * limit ≤ length w → room ≤ limit → {ls : Lines} → Book ls limit tb ts → (k : ℕ) (xs : Exprs) {l : Line} {m : Expr} {rest : List ℕ}
-      → IsLine ls v l → l .kind ≡ abbreviation m → Known ls k (const v xs) → k ≤ 4096 → At w at (cells (const v xs)) rest
+  pub made : workUnits * limit ≤ length w → room ≤ limit → {ls : Lines} → Book ls limit tb ts → (k : ℕ) (xs : Exprs) {l : Line} {m : Expr} {rest : List ℕ}
+      → IsLine ls v l → l .kind ≡ abbreviation m → Known ls k (const v xs) → k ≤ largestLimit → At w at (cells (const v xs)) rest
       → at + size (const v xs) ≤ unitAt limit scratchUnit → size (const v xs) ≤ limit → MadeAt (unitAt limit resultUnit) room (instantiate (l .context) xs 0 m) r w′
 
 -- the abbreviation of line v, which takes no arguments, at index `at` becomes its middle there, if that has at most `room` cells
@@ -93,8 +94,8 @@ pub record Redex (ls : Lines) (place room : ℕ) (e : Expr) (kept r : ℕ) (w′
 
 pub record RedexPost (tb ts w w′ : List ℕ) (limit : ℕ) (h : Head) (room r : ℕ) : Type 0 where
   pub prepared : Prepared limit room r w w′
-  pub made : 128 * limit ≤ length w → room ≤ limit → {ls : Lines} → Book ls limit tb ts → (k : ℕ) (e : Expr) {start : ℕ} {rest : List ℕ}
-      → KnownCategory ls k e → k ≤ 4096 → size e ≤ limit → At w start (cells e) rest → start + limit ≤ unitAt limit scratchUnit
+  pub made : workUnits * limit ≤ length w → room ≤ limit → {ls : Lines} → Book ls limit tb ts → (k : ℕ) (e : Expr) {start : ℕ} {rest : List ℕ}
+      → KnownCategory ls k e → k ≤ largestLimit → size e ≤ limit → At w start (cells e) rest → start + limit ≤ unitAt limit scratchUnit
       → HeadIs ls start (h .kind) (h .at) (h .kept) (h .line) e → (h .kind ≡ 0 → ⊥) → Redex ls (unitAt limit resultUnit) room e (h .kept) r w′
 
 -- ---- the step
@@ -111,7 +112,7 @@ pub record StepPost (tb ts w w′ : List ℕ) (limit : ℕ) (h : Head) (r : ℕ)
   pub framed : Framed (unitAt limit scratchUnit) (h .at) (h .at - h .kept + limit) w w′
   pub refused : r ≡ noRoom → Quiet (unitAt limit scratchUnit) w w′
   pub answers : (r ≤ limit) ⊎ (r ≡ noRoom)
-  pub made : 128 * limit ≤ length w → {ls : Lines} → Book ls limit tb ts → (k : ℕ) (e : Expr) {start : ℕ} {rest : List ℕ} → KnownCategory ls k e → k ≤ 4096
+  pub made : workUnits * limit ≤ length w → {ls : Lines} → Book ls limit tb ts → (k : ℕ) (e : Expr) {start : ℕ} {rest : List ℕ} → KnownCategory ls k e → k ≤ largestLimit
       → size e ≤ limit → At w start (cells e) rest → start + limit ≤ unitAt limit scratchUnit
       → HeadIs ls start (h .kind) (h .at) (h .kept) (h .line) e → (h .kind ≡ 0 → ⊥) → Stepped ls limit start e r w′
 
@@ -129,7 +130,7 @@ pub data FormIs (ls : Lines) (limit k at : ℕ) (c : Expr) (budget : ℕ) (w′ 
 
 pub record FormPost (tb ts w w′ : List ℕ) (limit budget at n code size′ budget′ : ℕ) : Type 0 where
   pub framed : Framed (unitAt limit scratchUnit) at (at + limit) w w′
-  pub is : 128 * limit ≤ length w → {ls : Lines} → Book ls limit tb ts → (k : ℕ) (c : Expr) {rest : List ℕ} → KnownCategory ls k c → k ≤ 4096
+  pub is : workUnits * limit ≤ length w → {ls : Lines} → Book ls limit tb ts → (k : ℕ) (c : Expr) {rest : List ℕ} → KnownCategory ls k c → k ≤ largestLimit
       → size c ≤ limit → n ≡ size c → at + limit ≤ unitAt limit scratchUnit → At w at (cells c) rest → FormIs ls limit k at c budget w′ code size′ budget′
 
 -- the abstraction f lies at `at`, of r .size cells, its domain and its body where r says
@@ -144,6 +145,6 @@ pub record FunctionAt (ls : Lines) (limit k at : ℕ) (w′ : List ℕ) (r : Fun
 pub record FunctionPost (tb ts w w′ : List ℕ) (limit budget at n : ℕ) (r : Function) : Type 0 where
   -- below the scratch unit nothing outside the expression's unit is changed
   pub framed : Framed (unitAt limit scratchUnit) at (at + limit) w w′
-  pub is : 128 * limit ≤ length w → {ls : Lines} → Book ls limit tb ts → (k : ℕ) (c : Expr) {rest : List ℕ} → KnownCategory ls k c → k ≤ 4096
+  pub is : workUnits * limit ≤ length w → {ls : Lines} → Book ls limit tb ts → (k : ℕ) (c : Expr) {rest : List ℕ} → KnownCategory ls k c → k ≤ largestLimit
       → size c ≤ limit → n ≡ size c → at + limit ≤ unitAt limit scratchUnit → At w at (cells c) rest
       → Result (FunctionAt ls limit k at w′ r) (r .code) (r .budget) (toFunction ls limit c budget)

@@ -5,6 +5,7 @@ use mathlib.Core.List.{List}
 use Prim.Native.Nat.{ℕ, _+_, _*_}
 use native.Mathlib.Omega.{arith}
 use borrow.Author.Tests.{eq-eqb}
+use Rattle.aut68.specs.Sizes.{cellFactor}
 use Rattle.aut68.specs.Expr.{Expr, Exprs, type, prop, var, bound, const, app, abs, nil, cons, size, cells, firstCell, parts, firstPart, secondPart, identical, identicals}
 use Rattle.calculus.specs.Shapes.{identical-same}
 use Rattle.cells.specs.Cells.{At, Wf, sameCells}
@@ -19,9 +20,9 @@ mutual
   pub identical-self : (e : Expr) → identical e e ≡ true
   identical-self type = refl
   identical-self prop = refl
-  identical-self (var v) = eq-eqb (8 * v + 1) (8 * v + 1) refl
-  identical-self (bound i) = eq-eqb (8 * i + 2) (8 * i + 2) refl
-  identical-self (const v xs) = both (eq-eqb (8 * v + 3) (8 * v + 3) refl) (identicals-self xs)
+  identical-self (var v) = eq-eqb (cellFactor * v + 1) (cellFactor * v + 1) refl
+  identical-self (bound i) = eq-eqb (cellFactor * i + 2) (cellFactor * i + 2) refl
+  identical-self (const v xs) = both (eq-eqb (cellFactor * v + 3) (cellFactor * v + 3) refl) (identicals-self xs)
   identical-self (app a b) = both (identical-self a) (identical-self b)
   identical-self (abs p t) = both (identical-self p) (identical-self t)
 

@@ -4,19 +4,20 @@ ghost use Prim.Native.Nat.{ℕ};
 ghost use Rattle.reduction.specs.Posts.{ShapePost, FormPost, FunctionPost};
 use crate::heads::head_of;
 use crate::steps::step;
-use cells::NOT_FUNCTION;
-use cells::OUT_OF_BUDGET;
-use cells::TOO_LARGE;
 use cells::skip;
+use constants::Cell;
+use constants::NOT_FUNCTION;
+use constants::OUT_OF_BUDGET;
+use constants::TOO_LARGE;
 
 // An abstraction's domain and body, by where they start; or something else.
-pub enum Shape {
+enum Shape {
     Abstraction { domain: usize, body: usize },
     Other,
 }
 
 // The shape of the expression at `at` of w.
-pub fn shape_of(table: &[u32], w: &[u16], at: usize) -> Shape
+fn shape_of(table: &[u32], w: &[Cell], at: usize) -> Shape
     ensures { λ r. ⌜ ShapePost (now (table .entry)) (now (w .entry)) at r ⌝ }
 {
     if at >= w.len() {
@@ -44,17 +45,17 @@ struct Form {
 // would leave more than `limit` cells: neither is then made or counted.
 fn head_form(
     table: &[u32],
-    store: &[u16],
-    w: &mut [u16],
+    terms: &[Cell],
+    w: &mut [Cell],
     limit: usize,
     budget: u32,
     at: usize,
     size: usize,
 ) -> Form
-    ensures { λ r. ⌜ FormPost (now (table .entry)) (now (store .entry)) (now (w .entry)) (now (w .exit)) limit budget at size (r .code) (r .size) (r .budget) ⌝ }
+    ensures { λ r. ⌜ FormPost (now (table .entry)) (now (terms .entry)) (now (w .entry)) (now (w .exit)) limit budget at size (r .code) (r .size) (r .budget) ⌝ }
 {
     let mut n = size;
-    let mut left = budget;
+    let mut rest = budget;
     loop {
         let h = head_of(table, w, at, n);
         let kind = h.kind;
@@ -62,25 +63,25 @@ fn head_form(
             return Form {
                 code: 0,
                 size: n,
-                budget: left,
+                budget: rest,
             };
         }
-        if left == 0 {
+        if rest == 0 {
             return Form {
                 code: OUT_OF_BUDGET,
                 size: n,
-                budget: left,
+                budget: rest,
             };
         }
-        n = step(table, store, w, limit, h);
+        n = step(table, terms, w, limit, h);
         if n > limit {
             return Form {
                 code: TOO_LARGE,
                 size: 0,
-                budget: left,
+                budget: rest,
             };
         }
-        left = left - 1;
+        rest = rest - 1;
     }
 }
 
@@ -96,25 +97,25 @@ pub struct Function {
 // Head steps of the expression of `size` cells at `at` until it is an abstraction, else 7.
 pub fn to_function(
     table: &[u32],
-    store: &[u16],
-    w: &mut [u16],
+    terms: &[Cell],
+    w: &mut [Cell],
     limit: usize,
     budget: u32,
     at: usize,
     size: usize,
 ) -> Function
-    ensures { λ r. ⌜ FunctionPost (now (table .entry)) (now (store .entry)) (now (w .entry)) (now (w .exit)) limit budget at size r ⌝ }
+    ensures { λ r. ⌜ FunctionPost (now (table .entry)) (now (terms .entry)) (now (w .entry)) (now (w .exit)) limit budget at size r ⌝ }
 {
-    let form = head_form(table, store, w, limit, budget, at, size);
+    let form = head_form(table, terms, w, limit, budget, at, size);
     let code = form.code;
-    let left = form.budget;
+    let rest = form.budget;
     if code != 0 {
         return Function {
             code: code,
             size: 0,
             domain: 0,
             body: 0,
-            budget: left,
+            budget: rest,
         };
     }
     let shape = shape_of(table, w, at);
@@ -124,7 +125,7 @@ pub fn to_function(
             size: 0,
             domain: 0,
             body: 0,
-            budget: left,
+            budget: rest,
         };
     };
     Function {
@@ -132,6 +133,6 @@ pub fn to_function(
         size: form.size,
         domain: domain,
         body: body,
-        budget: left,
+        budget: rest,
     }
 }

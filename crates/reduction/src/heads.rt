@@ -4,6 +4,9 @@ ghost use Prim.Native.Nat.{ℕ, _+_};
 ghost use Rattle.reduction.specs.Posts.{HeadCell, HeadPost};
 use cells::field;
 use cells::skip;
+use constants::CELL_FACTOR;
+use constants::Cell;
+use constants::KIND;
 
 // kind 0: none; 1: a contraction; 2: an unfolding of the constant of `line`.
 // at: where the redex starts; kept: the cells before it.
@@ -27,12 +30,12 @@ fn no_head(at: usize) -> Head
 }
 
 // The head step of an expression that is no application, by its first cell x at index i: an abbreviation is unfolded.
-fn head_of_cell(table: &[u32], x: u16, i: usize, kept: usize) -> Head
+fn head_of_cell(table: &[u32], x: Cell, i: usize, kept: usize) -> Head
     ensures { λ r. ⌜ HeadCell (now (table .entry)) x i kept r ⌝ }
 {
-    if x % 8 == 3 {
-        let v = (x / 8) as usize;
-        if field(table, v, 4) == 2 {
+    if x % CELL_FACTOR == 3 {
+        let v = (x / CELL_FACTOR) as usize;
+        if field(table, v, KIND) == 2 {
             return Head {
                 kind: 2,
                 at: i,
@@ -50,7 +53,7 @@ fn head_of_cell(table: &[u32], x: u16, i: usize, kept: usize) -> Head
 }
 
 // The head step of the expression of n cells at `at` of w: a contraction is looked for before the head is unfolded.
-pub fn head_of(table: &[u32], w: &[u16], at: usize, n: usize) -> Head
+pub fn head_of(table: &[u32], w: &[Cell], at: usize, n: usize) -> Head
     ensures { λ r. ⌜ HeadPost (now (table .entry)) (now (w .entry)) at n r ⌝ }
 {
     if at > w.len() {

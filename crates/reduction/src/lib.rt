@@ -7,8 +7,6 @@ mod heads;
 mod steps;
 
 pub use functions::Function;
-pub use functions::Shape;
-pub use functions::shape_of;
 pub use functions::to_function;
 pub use heads::Head;
 pub use heads::head_of;

@@ -1,2 +1,4 @@
 -- Laws that the proofs of this crate share.
-pub mod Laws
+pub mod SymbolLaws
+pub mod WordLaws
+pub mod SameLaws

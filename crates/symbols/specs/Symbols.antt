@@ -41,7 +41,7 @@ pub record WordEnd (ks s : Bytes) (at r : ℕ) : Type 0 where
   pub word : KindsTable ks → at ≤ length s → slice at r s ≡ wordOf (drop at s)
   pub rest : KindsTable ks → drop r s ≡ afterWord (drop at s)
 
--- the four bytes of s from i on, as a number
+-- the four bytes of s from i on, as a number; 0 for those behind its end
 unfoldable pub fourAt : Bytes → ℕ → ℕ
 fourAt s i = getD s i 0 + 256 * getD s (i + 1) 0 + 65536 * getD s (i + 2) 0 + 16777216 * getD s (i + 3) 0
 

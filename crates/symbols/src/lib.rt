@@ -1,7 +1,7 @@
 // Symbols and words: what stands at a place of a line. specs/Symbols has the contracts.
 ghost use mathlib.Core.Path.{_≡_};
-ghost use Prim.Native.Nat.{_+_, _≤_};
-ghost use lib.ListN.{length};
+ghost use Prim.Native.Nat.{_+_, _≤_, _<_};
+ghost use lib.ListN.{length, getD};
 ghost use Rattle.aut68.specs.Language.{aut68};
 ghost use Rattle.aut68.specs.Bytes.{sameBytes, reserved};
 ghost use Rattle.symbols.specs.Symbols.{PastSpaces, KindAt, PastSymbol, WordEnd, fourAt, NameAt};
@@ -61,18 +61,39 @@ pub fn word_end(line: &[u8], kinds: &[u8; 256], at: usize) -> usize
 }
 
 // The four bytes of s from i on, as a number (fourAt).
-fn four(s: &[u8], i: usize) -> u32
+fn four(s: &[u8], i: usize) -> usize
     requires { ⌜ i + 4 ≤ length (now s) ⌝ }
-    ensures { λ r. ⌜ r ≡ fourAt (now (s .entry)) i ⌝ }
+    ensures { λ r. ⌜ (r ≡ fourAt (now (s .entry)) i) × (r < 4294967296) ⌝ }
 {
-    let a = s[i] as u32;
-    let b = s[i + 1] as u32;
-    let c = s[i + 2] as u32;
-    let d = s[i + 3] as u32;
+    let a = s[i] as usize;
+    let b = s[i + 1] as usize;
+    let c = s[i + 2] as usize;
+    let d = s[i + 3] as usize;
     a + 256 * b + 65536 * c + 16777216 * d
 }
 
-// Are the bytes of a and b the same (sameBytes)? Four at once while four are left.
+// The byte of s at i; 0 behind its end.
+fn byte_at(s: &[u8], i: usize) -> usize
+    ensures { λ r. ⌜ (r ≡ getD (now (s .entry)) i 0) × (r < 256) ⌝ }
+{
+    if i < s.len() {
+        return s[i] as usize;
+    }
+    0
+}
+
+// The same where fewer than four may be left: 0 for those behind the end.
+pub fn four_at(s: &[u8], i: usize) -> usize
+    requires { ⌜ i < length (now s) ⌝ }
+    ensures { λ r. ⌜ (r ≡ fourAt (now (s .entry)) i) × (r < 4294967296) ⌝ }
+{
+    if s.len() - i >= 4 {
+        return four(s, i);
+    }
+    byte_at(s, i) + 256 * byte_at(s, i + 1) + 65536 * byte_at(s, i + 2)
+}
+
+// Are the bytes of a and b the same (sameBytes)? Four at once.
 pub fn same_bytes(a: &[u8], b: &[u8]) -> bool
     ensures { λ r. ⌜ r ≡ sameBytes (now (a .entry)) (now (b .entry)) ⌝ }
 {
@@ -80,18 +101,31 @@ pub fn same_bytes(a: &[u8], b: &[u8]) -> bool
         return false;
     }
     let mut i = 0;
-    while i < a.len() {
-        if a.len() - i >= 4 {
-            if four(a, i) != four(b, i) {
-                return false;
-            }
-            i = i + 4;
-        } else {
-            if a[i] != b[i] {
-                return false;
-            }
-            i = i + 1;
+    while a.len() - i >= 4 {
+        if four(a, i) != four(b, i) {
+            return false;
         }
+        i = i + 4;
+    }
+    if i >= a.len() {
+        return true;
+    }
+    four_at(a, i) == four_at(b, i)
+}
+
+// The same byte by byte, for a word beside one of the three fixed words.
+pub fn same_word(word: &[u8], fixed: &[u8]) -> bool
+    ensures { λ r. ⌜ r ≡ sameBytes (now (word .entry)) (now (fixed .entry)) ⌝ }
+{
+    if word.len() != fixed.len() {
+        return false;
+    }
+    let mut i = 0;
+    while i < word.len() {
+        if word[i] != fixed[i] {
+            return false;
+        }
+        i = i + 1;
     }
     true
 }
@@ -100,13 +134,13 @@ pub fn same_bytes(a: &[u8], b: &[u8]) -> bool
 pub fn is_reserved(word: &[u8]) -> bool
     ensures { λ r. ⌜ r ≡ reserved aut68 (now (word .entry)) ⌝ }
 {
-    if same_bytes(word, b"type") {
+    if same_word(word, b"type") {
         return true;
     }
-    if same_bytes(word, b"PN") {
+    if same_word(word, b"PN") {
         return true;
     }
-    same_bytes(word, b"EB")
+    same_word(word, b"EB")
 }
 
 // A name in the line; length 0: no name.
@@ -125,7 +159,7 @@ pub fn name_at(line: &[u8], kinds: &[u8; 256], at: usize) -> Name
     let start = spaces(line, at);
     let end = word_end(line, kinds, start);
     let len = end - start;
-    if len > 32 {
+    if len > constants::NAME_LIMIT {
         return Name {
             start: start,
             len: 0,

@@ -1,7 +1,7 @@
 pub mod Writes
-pub mod Walk
+pub mod WalkLaws
 pub mod Turns
-pub mod Leaves
+pub mod LeafLaws
 pub mod Whole
-pub mod Arguments
+pub mod ArgumentLaws
 pub mod Matches

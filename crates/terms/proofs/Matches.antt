@@ -9,14 +9,15 @@ use lib.Dec.{eqb}
 use lib.ListN.{length, getD, take, drop, length-append, length-drop}
 use lib.Seq.{slice, slice-empty, take-add, take-append-le, drop-append-le, drop-drop, drop-cons, length-take-le}
 use borrow.Author.Tests.{eqb-true}
+use Rattle.aut68.specs.Sizes.{cellFactor}
 use Rattle.aut68.specs.Expr.{Expr, Exprs, nil, cons, size, firstCell, parts, cells, cellss}
 use Rattle.aut68.specs.Substitution.{instantiate, instantiates}
 use Rattle.cells.specs.Cells.{AllFormed, RightCount, At, sameRun}
 use Rattle.cells.specs.Forests.{cells-split, cells-long, cells-one, size-is-length, join, cells-join, formed-join, formed-parts, at-head, at-tail, at-one}
 use Rattle.cells.specs.SameCells.{run-is-slice, same-run-means}
 use Rattle.terms.specs.Made.{ArgumentsLie, InstancePost}
-use Rattle.terms.specs.Grafts.{instantiating, graft, grafts, Allowed, Fit, Fits, RunPost}
-use Rattle.terms.proofs.Walk.{grafts-join, one-cells}
+use Rattle.terms.specs.Grafts.{instantiating, pastEnd, graft, grafts, Allowed, Fit, Fits, RunPost}
+use Rattle.terms.proofs.WalkLaws.{grafts-join, one-cells}
 
 -- ---- runs
 
@@ -51,15 +52,17 @@ module _ (tb s : List ℕ) (from stop : ℕ) (w : List ℕ) (base count : ℕ) (
   pub record Passed (i j : ℕ) : Type 0 where
     pub ahead : at ≤ j
     pub room : j ≤ length f
+    pub short : length f < pastEnd
     pub means : (vs : List ℕ) (xs : Exprs) (x : Expr) (rx : List ℕ) → Fit tb (instantiating vs xs) x → ArgumentsLie tb w base count starts xs
         → At s from (cells x) rx → stop ≡ from + size x → Rest vs xs x rx i j
 
 module _ {tb s : List ℕ} {from stop : ℕ} {w : List ℕ} {base count : ℕ} {starts f : List ℕ} {at : ℕ} where
-  pub passed-none : at ≤ length f → Passed tb s from stop w base count starts f at from at
+  pub passed-none : at ≤ length f → length f < pastEnd → Passed tb s from stop w base count starts f at from at
   unfolding AllFormed graft grafts
-  passed-none h = record {
+  passed-none h l = record {
     ahead = omega arith;
     room = h;
+    short = l;
     means = λ vs xs x rx fx A ax e. record {
       todo = cons x nil;
       fit = (fx, tt);
@@ -78,6 +81,7 @@ module _ {tb s : List ℕ} {from stop : ℕ} {w : List ℕ} {base count : ℕ} {
   passed-more {i} {j} n P lt h run = record {
     ahead = omega (arith, P .ahead);
     room = h;
+    short = P .short;
     means = λ vs xs x rx fx A ax e.
         let R = P .means vs xs x rx fx A ax e in next vs xs x rx A (R .todo) (R .fit) (R .lies) (R .ends) (R .same);
   }
@@ -105,20 +109,20 @@ module _ {tb s : List ℕ} {from stop : ℕ} {w : List ℕ} {base count : ℕ} {
   module _ {i j x start len : ℕ} (P : Passed tb s from stop w base count starts f at i j) (lt : i < stop) (is : x ≡ getD s i 0)
       (R : RunPost tb x count starts start len) where
     -- the cell itself
-    pub passed-itself : (x % 8 ≡ 5 → ⊥) → len ≡ 0 → j < length f → getD f j 0 ≡ x → Passed tb s from stop w base count starts f at (i + 1) (j + 1)
+    pub passed-itself : (x % cellFactor ≡ 5 → ⊥) → len ≡ 0 → j < length f → getD f j 0 ≡ x → Passed tb s from stop w base count starts f at (i + 1) (j + 1)
     passed-itself n₅ z h q =
         passed-more 1 P lt (omega arith) λ vs xs A e xe fe.
         R .itself z n₅ vs xs (A .counted) e (xe ∙ sym is) fe
         ∙ ap (λ (l : List ℕ). l ++ cellss (instantiates vs xs 0 (parts e))) (ap (λ (c : ℕ). c ∷ []) (sym q) ∙ sym (run-one j f h))
 
     -- the argument that stands for it
-    pub passed-argument : (len ≡ 0 → ⊥) → length f < 18446744073709551615 → sameRun w (base + start) f j len ≡ true
+    pub passed-argument : (len ≡ 0 → ⊥) → sameRun w (base + start) f j len ≡ true
         → Passed tb s from stop w base count starts f at (i + 1) (j + len)
     unfolding instantiates cellss
-    passed-argument nz small t =
+    passed-argument nz t =
         let m = same-run-means w (base + start) f j len t in
         passed-more len P lt (m .1) λ vs xs A e xe fe.
-        let r = R .argument (omega arith) (omega (arith, m .1)) vs xs (A .counted) (A .started) e (xe ∙ sym is) fe in
+        let r = R .argument (omega arith) (omega (arith, m .1, P .short)) vs xs (A .counted) (A .started) e (xe ∙ sym is) fe in
         r .2
         ∙ sym (run-within start len (A .lies) (r .1))
         ∙ (sym (run-is-slice (base + start) len w) ∙ m .2 ∙ run-is-slice j len f)

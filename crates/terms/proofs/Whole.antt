@@ -6,13 +6,13 @@ use mathlib.Core.List.{List, [], _∷_, _++_}
 use native.Mathlib.Omega.{arith}
 use lib.ListN.{length, getD, set, take, drop, take-append-drop, length-set, List·getD-append}
 use lib.Seq.{sets, take-take, take-all, getD-take, getD-drop, getD-append-add, set-append-left, length-take-le, length-front}
-use Rattle.aut68.specs.Expr.{Expr, nil, cons, cells, countExprs}
-use Rattle.cells.specs.Cells.{AllFormed, At, Below, Outside}
-use Rattle.cells.specs.Forests.{size-is-length, at-one}
+use Rattle.aut68.specs.Sizes.{cellValues}
+use Rattle.aut68.specs.Expr.{Expr, cells}
+use Rattle.cells.specs.Cells.{At, Below, Outside}
+use Rattle.cells.specs.Forests.{size-is-length}
 use Rattle.cells.specs.Stores.{outside-same}
 use Rattle.terms.specs.Made.{noRoom, RaisePost, SubstitutePost, InstantiatePost}
-use Rattle.terms.specs.Grafts.{Choice, lifting, substituting, instantiating, graft, Fit, Raises, raises, Substitutes, substitutes-one, Instantiates, instantiates-all, Kept, Written, GraftPost, WholePost}
-use Rattle.terms.proofs.Walk.{one-cells}
+use Rattle.terms.specs.Grafts.{Choice, lifting, substituting, instantiating, graft, Fit, Stands, raises, substitutes-one, Instantiates, instantiates-all, Kept, Laid, GraftPost, WholePost}
 
 -- writes within the front of a list
 sets-front : (vs p q : List ℕ) (i : ℕ) → i + length vs ≤ length p → sets (p ++ q) i vs ≡ sets p i vs ++ q
@@ -55,14 +55,14 @@ module _ (w : List ℕ) (to room : ℕ) {p : List ℕ} (h : to + room ≤ length
       ∙ sym (sets-front vs (take (to + room) w) (drop (to + room) w) to (omega (arith, length-take-le (to + room) w h)))
       ∙ ap (λ (m : List ℕ). sets m to vs) (take-append-drop (to + room) w)
 
-  part-whole : {at : ℕ} {vs : List ℕ} → at ≤ to + room → Written (take (to + room) w) p to at vs
+  part-whole : {at : ℕ} {vs : List ℕ} → at ≤ to + room → Laid (take (to + room) w) p to at vs
       → (at ≡ to + length vs) × (p ++ drop (to + room) w ≡ sets w to (take room vs))
   part-whole {at} {vs} l W =
       let R = W .whole (omega (arith, length-take-le (to + room) w h)) in
       let m : length vs ≤ room = omega (arith, R .ends) in
       (R .ends, part-sets vs m (R .is) ∙ ap (sets w to) (sym (take-all room vs m)))
 
-  part-full : {at : ℕ} {vs : List ℕ} → to + room < at → Written (take (to + room) w) p to at vs
+  part-full : {at : ℕ} {vs : List ℕ} → to + room < at → Laid (take (to + room) w) p to at vs
       → (room < length vs) × (p ++ drop (to + room) w ≡ sets w to (take room vs))
   part-full {at} {vs} l W =
       let q : length (take (to + room) w) ≡ to + room = length-take-le (to + room) w h in
@@ -75,14 +75,13 @@ module _ (w : List ℕ) (to room : ℕ) {p : List ℕ} (h : to + room ≤ length
 
 -- the part of the store that the walk is lent has its sources where the whole has them; S says where it reads
 module _ (S : List ℕ → List ℕ) (w : List ℕ) (to room : ℕ) {top : ℕ} {P : List ℕ → Choice → Type 0} {tb p : List ℕ} {e i at : ℕ} (h : to + room ≤ length w)
-    (G : GraftPost top P tb (take to (take (to + room) w)) (S (take to (take (to + room) w))) (take (to + room) w) p e 1 to 0 i at) where
+    (G : GraftPost top P tb (take to (take (to + room) w)) (S (take to (take (to + room) w))) (take (to + room) w) p e to 0 i at) where
   walked : (k : Choice) → P (take to w) k → (x : Expr) (rest : List ℕ) → Fit tb k x → At (S (take to w)) e (cells x) rest → Below top (cells (graft k 0 x))
-      → Written (take (to + room) w) p to at (cells (graft k 0 x))
-  unfolding countExprs AllFormed
+      → Laid (take (to + room) w) p to at (cells (graft k 0 x))
   walked k pk x rest f a b =
       let q : take to (take (to + room) w) ≡ take to w = take-take to (to + room) w (omega arith) in
-      let G′ : GraftPost top P tb (take to w) (S (take to w)) (take (to + room) w) p e 1 to 0 i at = rw q at G in
-      rw (one-cells k 0 x) at (G′ .means k pk (cons x nil) rest refl (f, tt) (at-one x a) (rw (one-cells k 0 x) b) .written)
+      let G′ : GraftPost top P tb (take to w) (S (take to w)) (take (to + room) w) p e to 0 i at = rw q at G in
+      G′ .means k pk x rest f a b .laid
 
   pub whole-made : at ≤ to + room → WholePost top P tb (S (take to w)) w (p ++ drop (to + room) w) e to room (at - to)
   whole-made l = record {
@@ -96,7 +95,7 @@ module _ (S : List ℕ → List ℕ) (w : List ℕ) (to room : ℕ) {top : ℕ} 
         };
   }
 
-  pub whole-full : to + room < at → WholePost top P tb (S (take to w)) w (p ++ drop (to + room) w) e to room 65536
+  pub whole-full : to + room < at → WholePost top P tb (S (take to w)) w (p ++ drop (to + room) w) e to room cellValues
   unfolding noRoom
   whole-full l = record {
     confined = record { outside = part-outside w to room h (G .kept); answers = inr refl };
@@ -106,7 +105,7 @@ module _ (S : List ℕ → List ℕ) (w : List ℕ) (to room : ℕ) {top : ℕ} 
   }
 
 -- the room is not within the store
-pub whole-none : {top : ℕ} {P : List ℕ → Choice → Type 0} {tb s w : List ℕ} {e to room : ℕ} → length w < to + room → WholePost top P tb s w w e to room 65536
+pub whole-none : {top : ℕ} {P : List ℕ → Choice → Type 0} {tb s w : List ℕ} {e to room : ℕ} → length w < to + room → WholePost top P tb s w w e to room cellValues
 unfolding noRoom
 whole-none h = record {
   confined = record { outside = outside-same; answers = inr refl };
@@ -115,19 +114,20 @@ whole-none h = record {
 
 -- ---- what the three choices make
 
-pub raise-post : {tb w w′ : List ℕ} {e d to room r : ℕ} → WholePost 65536 (Raises d) tb (take to w) w w′ e to room r → RaisePost tb w w′ e d to room r
-unfolding graft
-raise-post {d = d} W = record { confined = W .confined; made = λ x rest h f a b. W .made (lifting d) raises x rest h f a b }
+module _ {tb w w′ : List ℕ} {e number to room r : ℕ} where
+  pub raise-post : WholePost cellValues (Stands tb 0 number) tb (take to w) w w′ e to room r → RaisePost tb w w′ e number to room r
+  unfolding graft
+  raise-post W = record { confined = W .confined; made = λ x rest h f a b. W .made (lifting number) (raises refl) x rest h f a b }
 
-pub substitute-post : {tb w w′ : List ℕ} {t a to room r : ℕ} → WholePost 65536 (Substitutes tb a) tb (take to w) w w′ t to room r → SubstitutePost tb w w′ t a to room r
-unfolding graft
-substitute-post W = record {
-  confined = W .confined;
-  made = λ x y rx ry h wx wy ax ay b. W .made (substituting y) (substitutes-one wy ay) x rx h wx ax b;
-}
+  pub substitute-post : WholePost cellValues (Stands tb 1 number) tb (take to w) w w′ e to room r → SubstitutePost tb w w′ e number to room r
+  unfolding graft
+  substitute-post W = record {
+    confined = W .confined;
+    made = λ x y rx ry h wx wy ax ay b. W .made (substituting y) (substitutes-one refl wy ay) x rx h wx ax b;
+  }
 
 pub instantiate-post : {tb s w w′ : List ℕ} {e base count : ℕ} {starts : List ℕ} {to room r : ℕ}
-    → WholePost 65536 (Instantiates tb base count starts) tb s w w′ e to room r → InstantiatePost tb s w w′ e base count starts to room r
+    → WholePost cellValues (Instantiates tb base count starts) tb s w w′ e to room r → InstantiatePost tb s w w′ e base count starts to room r
 unfolding graft
 instantiate-post W = record {
   confined = W .confined;

@@ -6,6 +6,7 @@ use Prim.Native.Nat.{ℕ, _+_, _-_, _%_, _≤_, _<_}
 use lib.ListN.{length, take, drop}
 use lib.Seq.{sets}
 use native.Mathlib.Numerals.{add-one}
+use Rattle.aut68.specs.Sizes.{cellFactor, cellValues}
 use Rattle.aut68.specs.Expr.{Expr, Exprs, prop, const, app, abs, nil, cons, firstCell, parts, cells, cellss, countExprs}
 use Rattle.aut68.specs.Substitution.{lift, lifts, substitute, substitutes, instantiate, instantiates}
 use Rattle.cells.specs.Cells.{Formed, AllFormed, AnyVariable, RightCount, Wf, At, Below, Wrote}
@@ -42,17 +43,19 @@ Fits tb k = AllFormed (Allowed tb k) (RightCount tb)
 
 -- ---- which choice the code's arguments stand for
 
--- low is the part of the working store below the result, where what is put in lies
-pub data Raises (d : ℕ) (low : List ℕ) : Choice → Type 0 where
-  raises : Raises d low (lifting d)
-
-pub data Substitutes (tb : List ℕ) (a : ℕ) (low : List ℕ) : Choice → Type 0 where
-  substitutes-one : {y : Expr} {ry : List ℕ} → Wf tb y → At low a (cells y) ry → Substitutes tb a low (substituting y)
+-- low is the part of the working store below the result, where what is put in lies; of kind 0 a walk lifts, of kind 1 it substitutes
+pub data Stands (tb : List ℕ) (kind number : ℕ) (low : List ℕ) : Choice → Type 0 where
+  raises : kind ≡ 0 → Stands tb kind number low (lifting number)
+  substitutes-one : {y : Expr} {ry : List ℕ} → kind ≡ 1 → Wf tb y → At low number (cells y) ry → Stands tb kind number low (substituting y)
 
 pub data Instantiates (tb : List ℕ) (base count : ℕ) (starts low : List ℕ) : Choice → Type 0 where
   instantiates-all : {vs : List ℕ} {xs : Exprs} → ArgumentsLie tb low base count starts xs → Instantiates tb base count starts low (instantiating vs xs)
 
 -- ---- what a walk writes
+
+-- past the end of every store
+abbrev pub pastEnd : ℕ
+pastEnd = 18446744073709551615
 
 -- nothing below `to` is changed
 pub record Kept (w w′ : List ℕ) (to : ℕ) : Type 0 where
@@ -65,31 +68,40 @@ pub record Full (w w′ : List ℕ) (to : ℕ) (vs : List ℕ) : Type 0 where
   pub is : w′ ≡ sets w to (take (length w - to) vs)
 
 -- the cells vs from index `to` on: all of them up to index `at`, or as far as the store goes, where `at` is past its end
-pub record Written (w w′ : List ℕ) (to at : ℕ) (vs : List ℕ) : Type 0 where
+pub record Laid (w w′ : List ℕ) (to at : ℕ) (vs : List ℕ) : Type 0 where
   pub whole : at ≤ length w → Wrote w w′ to at vs
   pub full : length w < at → Full w w′ to vs
 
--- Here and below every cell of a result is below top, which is 2 to the width of a cell.
+-- Here and below every cell of a result is below top, the number of values of a cell.
 
--- what stands for the leaf whose cell is x
-pub record LeafPost (top : ℕ) (Q : Choice → Type 0) (tb w w′ : List ℕ) (x to cut at : ℕ) : Type 0 where
-  pub ahead : to ≤ at
-  pub kept : Kept w w′ to
-  pub means : (k : Choice) → Q k → (e : Expr) → firstCell e ≡ x → Fit tb k e → Below top (cells (graft k cut e))
-      → Written w w′ to at (cells (graft k cut e))
+-- e is the expression at index `from` of low, lifted
+pub record Put (tb low : List ℕ) (from cut : ℕ) (e : Expr) : Type 0 where
+  pub whole : Expr
+  pub rest : List ℕ
+  pub formed : Wf tb whole
+  pub lies : At low from (cells whole) rest
+  pub is : e ≡ lift cut 0 whole
 
--- a forest is written, and where all of it is, the reading stops behind it
+-- what stands for the leaf whose cell is x: `cell`; where that is too large for a cell, the expression at `from`, lifted; where x is
+-- itself lifted, there is then no cell for it
+pub record LeafPost (top : ℕ) (Q : Choice → Type 0) (tb low : List ℕ) (kind x cut cell from : ℕ) : Type 0 where
+  pub one : cell < top → (k : Choice) → Q k → (e : Expr) → firstCell e ≡ x → Fit tb k e → cells (graft k cut e) ≡ cell ∷ []
+  pub high : top ≤ cell → kind ≡ 0 → (k : Choice) → Q k → (e : Expr) → firstCell e ≡ x → Below top (cells (graft k cut e)) → ⊥
+  pub put : top ≤ cell → (kind ≡ 0 → ⊥) → (k : Choice) → Q k → (e : Expr) → firstCell e ≡ x → Fit tb k e → Put tb low from cut (graft k cut e)
+
+-- an expression is written, and where all of it is, the reading stops behind it
 pub record Grafted (s w w′ rest vs : List ℕ) (to i at : ℕ) : Type 0 where
-  pub written : Written w w′ to at vs
+  pub laid : Laid w w′ to at vs
   pub read : at ≤ length w → At s i [] rest
 
--- n expressions of s from index `from` on
-pub record GraftPost (top : ℕ) (P : List ℕ → Choice → Type 0) (tb low s w w′ : List ℕ) (from n to cut i at : ℕ) : Type 0 where
+-- the expression at index `from` of s
+pub record GraftPost (top : ℕ) (P : List ℕ → Choice → Type 0) (tb low s w w′ : List ℕ) (from to cut i at : ℕ) : Type 0 where
   pub past : from ≤ i
+  pub within : at ≤ length w → i ≤ length s
   pub ahead : to ≤ at
   pub kept : Kept w w′ to
-  pub means : (k : Choice) → P low k → (es : Exprs) (rest : List ℕ) → countExprs es ≡ n → Fits tb k es → At s from (cellss es) rest
-      → Below top (cellss (grafts k cut es)) → Grafted s w w′ rest (cellss (grafts k cut es)) to i at
+  pub means : (k : Choice) → P low k → (e : Expr) (rest : List ℕ) → Fit tb k e → At s from (cells e) rest → Below top (cells (graft k cut e))
+      → Grafted s w w′ rest (cells (graft k cut e)) to i at
 
 -- the one expression at index e of s, made in at most `room` cells
 pub record WholePost (top : ℕ) (P : List ℕ → Choice → Type 0) (tb s w w′ : List ℕ) (e to room r : ℕ) : Type 0 where
@@ -106,10 +118,10 @@ pub record StartPost (tb w : List ℕ) (base count : ℕ) (starts : List ℕ) (i
 -- what stands for the cell x, which is no abstraction's, outside every binding: itself where len is 0, else len cells of the
 -- arguments from index `start` on; more than there are where that is not known
 pub record RunPost (tb : List ℕ) (x count : ℕ) (starts : List ℕ) (start len : ℕ) : Type 0 where
-  pub short : start < 65536
-  pub itself : len ≡ 0 → (x % 8 ≡ 5 → ⊥) → (vs : List ℕ) (xs : Exprs) → countExprs xs ≡ count → (e : Expr) → firstCell e ≡ x
+  pub short : start < cellValues
+  pub itself : len ≡ 0 → (x % cellFactor ≡ 5 → ⊥) → (vs : List ℕ) (xs : Exprs) → countExprs xs ≡ count → (e : Expr) → firstCell e ≡ x
       → Fit tb (instantiating vs xs) e → cells (instantiate vs xs 0 e) ≡ x ∷ cellss (instantiates vs xs 0 (parts e))
-  pub argument : 0 < len → len < 18446744073709551615 → (vs : List ℕ) (xs : Exprs) → countExprs xs ≡ count → Started xs starts → (e : Expr) → firstCell e ≡ x
+  pub argument : 0 < len → len < pastEnd → (vs : List ℕ) (xs : Exprs) → countExprs xs ≡ count → Started xs starts → (e : Expr) → firstCell e ≡ x
       → Fit tb (instantiating vs xs) e
       → (parts e ≡ nil) × (start + len ≤ length (cellss xs)) × (cells (instantiate vs xs 0 e) ≡ take len (drop start (cellss xs)))
 

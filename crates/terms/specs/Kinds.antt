@@ -2,20 +2,11 @@
 use mathlib.Core.Path.{_≡_, refl}
 use Prim.Native.Nat.{ℕ, _%_, _≤_, _<_}
 use native.Mathlib.Omega.{arith}
+use Rattle.aut68.specs.Sizes.{cellFactor}
 use Rattle.aut68.specs.Expr.{Expr, Exprs, type, prop, var, bound, const, app, abs, firstCell}
 
 module _ (G : Expr → Type 0) where
-  pub of-type : G type → (e : Expr) → firstCell e % 8 ≡ 0 → G e
-  unfolding firstCell
-  of-type g type h = g
-  of-type g prop h = absurd (omega arith)
-  of-type g (var v) h = absurd (omega arith)
-  of-type g (bound i) h = absurd (omega arith)
-  of-type g (const v xs) h = absurd (omega arith)
-  of-type g (app a b) h = absurd (omega arith)
-  of-type g (abs p t) h = absurd (omega arith)
-
-  pub of-variable : ((v : ℕ) → G (var v)) → (e : Expr) → firstCell e % 8 ≡ 1 → G e
+  pub of-variable : ((v : ℕ) → G (var v)) → (e : Expr) → firstCell e % cellFactor ≡ 1 → G e
   unfolding firstCell
   of-variable g type h = absurd (omega arith)
   of-variable g prop h = absurd (omega arith)
@@ -25,7 +16,7 @@ module _ (G : Expr → Type 0) where
   of-variable g (app a b) h = absurd (omega arith)
   of-variable g (abs p t) h = absurd (omega arith)
 
-  pub of-bound : ((i : ℕ) → G (bound i)) → (e : Expr) → firstCell e % 8 ≡ 2 → G e
+  pub of-bound : ((i : ℕ) → G (bound i)) → (e : Expr) → firstCell e % cellFactor ≡ 2 → G e
   unfolding firstCell
   of-bound g type h = absurd (omega arith)
   of-bound g prop h = absurd (omega arith)
@@ -35,27 +26,7 @@ module _ (G : Expr → Type 0) where
   of-bound g (app a b) h = absurd (omega arith)
   of-bound g (abs p t) h = absurd (omega arith)
 
-  pub of-constant : ((v : ℕ) (xs : Exprs) → G (const v xs)) → (e : Expr) → firstCell e % 8 ≡ 3 → G e
-  unfolding firstCell
-  of-constant g type h = absurd (omega arith)
-  of-constant g prop h = absurd (omega arith)
-  of-constant g (var v) h = absurd (omega arith)
-  of-constant g (bound i) h = absurd (omega arith)
-  of-constant g (const v xs) h = g v xs
-  of-constant g (app a b) h = absurd (omega arith)
-  of-constant g (abs p t) h = absurd (omega arith)
-
-  pub of-application : ((a b : Expr) → G (app a b)) → (e : Expr) → firstCell e % 8 ≡ 4 → G e
-  unfolding firstCell
-  of-application g type h = absurd (omega arith)
-  of-application g prop h = absurd (omega arith)
-  of-application g (var v) h = absurd (omega arith)
-  of-application g (bound i) h = absurd (omega arith)
-  of-application g (const v xs) h = absurd (omega arith)
-  of-application g (app a b) h = g a b
-  of-application g (abs p t) h = absurd (omega arith)
-
-  pub of-abstraction : ((p t : Expr) → G (abs p t)) → (e : Expr) → firstCell e % 8 ≡ 5 → G e
+  pub of-abstraction : ((p t : Expr) → G (abs p t)) → (e : Expr) → firstCell e % cellFactor ≡ 5 → G e
   unfolding firstCell
   of-abstraction g type h = absurd (omega arith)
   of-abstraction g prop h = absurd (omega arith)
@@ -66,7 +37,7 @@ module _ (G : Expr → Type 0) where
   of-abstraction g (abs p t) h = g p t
 
   -- a leaf: `type`, a variable, a bound variable
-  pub of-leaf : G type → ((v : ℕ) → G (var v)) → ((i : ℕ) → G (bound i)) → (e : Expr) → firstCell e % 8 < 3 → G e
+  pub of-leaf : G type → ((v : ℕ) → G (var v)) → ((i : ℕ) → G (bound i)) → (e : Expr) → firstCell e % cellFactor < 3 → G e
   unfolding firstCell
   of-leaf g₀ g₁ g₂ type h = g₀
   of-leaf g₀ g₁ g₂ prop h = absurd (omega arith)
@@ -77,7 +48,8 @@ module _ (G : Expr → Type 0) where
   of-leaf g₀ g₁ g₂ (abs p t) h = absurd (omega arith)
 
   -- `prop`, a constant or an application: a cell that stays as it is, before its parts
-  pub of-branch : G prop → ((v : ℕ) (xs : Exprs) → G (const v xs)) → ((a b : Expr) → G (app a b)) → (e : Expr) → 3 ≤ firstCell e % 8 → (firstCell e % 8 ≡ 5 → ⊥) → G e
+  pub of-branch : G prop → ((v : ℕ) (xs : Exprs) → G (const v xs)) → ((a b : Expr) → G (app a b)) → (e : Expr) → 3 ≤ firstCell e % cellFactor
+      → (firstCell e % cellFactor ≡ 5 → ⊥) → G e
   unfolding firstCell
   of-branch g₆ g₃ g₄ type h n = absurd (omega arith)
   of-branch g₆ g₃ g₄ prop h n = g₆

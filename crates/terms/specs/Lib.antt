@@ -3,6 +3,5 @@ pub mod Made
 pub mod MadeLaws
 pub mod Starts
 pub mod Grafts
-pub mod Formation
 pub mod Kinds
 pub mod Unchanged

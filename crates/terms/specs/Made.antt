@@ -7,13 +7,15 @@ use mathlib.Core.List.{List}
 use Prim.Native.Nat.{ℕ, zero, suc, _+_, _≤_, _<_}
 use lib.ListN.{length, getD, take}
 use lib.Seq.{sets, slice}
+use Rattle.aut68.specs.Lines.{rowCell}
+use Rattle.aut68.specs.Sizes.{cellValues, atContext}
 use Rattle.aut68.specs.Expr.{Expr, Exprs, nil, cons, size, cells, cellss, countExprs}
 use Rattle.aut68.specs.Substitution.{lift, substitute, argumentFor, instantiate}
-use Rattle.cells.specs.Cells.{rowCell, Formed, RightCount, Wf, Wfs, At, Below, Outside}
+use Rattle.cells.specs.Cells.{Formed, RightCount, Wf, Wfs, At, Below, Outside}
 
 -- The answer where a result has more cells than its room: more than any limit.
 unfoldable pub noRoom : ℕ
-noRoom = 65536
+noRoom = cellValues
 
 -- A result made from index `to` on in at most `room` cells: the answer r is its size, or noRoom exactly where it has more
 -- cells than the room; its cells are written as far as the room goes, and every other cell is as it was.
@@ -30,7 +32,7 @@ argumentAt (cons a xs) (suc i) = argumentAt xs i
 
 -- the argument of the variable of line v is the one whose number is the context length on v's row
 abbrev pub Numbered : List ℕ → List ℕ → Exprs → ℕ → Type 0
-Numbered tb vs xs v = argumentFor v vs xs ≡ argumentAt xs (rowCell tb v 3)
+Numbered tb vs xs v = argumentFor v vs xs ≡ argumentAt xs (rowCell tb v atContext)
 
 -- whatever the cells are: no cell outside the room is changed, and the answer is at most the room, or noRoom
 pub record Confined (w w′ : List ℕ) (to room r : ℕ) : Type 0 where
@@ -40,14 +42,14 @@ pub record Confined (w w′ : List ℕ) (to room r : ℕ) : Type 0 where
 -- the expression at e, moved under d more bindings
 pub record RaisePost (tb w w′ : List ℕ) (e d to room r : ℕ) : Type 0 where
   pub confined : Confined w w′ to room r
-  pub made : (x : Expr) (rest : List ℕ) → to + room ≤ length w → Wf tb x → At (take to w) e (cells x) rest → Below 65536 (cells (lift d 0 x))
+  pub made : (x : Expr) (rest : List ℕ) → to + room ≤ length w → Wf tb x → At (take to w) e (cells x) rest → Below cellValues (cells (lift d 0 x))
       → Made room (lift d 0 x) r to w w′
 
 -- the expression at t, with the one at a for the variable of the binding just outside it
 pub record SubstitutePost (tb w w′ : List ℕ) (t a to room r : ℕ) : Type 0 where
   pub confined : Confined w w′ to room r
   pub made : (x y : Expr) (rx ry : List ℕ) → to + room ≤ length w → Wf tb x → Wf tb y → At (take to w) t (cells x) rx → At (take to w) a (cells y) ry
-      → Below 65536 (cells (substitute y 0 x)) → Made room (substitute y 0 x) r to w w′
+      → Below cellValues (cells (substitute y 0 x)) → Made room (substitute y 0 x) r to w w′
 
 -- ---- arguments put in for context variables
 
@@ -76,7 +78,7 @@ pub record ArgumentsLie (tb s : List ℕ) (base count : ℕ) (starts : List ℕ)
 pub record InstantiatePost (tb s w w′ : List ℕ) (e base count : ℕ) (starts : List ℕ) (to room r : ℕ) : Type 0 where
   pub confined : Confined w w′ to room r
   pub made : (vs : List ℕ) (xs : Exprs) (x : Expr) (rx : List ℕ) → to + room ≤ length w → Formed (Numbered tb vs xs) (RightCount tb) x
-      → ArgumentsLie tb (take to w) base count starts xs → At s e (cells x) rx → Below 65536 (cells (instantiate vs xs 0 x))
+      → ArgumentsLie tb (take to w) base count starts xs → At s e (cells x) rx → Below cellValues (cells (instantiate vs xs 0 x))
       → Made room (instantiate vs xs 0 x) r to w w′
 
 -- `true` only if the n cells of f from index `at` on are those of the expression in the cells from..stop of s, with the

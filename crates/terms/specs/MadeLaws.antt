@@ -6,6 +6,7 @@ use Prim.Native.Nat.{ℕ, zero, suc, _+_, _≤_, _<_}
 use native.Mathlib.Omega.{arith}
 use lib.ListN.{length, drop}
 use lib.Seq.{sets, take-all}
+use Rattle.aut68.specs.Sizes.{cellValues}
 use Rattle.aut68.specs.Expr.{Expr, size, cells}
 use Rattle.cells.specs.Cells.{At}
 use Rattle.cells.specs.Forests.{size-is-length}
@@ -28,12 +29,12 @@ module _ {room : ℕ} {e : Expr} {r to : ℕ} {w w′ : List ℕ} (m : Made room
       let a : At (sets w to (cells e)) to (cells e) (drop (to + length (cells e)) w) = at-sets w (cells e) to (omega (arith, size-is-length e)) in
       rw (made-whole l, size-is-length e) a
 
-  -- the answer tells whether it fits, in a room of fewer than 65,536 cells
-  pub made-fits : room < 65536 → r ≤ room → size e ≤ room
+  -- the answer tells whether it fits, in a room of fewer cells than a cell has values
+  pub made-fits : room < cellValues → r ≤ room → size e ≤ room
   unfolding noRoom
   made-fits h l = ⊎-elim (λ p. p) (λ q. absurd (omega (arith, m .large q))) (fits-or-not (size e) room)
 
-  pub made-answer : room < 65536 → r ≤ room → r ≡ size e
+  pub made-answer : room < cellValues → r ≤ room → r ≡ size e
   made-answer h l = m .fits (made-fits h l)
 
   pub made-large : room < r → room < size e

@@ -26,12 +26,6 @@ unfolding startOf join countExprs cellss
 start-join nil bs = start-first bs
 start-join (cons a fs) bs = omega (arith, start-join fs bs, size-is-length a, length-append (cells a) (cellss fs))
 
--- the last one ends where the string does
-pub start-end : (xs : Exprs) → startOf xs (countExprs xs) ≡ length (cellss xs)
-unfolding startOf countExprs cellss
-start-end nil = refl
-start-end (cons a xs) = omega (arith, start-end xs, size-is-length a, length-append (cells a) (cellss xs))
-
 start-later : (a : Expr) (xs : Exprs) (i : ℕ) → startOf (cons a xs) (suc i) ≡ size a + startOf xs i
 unfolding startOf
 start-later a xs i = refl

@@ -39,7 +39,8 @@ pub record Changed : Type 0 where
 
 derived : Derived aut68 [] (take 3 (lines numbers)) numberLines
 unfolding Recording numberLines
-derived = subst (λ ls. Derived aut68 [] (take (length ls) (lines numbers)) ls) numbers-recorded (recorded-are-meanings aut68 numbers 0 16 24 8 2048)
+derived =
+    subst (λ ls. Derived aut68 [] (take (length ls) (lines numbers)) ls) numbers-recorded (recorded-are-meanings aut68 numbers (record { budget = 0; limit = 16; table = 24; terms = 8; work = 2048 }))
 
 unfoldable nat : Expr
 nat = const 1 nil

@@ -12,4 +12,4 @@ correct-inside book h without = record { meanings = h .meanings; derived = book-
 
 pub accepted-inside : AcceptedInside
 unfolding AcceptedInside Soundness
-accepted-inside book N L table terms work a without = correct-inside book (soundness aut68 book N L table terms work a .0) without
+accepted-inside book m a without = correct-inside book (soundness aut68 book m a .0) without

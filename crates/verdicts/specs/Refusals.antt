@@ -7,6 +7,7 @@ use Prim.Native.Nat.{ℕ, _≤_}
 use native.Mathlib.Omega.{arith}
 use lib.ListN.{length}
 use Rattle.aut68.specs.Language.{Language}
+use Rattle.aut68.specs.Stores.{Limits}
 use Rattle.aut68.specs.Bytes.{Bytes}
 use Rattle.aut68.specs.Source.{SourceLine}
 use Rattle.aut68.specs.Lines.{Line, Lines}
@@ -18,7 +19,7 @@ use Rattle.lookup.specs.Answers.{Finding, noFunction, noType, differ, large, sp
 use Rattle.lookup.specs.DerivedBooks.{right-contexts}
 use Rattle.reading.specs.Sound.{parse-sound}
 use Rattle.reading.specs.Readings.{Reading}
-use Rattle.reading.specs.Stages.{check-stopped, Halted, isMalformed, isTaken, noIndicator, noMiddle, noCategory, isLarge, noRoom, inCategory, inMiddle}
+use Rattle.reading.specs.Stages.{check-stopped, Halted, unread, Unread, isMalformed, isTaken, noIndicator, noMiddle, noCategory, isLarge, noRoom, inCategory, inMiddle}
 use Rattle.inclusion.specs.Liberal.{NestedContext, nested-context}
 use Rattle.inclusion.specs.Lines.{written-finds, middle-finds}
 use Rattle.inclusion.specs.Books.{Right, built-right}
@@ -32,7 +33,7 @@ finding-code (differ x) = omega arith
 finding-code large = omega arith
 finding-code spent = omega arith
 
-module _ (language : Language) (ls : Lines) {past : List Bytes} (D : Derived language [] past ls) (L table terms : ℕ) (bytes : Bytes) (b : ℕ) where
+module _ (language : Language) (ls : Lines) {past : List Bytes} (D : Derived language [] past ls) (limits : Limits) (bytes : Bytes) (b : ℕ) where
   R : Right language ls
   R = built-right (derived-built D)
 
@@ -40,20 +41,20 @@ module _ (language : Language) (ls : Lines) {past : List Bytes} (D : Derived lan
     N : NestedContext ls (l .context)
     N = nested-context (R .resolvedLines) (R .contexts) (x .contextIs)
 
-    pub written-code : (m : ℕ) {r : Refusal} {b′ : ℕ} → checkWritten language ls L (l .category) m ≡ stop r b′ → 7 ≤ codeOf r
+    written-code : (m : ℕ) {r : Refusal} {b′ : ℕ} → checkWritten language ls (limits .limit) (l .category) m ≡ stop r b′ → 7 ≤ codeOf r
     written-code m f =
-        finding-code (judged-stop (written-finds language ls (R .resolvedLines) (R .contexts) (R .lines) (l .context) (x .contextIs) N L (l .category)
+        finding-code (judged-stop (written-finds language ls (R .resolvedLines) (R .contexts) (R .lines) (l .context) (x .contextIs) N (limits .limit) (l .category)
         (line-category ls (l .context) (x .form) (x .categoryIs)) (category-ends language ls (l .context) (x .form) (x .categoryIs)) m) f)
 
-    pub middle-code : (m : ℕ) {r : Refusal} {b′ : ℕ} → checkMiddle language ls L (l .kind) (l .category) m ≡ stop r b′ → 7 ≤ codeOf r
+    middle-code : (m : ℕ) {r : Refusal} {b′ : ℕ} → checkMiddle language ls (limits .limit) (l .kind) (l .category) m ≡ stop r b′ → 7 ≤ codeOf r
     middle-code m f =
-        finding-code (judged-stop (middle-finds language ls (R .resolvedLines) (R .contexts) (R .lines) (l .context) (x .contextIs) N L (l .kind) (l .category)
+        finding-code (judged-stop (middle-finds language ls (R .resolvedLines) (R .contexts) (R .lines) (l .context) (x .contextIs) N (limits .limit) (l .kind) (l .category)
         (line-middle ls (l .context) (x .form) (x .middleIs)) (line-category ls (l .context) (x .form) (x .categoryIs)) m) f)
 
-  pub malformed-unread : {r : Refusal} {b′ : ℕ} → checkLine language ls L table terms bytes b ≡ stop r b′ → codeOf r ≡ 3
+  pub malformed-unread : {r : Refusal} {b′ : ℕ} → checkLine language ls limits bytes b ≡ stop r b′ → codeOf r ≡ 3
       → {q : Placed} {rest : Bytes} → ¬ (aLine language (length bytes) bytes ≡ done q rest)
   unfolding codeOf
-  malformed-unread {r} {b′} h c {q} e = go (check-stopped language ls L table terms bytes b (right-contexts D) h)
+  malformed-unread {r} {b′} h c {q} e = go (check-stopped language ls limits bytes b (right-contexts D) h)
     where
       code : {s : Refusal} → r ≡ s → codeOf s ≡ 3
       code i = ap codeOf (sym i) ∙ c
@@ -62,13 +63,16 @@ module _ (language : Language) (ls : Lines) {past : List Bytes} (D : Derived lan
       names (inl i) = let z : codeOf unknownName ≡ 3 = code i in omega arith
       names (inr i) = let z : codeOf wrongArity ≡ 3 = code i in omega arith
 
-      go : Halted language ls L table terms bytes b r b′ → ⊥
-      go (isMalformed i p n) = n _ (parse-sound language (length bytes) bytes e .1)
-      go (isTaken i p w j k) = let z : codeOf duplicate ≡ 3 = code i in omega arith
-      go (noIndicator i p w f) = names (inl i)
-      go (noMiddle i p w j f) = names i
-      go (noCategory i p w j f) = names i
-      go (isLarge i p) = let z : codeOf tooLarge ≡ 3 = code i in omega arith
+      read : Unread language ls (limits .limit) bytes r → ⊥
+      read (isMalformed i n) = n _ (parse-sound language (length bytes) bytes e .1)
+      read (isTaken i w j) = let z : codeOf duplicate ≡ 3 = code i in omega arith
+      read (noIndicator i w f) = names (inl i)
+      read (noMiddle i w j f) = names i
+      read (noCategory i w j f) = names i
+      read (isLarge i) = let z : codeOf tooLarge ≡ 3 = code i in omega arith
+
+      go : Halted language ls limits bytes b r b′ → ⊥
+      go (unread u p) = read u
       go (noRoom i p a) = let z : codeOf outOfSpace ≡ 3 = code i in omega arith
       go (inCategory a f) = let z = written-code a b f in omega arith
-      go (inMiddle {m = m} a f g) = let z = middle-code a m g in omega arith
+      go (inMiddle {c = m} a f g) = let z = middle-code a m g in omega arith

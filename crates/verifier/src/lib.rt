@@ -4,7 +4,10 @@ mod book;
 mod outcome;
 
 pub use book::check_book;
+pub use constants::Reason;
+pub use names::Part;
 pub use names::identifier;
+pub use names::identifier_place;
 pub use outcome::Numbers;
 pub use outcome::Outcome;
 pub use outcome::numbers_of;

@@ -4,16 +4,17 @@ use Prim.Native.Nat.{ℕ}
 use mathlib.Core.List.{List}
 use borrow.Author.Needs.{needs}
 use Rattle.aut68.specs.Language.{aut68}
+use Rattle.aut68.specs.Stores.{Stores}
 use Rattle.aut68.specs.Demands.{Checks}
 use Rattle.c_api.proofs.aut68_check.Statement.{statement}
 use Rattle.c_api.proofs.aut68_check.Tie as tie
 
 -- the promise, said of equal numbers
-equal-numbers : {book : List ℕ} {N L : ℕ} {table terms work : List ℕ} {code line steps code′ line′ steps′ : ℕ} {table′ terms′ work′ : List ℕ}
+equal-numbers : {book : List ℕ} {N L : ℕ} {s s′ : Stores} {code line steps code′ line′ steps′ : ℕ}
     → (code′ ≡ code) × (line′ ≡ line) × (steps′ ≡ steps)
-    → Checks aut68 book N L table terms work code line steps table′ terms′ work′
-    → Checks aut68 book N L table terms work code′ line′ steps′ table′ terms′ work′
-equal-numbers (c, l, s) promise = rw (c, l, s) promise
+    → Checks aut68 book N L s code line steps s′
+    → Checks aut68 book N L s code′ line′ steps′ s′
+equal-numbers (c, l, n) promise = rw (c, l, n) promise
 
 check-book-requires : tie.Need-check-book-requires
 check-book-requires c κs = search needs

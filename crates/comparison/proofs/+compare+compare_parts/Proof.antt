@@ -1,3 +1,4 @@
+-- The levels fall: compare 2n, compare_parts 2n + 1 of one level less. cN is c, N steps before.
 use native.Mathlib.Omega.{arith}
 use Prim.Native.Nat.{ℕ, _+_, _*_, _<_}
 use mathlib.Core.Path.{refl, _∙_}
@@ -14,7 +15,7 @@ use Rattle.comparison.proofs.+compare+compare_parts.Lts-compare_parts a
 use Rattle.cells.proofs.side_at.Reads as side-at-reads
 use Rattle.cells.proofs.kids.Reads as kids-reads
 use Rattle.cells.proofs.skip.Reads as skip-reads
-use Rattle.comparison.proofs.settle.Reads as settle-reads
+use Rattle.comparison.proofs.sides.settle.Reads as settle-reads
 use Rattle.comparison.proofs.+compare+compare_parts.{statement}
 use Rattle.comparison.proofs.+compare+compare_parts.Tie.{close}
 
@@ -57,30 +58,38 @@ compare-returns-2 t c = many-levels (c .if2 .taken)
 compare-returns-3 : (t : ℕ) → compare-lts.Need-returns-3 (claims-compare t) (compare-at t) compare.Post
 compare-returns-3 t c = no-units (c .if3 .taken)
 
-compare-side-at-requires : (t : ℕ) → compare-lts.Need-side-at-requires (claims-compare t) (compare-at t) compare.Post
-compare-side-at-requires t c κs = tt
-
 -- what is known where the sides are placed
-opened : (t : ℕ) (c : compare-lts.After-side-at (claims-compare t) (compare-at t) compare.Post) → Opened (c .before .before .before .before .before .before .before .args .limit) (c .before .before .before .before .before .before .before .args .levels) (c .side-at .result) (c .side-at .result + c .before .before .before .before .before .before .before .args .limit)
-opened t c = record { some = c .before .before .before .if1 .left; few = c .before .before .if2 .left; small = c .before .if3 .left; left = c .side-at .ensures (c .before .if3 .left) (c .before .before .if2 .left); right = refl }
+opened : (t : ℕ) (c : compare-lts.After-side-at (claims-compare t) (compare-at t) compare.Post)
+    → (let a = c .before .before .before .before .before .before .before .args in
+    Opened (a .limit) (a .deeper) (c .side-at .result) (c .side-at .result + a .limit))
+opened t c = record {
+  some = c .before .before .before .if1 .left;
+  few = c .before .before .if2 .left;
+  small = c .before .if3 .left;
+  left = c .side-at .ensures (c .before .if3 .left) (c .before .before .if2 .left);
+  right = refl;
+}
 
 compare-add-r : (t : ℕ) → compare-lts.Need-add-r (claims-compare t) (compare-at t) compare.Post
-compare-add-r t c = omega (arith, side-small _ (c .before .before .before .before .before .before .before .args .levels) _ (opened t c .small) (opened t c .left))
-
-compare-settle-requires : (t : ℕ) → compare-lts.Need-settle-requires (claims-compare t) (compare-at t) compare.Post
-compare-settle-requires t c κs = tt
+compare-add-r t c = omega (arith, side-small _ (c .before .before .before .before .before .before .before .args .deeper) _ (opened t c .small) (opened t c .left))
 
 compare-sub-compare-parts : (t : ℕ) → compare-lts.Need-sub-compare-parts (claims-compare t) (compare-at t) compare.Post
 compare-sub-compare-parts t c = omega (arith, c .before .before .before .before .before .before .before .before .before .before .if1 .left)
 
 compare-compare-parts-requires : (t : ℕ) → compare-lts.Need-compare-parts-requires (claims-compare t) (compare-at t) compare.Post
-compare-compare-parts-requires t c κs = (omega (arith, c .before .before .before .before .before .before .before .before .before .before .if1 .left, c .before .before .before .before .before .before .before .before .before .before .before .before .before .before .pre .0), tt)
+compare-compare-parts-requires t c κs =
+    let c10 = c .before .before .before .before .before .before .before .before .before .before in
+    let c14 = c10 .before .before .before .before in
+    (omega (arith, c10 .if1 .left, c14 .pre .0), tt)
 
 compare-same-length : (t : ℕ) → compare-lts.Need-same-length (claims-compare t) (compare-at t) compare.Post
 compare-same-length t c = c .before .before .compare-parts .kept .1 .1 .0 ∙ c .before .before .before .before .before .before .before .before .settle .kept .1 .1 .0
 
 compare-returns-4 : (t : ℕ) → compare-lts.Need-returns-4 (claims-compare t) (compare-at t) compare.Post
-compare-returns-4 t c = compare-parted (opened t (c .before .before .before .before .before .before .before .before .before .before)) (c .before .before .before .before .before .before .before .before .settle .ensures) (c .before .before .before .before .if4 .taken) (c .before .before .compare-parts .ensures)
+compare-returns-4 t c =
+    let c4 = c .before .before .before .before in
+    let c8 = c4 .before .before .before .before in
+    compare-parted (opened t (c8 .before .before)) (c8 .settle .ensures) (c4 .if4 .taken) (c .before .before .compare-parts .ensures)
 
 compare-same-length-2 : (t : ℕ) → compare-lts.Need-same-length-2 (claims-compare t) (compare-at t) compare.Post
 compare-same-length-2 t c = c .before .before .before .before .settle .kept .1 .1 .0
@@ -89,10 +98,10 @@ compare-returns-5 : (t : ℕ) → compare-lts.Need-returns-5 (claims-compare t) 
 compare-returns-5 t c = compare-ended (opened t (c .before .before .before .before .before .before)) (c .before .before .before .before .settle .ensures) (c .if4 .left)
 
 abbrev compare-parts-Inv-loop : compare-parts-lts.InvT-loop
-compare-parts-Inv-loop table store w₀ limit budget l r levels x parts₀ i₀ j₀ left₀ w parts i j left = PartsInvariant table store w₀ limit budget l r levels w parts i j left
+compare-parts-Inv-loop table terms w₀ limit budget l r deeper x parts₀ i₀ j₀ rest₀ w parts i j rest = PartsInvariant table terms w₀ limit budget l r deeper w parts i j rest
 
 abbrev compare-parts-μ-loop : compare-parts-lts.MeasureT-loop
-compare-parts-μ-loop table store w₀ limit budget l r levels x parts₀ i₀ j₀ left₀ w parts i j left = parts
+compare-parts-μ-loop table terms w₀ limit budget l r deeper x parts₀ i₀ j₀ rest₀ w parts i j rest = parts
 
 compare-parts-returns : (t : ℕ) → compare-parts-lts.Need-returns (claims-compare-parts t) (compare-parts-at t) compare-parts.Post compare-parts-Inv-loop compare-parts-μ-loop
 compare-parts-returns t c = outside-left (c .if1 .taken)
@@ -100,29 +109,8 @@ compare-parts-returns t c = outside-left (c .if1 .taken)
 compare-parts-returns-2 : (t : ℕ) → compare-parts-lts.Need-returns-2 (claims-compare-parts t) (compare-parts-at t) compare-parts.Post compare-parts-Inv-loop compare-parts-μ-loop
 compare-parts-returns-2 t c = outside-right (c .if2 .taken)
 
-compare-parts-mul-x : (t : ℕ) → compare-parts-lts.Need-mul-x (claims-compare-parts t) (compare-parts-at t) compare-parts.Post compare-parts-Inv-loop compare-parts-μ-loop
-compare-parts-mul-x t c = omega arith
-
-compare-parts-slice-read-x : (t : ℕ) → compare-parts-lts.Need-slice-read-x (claims-compare-parts t) (compare-parts-at t) compare-parts.Post compare-parts-Inv-loop compare-parts-μ-loop
-compare-parts-slice-read-x t c = omega arith
-
-compare-parts-mul-if3 : (t : ℕ) → compare-parts-lts.Need-mul-if3 (claims-compare-parts t) (compare-parts-at t) compare-parts.Post compare-parts-Inv-loop compare-parts-μ-loop
-compare-parts-mul-if3 t c = omega arith
-
-compare-parts-slice-read-if3 : (t : ℕ) → compare-parts-lts.Need-slice-read-if3 (claims-compare-parts t) (compare-parts-at t) compare-parts.Post compare-parts-Inv-loop compare-parts-μ-loop
-compare-parts-slice-read-if3 t c = omega arith
-
 compare-parts-returns-3 : (t : ℕ) → compare-parts-lts.Need-returns-3 (claims-compare-parts t) (compare-parts-at t) compare-parts.Post compare-parts-Inv-loop compare-parts-μ-loop
 compare-parts-returns-3 t c = shapes-differ (c .if3 .taken)
-
-compare-parts-kids-requires : (t : ℕ) → compare-parts-lts.Need-kids-requires (claims-compare-parts t) (compare-parts-at t) compare-parts.Post compare-parts-Inv-loop compare-parts-μ-loop
-compare-parts-kids-requires t c κs = tt
-
-compare-parts-add-i : (t : ℕ) → compare-parts-lts.Need-add-i (claims-compare-parts t) (compare-parts-at t) compare-parts.Post compare-parts-Inv-loop compare-parts-μ-loop
-compare-parts-add-i t c = omega arith
-
-compare-parts-add-j : (t : ℕ) → compare-parts-lts.Need-add-j (claims-compare-parts t) (compare-parts-at t) compare-parts.Post compare-parts-Inv-loop compare-parts-μ-loop
-compare-parts-add-j t c = omega arith
 
 compare-parts-loop-holds : (t : ℕ) → compare-parts-lts.Need-loop-holds (claims-compare-parts t) (compare-parts-at t) compare-parts.Post compare-parts-Inv-loop compare-parts-μ-loop
 compare-parts-loop-holds t c = parts-start (c .before .if3 .left) (c .kids .ensures .0)
@@ -134,22 +122,17 @@ compare-parts-same-length : (t : ℕ) → compare-parts-lts.Need-same-length (cl
 compare-parts-same-length t c = c .before .before .before .before .compare .kept .1 .1 .0 ∙ c .before .before .before .before .before .before .before .loop .inv .long
 
 compare-parts-returns-4 : (t : ℕ) → compare-parts-lts.Need-returns-4 (claims-compare-parts t) (compare-parts-at t) compare-parts.Post compare-parts-Inv-loop compare-parts-μ-loop
-compare-parts-returns-4 t c = parts-stopped (c .before .before .before .before .before .before .before .loop .inv) (c .before .before .before .before .before .before .loop-test .taken) (c .before .before .before .before .compare .ensures) (c .before .before .before .before .compare .kept .1 .1 .0) (c .if4 .taken)
-
-compare-parts-skip-requires : (t : ℕ) → compare-parts-lts.Need-skip-requires (claims-compare-parts t) (compare-parts-at t) compare-parts.Post compare-parts-Inv-loop compare-parts-μ-loop
-compare-parts-skip-requires t c κs = tt
-
-compare-parts-skip-requires-2 : (t : ℕ) → compare-parts-lts.Need-skip-requires-2 (claims-compare-parts t) (compare-parts-at t) compare-parts.Post compare-parts-Inv-loop compare-parts-μ-loop
-compare-parts-skip-requires-2 t c κs = tt
-
-compare-parts-sub-parts : (t : ℕ) → compare-parts-lts.Need-sub-parts (claims-compare-parts t) (compare-parts-at t) compare-parts.Post compare-parts-Inv-loop compare-parts-μ-loop
-compare-parts-sub-parts t c = omega arith
-
-compare-parts-loop-less : (t : ℕ) → compare-parts-lts.Need-loop-less (claims-compare-parts t) (compare-parts-at t) compare-parts.Post compare-parts-Inv-loop compare-parts-μ-loop
-compare-parts-loop-less t c = omega arith
+compare-parts-returns-4 t c =
+    let c4 = c .before .before .before .before in
+    let c7 = c4 .before .before .before in
+    parts-stopped (c7 .loop .inv) (c4 .before .before .loop-test .taken) (c4 .compare .ensures) (c4 .compare .kept .1 .1 .0) (c .if4 .taken)
 
 compare-parts-loop-again : (t : ℕ) → compare-parts-lts.Need-loop-again (claims-compare-parts t) (compare-parts-at t) compare-parts.Post compare-parts-Inv-loop compare-parts-μ-loop
-compare-parts-loop-again t c = parts-next (c .before .before .before .before .before .before .before .before .before .before .before .loop .inv) (c .before .before .before .before .before .before .before .before .before .before .loop-test .taken) (c .before .before .before .before .before .before .before .before .compare .ensures) (c .before .before .before .before .before .before .before .before .compare .kept .1 .1 .0) (c .before .before .before .before .if4 .left) (c .before .before .skip .ensures) (c .skip2 .ensures)
+compare-parts-loop-again t c =
+    let c4 = c .before .before .before .before in
+    let c8 = c4 .before .before .before .before in
+    let c11 = c8 .before .before .before in
+    parts-next (c11 .loop .inv) (c8 .before .before .loop-test .taken) (c8 .compare .ensures) (c8 .compare .kept .1 .1 .0) (c4 .if4 .left) (c .before .before .skip .ensures) (c .skip2 .ensures)
 
 compare-parts-same-length-2 : (t : ℕ) → compare-parts-lts.Need-same-length-2 (claims-compare-parts t) (compare-parts-at t) compare-parts.Post compare-parts-Inv-loop compare-parts-μ-loop
 compare-parts-same-length-2 t c = c .before .loop .inv .long
@@ -160,18 +143,8 @@ compare-parts-returns-5 t c = parts-done (c .before .loop .inv) (omega (arith, c
 pub +compare+compare-parts-spec : {M : Type 1} → statement M
 +compare+compare-parts-spec = close μ-compare μ-compare-parts (λ t. compare-lts.spec (claims-compare t)
     (compare-at t)
-    compare.Post
-    (compare-returns t)
-    (compare-returns-2 t)
-    (compare-returns-3 t)
-    (compare-side-at-requires t)
-    (compare-add-r t)
-    (compare-settle-requires t)
-    (compare-sub-compare-parts t)
-    (compare-compare-parts-requires t)
-    (compare-same-length t)
-    (compare-returns-4 t)
-    (compare-same-length-2 t)
+    compare.Post (compare-returns t) (compare-returns-2 t) (compare-returns-3 t) (λ c κs. tt) (compare-add-r t) (λ c κs. tt)
+    (compare-sub-compare-parts t) (compare-compare-parts-requires t) (compare-same-length t) (compare-returns-4 t) (compare-same-length-2 t)
     (compare-returns-5 t))
     λ t. compare-parts-lts.spec (
       kids-reads.Asked,
@@ -180,29 +153,9 @@ pub +compare+compare-parts-spec : {M : Type 1} → statement M
       compare.Post,
       skip-reads.Asked,
       skip-reads.Learnt,
-    )
-    (compare-parts-at t)
-    compare-parts.Post
-    compare-parts-Inv-loop
-    compare-parts-μ-loop
-    (compare-parts-returns t)
-    (compare-parts-returns-2 t)
-    (compare-parts-mul-x t)
-    (compare-parts-slice-read-x t)
-    (compare-parts-mul-if3 t)
-    (compare-parts-slice-read-if3 t)
-    (compare-parts-returns-3 t)
-    (compare-parts-kids-requires t)
-    (compare-parts-add-i t)
-    (compare-parts-add-j t)
-    (compare-parts-loop-holds t)
-    (compare-parts-compare-requires t)
-    (compare-parts-same-length t)
-    (compare-parts-returns-4 t)
-    (compare-parts-skip-requires t)
-    (compare-parts-skip-requires-2 t)
-    (compare-parts-sub-parts t)
-    (compare-parts-loop-less t)
-    (compare-parts-loop-again t)
-    (compare-parts-same-length-2 t)
+    ) (compare-parts-at t)
+    compare-parts.Post compare-parts-Inv-loop compare-parts-μ-loop (compare-parts-returns t) (compare-parts-returns-2 t) (λ c. omega arith)
+    (λ c. omega arith) (λ c. omega arith) (λ c. omega arith) (compare-parts-returns-3 t) (λ c κs. tt) (λ c. omega arith) (λ c. omega arith)
+    (compare-parts-loop-holds t) (compare-parts-compare-requires t) (compare-parts-same-length t) (compare-parts-returns-4 t) (λ c κs. tt)
+    (λ c κs. tt) (λ c. omega arith) (λ c. omega arith) (compare-parts-loop-again t) (compare-parts-same-length-2 t)
     (compare-parts-returns-5 t)

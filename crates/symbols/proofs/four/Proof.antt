@@ -43,43 +43,38 @@ mul-result : tie.Need-mul-result
 mul-result c = omega (arith, c .shared-slice-known4 .given (c .before .before .before .before .args .i + 1))
 
 add-result : tie.Need-add-result
-add-result c = omega (arith, c .shared-slice-known4 .given (c .before .before .before .before .args .i), c .shared-slice-known4 .given (c .before .before .before .before .args .i + 1))
+add-result c =
+    let g = c .shared-slice-known4 .given in
+    let i = c .before .before .before .before .args .i in
+    omega (arith, g i, g (i + 1))
 
 mul-result-2 : tie.Need-mul-result-2
 mul-result-2 c = omega (arith, c .shared-slice-known4 .given (c .before .before .before .before .args .i + 2))
 
 add-result-2 : tie.Need-add-result-2
-add-result-2 c = omega (arith, c .shared-slice-known4 .given (c .before .before .before .before .args .i), c .shared-slice-known4 .given (c .before .before .before .before .args .i + 1), c .shared-slice-known4 .given (c .before .before .before .before .args .i + 2))
+add-result-2 c =
+    let g = c .shared-slice-known4 .given in
+    let i = c .before .before .before .before .args .i in
+    omega (arith, g i, g (i + 1), g (i + 2))
 
 mul-result-3 : tie.Need-mul-result-3
 mul-result-3 c = omega (arith, c .shared-slice-known4 .given (c .before .before .before .before .args .i + 3))
 
 add-result-3 : tie.Need-add-result-3
-add-result-3 c = omega (arith, c .shared-slice-known4 .given (c .before .before .before .before .args .i), c .shared-slice-known4 .given (c .before .before .before .before .args .i + 1), c .shared-slice-known4 .given (c .before .before .before .before .args .i + 2), c .shared-slice-known4 .given (c .before .before .before .before .args .i + 3))
+add-result-3 c =
+    let g = c .shared-slice-known4 .given in
+    let i = c .before .before .before .before .args .i in
+    omega (arith, g i, g (i + 1), g (i + 2), g (i + 3))
 
 returns : tie.Need-returns
 unfolding fourAt
-returns c = refl
+returns c =
+    let g = c .shared-slice-known4 .given in
+    let i = c .before .before .before .before .args .i in
+    (refl, omega (arith, g i, g (i + 1), g (i + 2), g (i + 3)))
 
 pub four-spec : {M : Type 1} → statement M
 four-spec =
     tie.close
-    (tie.spec
-    shared-slice-read-a
-    cast-a
-    add-b
-    shared-slice-read-b
-    cast-b
-    add-c
-    shared-slice-read-c
-    cast-c
-    add-d
-    shared-slice-read-d
-    cast-d
-    mul-result
-    add-result
-    mul-result-2
-    add-result-2
-    mul-result-3
-    add-result-3
-    returns)
+    (tie.spec shared-slice-read-a cast-a add-b shared-slice-read-b cast-b add-c shared-slice-read-c cast-c add-d shared-slice-read-d cast-d
+    mul-result add-result mul-result-2 add-result-2 mul-result-3 add-result-3 returns)

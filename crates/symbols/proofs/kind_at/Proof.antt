@@ -1,6 +1,6 @@
 use borrow.Author.Needs.{needs}
 use native.Mathlib.Omega.{arith}
-use Rattle.symbols.proofs.Laws.{kind-here, kind-end}
+use Rattle.symbols.proofs.SymbolLaws.{kind-here, kind-end}
 use Rattle.symbols.proofs.kind_at.Statement.{statement}
 use Rattle.symbols.proofs.kind_at.Tie as tie
 

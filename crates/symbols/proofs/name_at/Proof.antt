@@ -3,7 +3,8 @@ use native.Mathlib.Omega.{arith}
 use mathlib.Core.Path.{sym, ap, _∙_}
 use Rattle.aut68.specs.Language.{aut68}
 use Rattle.aut68.specs.Bytes.{reserved}
-use Rattle.symbols.proofs.Laws.{part, name-outside, name-long, name-reserved, name-word}
+use Rattle.symbols.proofs.SymbolLaws.{part}
+use Rattle.symbols.proofs.WordLaws.{name-outside, name-long, name-reserved, name-word}
 use Rattle.symbols.proofs.name_at.Statement.{statement}
 use Rattle.symbols.proofs.name_at.Tie as tie
 
@@ -20,7 +21,7 @@ sub-len : tie.Need-sub-len
 sub-len c = search needs
 
 returns-2 : tie.Need-returns-2
-returns-2 c = name-long (c .before .before .spaces .ensures) (c .before .word-end .ensures) (omega arith) (omega arith)
+returns-2 c = name-long (c .before .before .spaces .ensures) (c .before .word-end .ensures) (omega arith)
 
 sub-is-reserved : tie.Need-sub-is-reserved
 sub-is-reserved c = search needs
@@ -35,23 +36,21 @@ is-reserved-requires : tie.Need-is-reserved-requires
 is-reserved-requires c κs = search needs
 
 returns-3 : tie.Need-returns-3
-returns-3 c = name-reserved (c .before .before .before .before .before .spaces .ensures) (c .before .before .before .before .word-end .ensures) (omega arith) (ap (reserved aut68) (sym (part _ _ _ (c .before .before .before .before .word-end .ensures .from))) ∙ sym (c .before .is-reserved .ensures) ∙ c .if3 .taken)
+returns-3 c =
+    let r = c .before .before .before .before in
+    let part-is = part _ _ _ (r .word-end .ensures .from) in
+    name-reserved (r .before .spaces .ensures) (r .word-end .ensures)
+    (ap (reserved aut68) (sym part-is) ∙ sym (c .before .is-reserved .ensures) ∙ c .if3 .taken)
 
 returns-4 : tie.Need-returns-4
-returns-4 c = name-word (c .before .before .before .before .before .spaces .ensures) (c .before .before .before .before .word-end .ensures) (omega arith) (omega arith) (ap (reserved aut68) (sym (part _ _ _ (c .before .before .before .before .word-end .ensures .from))) ∙ sym (c .before .is-reserved .ensures) ∙ c .if3 .left)
+returns-4 c =
+    let r = c .before .before .before .before in
+    let part-is = part _ _ _ (r .word-end .ensures .from) in
+    name-word (r .before .spaces .ensures) (r .word-end .ensures) (omega arith)
+    (ap (reserved aut68) (sym part-is) ∙ sym (c .before .is-reserved .ensures) ∙ c .if3 .left)
 
 pub name-at-spec : {M : Type 1} → statement M
 name-at-spec =
     tie.close
-    (tie.spec
-    returns
-    spaces-requires
-    word-end-requires
-    sub-len
-    returns-2
-    sub-is-reserved
-    part-is-reserved-start
-    part-is-reserved-end
-    is-reserved-requires
-    returns-3
-    returns-4)
+    (tie.spec returns spaces-requires word-end-requires sub-len returns-2 sub-is-reserved part-is-reserved-start part-is-reserved-end
+    is-reserved-requires returns-3 returns-4)

@@ -1,13 +1,13 @@
 use mathlib.Core.Path.{sym, _∙_}
-use Prim.Native.Nat.{_-_}
+use Prim.Native.Nat.{_-_, _≤_}
 use native.Mathlib.Omega.{arith}
 use lib.ListN.{length}
-use Rattle.symbols.proofs.Laws.{SameSoFar, same-start, same-more, same-stop, same-four-more, same-four-stop, same-last, lengths-differ}
+use Rattle.symbols.proofs.SameLaws.{SameSoFar, same-start, same-four-more, same-four-stop, same-four-last, same-last, lengths-differ}
 use Rattle.symbols.proofs.same_bytes.Statement.{statement}
 use Rattle.symbols.proofs.same_bytes.Tie as tie
 
 abbrev Inv-loop : tie.InvT-loop
-Inv-loop a b i₀ i = SameSoFar a b i
+Inv-loop a b i₀ i = SameSoFar a b i × (i ≤ length a)
 
 abbrev μ-loop : tie.MeasureT-loop
 μ-loop a b i₀ i = length a - i
@@ -16,19 +16,21 @@ returns : tie.Need-returns Inv-loop μ-loop
 returns c = sym (lengths-differ _ _ (c .if1 .taken))
 
 loop-holds : tie.Need-loop-holds Inv-loop μ-loop
-loop-holds c = same-start (c .if1 .left)
+loop-holds c = (same-start (c .if1 .left), omega arith)
 
-sub-if2 : tie.Need-sub-if2 Inv-loop μ-loop
-sub-if2 c = omega arith
+sub-loop : tie.Need-sub-loop Inv-loop μ-loop
+sub-loop c = omega arith
 
 four-requires : tie.Need-four-requires Inv-loop μ-loop
 four-requires c κs = omega arith
 
 four-requires-2 : tie.Need-four-requires-2 Inv-loop μ-loop
-four-requires-2 c κs = omega (arith, c .before .before .before .loop .inv .lengths)
+four-requires-2 c κs = omega arith
 
 returns-2 : tie.Need-returns-2 Inv-loop μ-loop
-returns-2 c = sym (same-four-stop (c .before .before .before .before .before .loop .inv) (omega arith) (λ e. c .if3 .taken (c .before .before .four .ensures ∙ e ∙ sym (c .before .four2 .ensures))))
+returns-2 c =
+    let r = c .before .before in
+    sym (same-four-stop (r .before .before .loop .inv .0) (λ e. c .if2 .taken (r .four .ensures .0 ∙ e ∙ sym (c .before .four2 .ensures .0))))
 
 add-i : tie.Need-add-i Inv-loop μ-loop
 add-i c = omega arith
@@ -37,48 +39,39 @@ loop-less : tie.Need-loop-less Inv-loop μ-loop
 loop-less c = omega arith
 
 loop-again : tie.Need-loop-again Inv-loop μ-loop
-loop-again c = same-four-more (c .before .before .before .before .before .loop .inv) (omega arith) (λ j. omega (arith, c .before .before .before .before .before .before .before .before .shared-slice-known .given j)) (λ j. omega (arith, c .before .before .before .before .before .before .before .shared-slice-known2 .given j)) (sym (c .before .before .four .ensures) ∙ c .if3 .left ∙ c .before .four2 .ensures)
-
-shared-slice-read-if4 : tie.Need-shared-slice-read-if4 Inv-loop μ-loop
-shared-slice-read-if4 c = omega arith
-
-shared-slice-read-if4-2 : tie.Need-shared-slice-read-if4-2 Inv-loop μ-loop
-shared-slice-read-if4-2 c = omega arith
+loop-again c =
+    let r = c .before .before in
+    let lent = r .before .before .before .before in
+    let same = same-four-more
+    (r .before .before .loop .inv .0)
+    (λ j. omega (arith, lent .before .shared-slice-known .given j))
+    (λ j. omega (arith, lent .shared-slice-known2 .given j))
+    (sym (r .four .ensures .0) ∙ c .if2 .left ∙ c .before .four2 .ensures .0) in
+    (same, omega arith)
 
 returns-3 : tie.Need-returns-3 Inv-loop μ-loop
-returns-3 c = sym (same-stop (c .before .before .before .before .before .loop .inv) (omega arith) (c .if4 .taken))
+returns-3 c = sym (same-last (c .before .before .loop .inv .0) (omega arith))
 
-add-i-2 : tie.Need-add-i-2 Inv-loop μ-loop
-add-i-2 c = omega arith
+four-at-requires : tie.Need-four-at-requires Inv-loop μ-loop
+four-at-requires c κs = omega arith
 
-loop-less-2 : tie.Need-loop-less-2 Inv-loop μ-loop
-loop-less-2 c = omega arith
-
-loop-again-2 : tie.Need-loop-again-2 Inv-loop μ-loop
-loop-again-2 c = same-more (c .before .before .before .before .before .loop .inv) (omega arith) (c .if4 .left)
+four-at-requires-2 : tie.Need-four-at-requires-2 Inv-loop μ-loop
+four-at-requires-2 c κs = omega arith
 
 returns-4 : tie.Need-returns-4 Inv-loop μ-loop
-returns-4 c = sym (same-last (c .before .loop .inv) (omega arith))
+returns-4 c =
+    let r = c .before .before .before in
+    let lent = r .before .before .before in
+    same-four-last
+    (r .before .loop .inv .0)
+    (λ j. omega (arith, lent .before .shared-slice-known .given j))
+    (λ j. omega (arith, lent .shared-slice-known2 .given j))
+    (c .before .four-at .ensures .0)
+    (c .four-at2 .ensures .0)
+    (omega arith)
 
 pub same-bytes-spec : {M : Type 1} → statement M
 same-bytes-spec =
     tie.close
-    (tie.spec
-    Inv-loop
-    μ-loop
-    returns
-    loop-holds
-    sub-if2
-    four-requires
-    four-requires-2
-    returns-2
-    add-i
-    loop-less
-    loop-again
-    shared-slice-read-if4
-    shared-slice-read-if4-2
-    returns-3
-    add-i-2
-    loop-less-2
-    loop-again-2
-    returns-4)
+    (tie.spec Inv-loop μ-loop returns loop-holds sub-loop four-requires four-requires-2 returns-2 add-i loop-less loop-again returns-3
+    four-at-requires four-at-requires-2 returns-4)

@@ -1,7 +1,7 @@
 use Prim.Native.Nat.{_-_}
 use native.Mathlib.Omega.{arith}
 use lib.ListN.{length}
-use Rattle.symbols.proofs.Laws.{SpacesSoFar, spaces-start, spaces-more, spaces-stop, spaces-last}
+use Rattle.symbols.proofs.SymbolLaws.{SpacesSoFar, spaces-start, spaces-more, spaces-stop, spaces-last}
 use Rattle.symbols.proofs.spaces.Statement.{statement}
 use Rattle.symbols.proofs.spaces.Tie as tie
 
@@ -33,15 +33,4 @@ returns-2 : tie.Need-returns-2 Inv-loop μ-loop
 returns-2 c = spaces-last (c .before .loop .inv) (omega arith)
 
 pub spaces-spec : {M : Type 1} → statement M
-spaces-spec =
-    tie.close
-    (tie.spec
-    Inv-loop
-    μ-loop
-    loop-holds
-    shared-slice-read-if1
-    returns
-    add-i
-    loop-less
-    loop-again
-    returns-2)
+spaces-spec = tie.close (tie.spec Inv-loop μ-loop loop-holds shared-slice-read-if1 returns add-i loop-less loop-again returns-2)

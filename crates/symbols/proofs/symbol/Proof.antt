@@ -1,7 +1,7 @@
 use borrow.Author.Needs.{needs}
 use native.Mathlib.Omega.{arith}
 use mathlib.Core.Path.{sym, _∙_}
-use Rattle.symbols.proofs.Laws.{symbol-here, symbol-other, symbol-end}
+use Rattle.symbols.proofs.SymbolLaws.{symbol-here, symbol-other, symbol-end}
 use Rattle.symbols.proofs.symbol.Statement.{statement}
 use Rattle.symbols.proofs.symbol.Tie as tie
 
@@ -35,13 +35,4 @@ returns-3 c = symbol-here (c .before .before .before .before .spaces .ensures) (
 pub symbol-spec : {M : Type 1} → statement M
 symbol-spec =
     tie.close
-    (tie.spec
-    spaces-requires
-    add-result
-    returns
-    shared-slice-read-kind-of
-    kind-of-requires
-    add-result-2
-    returns-2
-    add-result-3
-    returns-3)
+    (tie.spec spaces-requires add-result returns shared-slice-read-kind-of kind-of-requires add-result-2 returns-2 add-result-3 returns-3)

@@ -2,7 +2,7 @@ use Prim.Native.Nat.{_-_}
 use native.Mathlib.Omega.{arith}
 use mathlib.Core.Path.{sym, _∙_}
 use lib.ListN.{length}
-use Rattle.symbols.proofs.Laws.{WordSoFar, word-start, word-more, word-stop, word-last}
+use Rattle.symbols.proofs.WordLaws.{WordSoFar, word-start, word-more, word-stop, word-last}
 use Rattle.symbols.proofs.word_end.Statement.{statement}
 use Rattle.symbols.proofs.word_end.Tie as tie
 
@@ -39,14 +39,4 @@ returns-2 c = word-last (c .before .loop .inv) (omega arith)
 pub word-end-spec : {M : Type 1} → statement M
 word-end-spec =
     tie.close
-    (tie.spec
-    Inv-loop
-    μ-loop
-    loop-holds
-    shared-slice-read-kind-of
-    kind-of-requires
-    returns
-    add-i
-    loop-less
-    loop-again
-    returns-2)
+    (tie.spec Inv-loop μ-loop loop-holds shared-slice-read-kind-of kind-of-requires returns add-i loop-less loop-again returns-2)

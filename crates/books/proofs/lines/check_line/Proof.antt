@@ -2,6 +2,7 @@
 use Prim.Native.Nat.{suc, _+_, _*_, _≤_, _<_}
 use native.Mathlib.Omega.{arith}
 use lib.ListN.{length}
+use Rattle.aut68.specs.Sizes.{lineLimit, rowWidth}
 use Rattle.books.proofs.RowLaws.{room-facts}
 use Rattle.books.proofs.LineLaws.{line-as, ends-unread, ends-full, ends-refused, ends-passed}
 use borrow.Author.Needs.{needs}
@@ -34,13 +35,16 @@ same-length-2 c = search needs
 
 returns : tie.Need-returns
 returns c =
-    let a = c .before .before .before .before .before .before .before .before .before .before .before .before .before .before .args in
-    let e = c .before .before .before .before .before .before .before .before .before .line-end in
-    let r = c .before .before .before .before .before .read-line in
+    let at-read-line = c .before .before .before .before .before in
+    let at-line-end = at-read-line .before .before .before .before in
+    let start = at-line-end .before .before .before .before .before in
+    let a = start .args in
+    let e = at-line-end .line-end in
+    let r = at-read-line .read-line in
     line-as (c .stopped .ensures)
     (record {
       onward = λ z. absurd (c .before .if1 .taken z);
-      means = λ f t h i. ends-unread h (a .p .budget) (c .before .before .before .before .before .before .before .before .before .before .before .before .before .before .pre) (e .ensures) f t i (r .ensures) (c .before .if1 .taken);
+      means = λ f t h i. ends-unread h (a .p .budget) (start .pre) (e .ensures) f t i (r .ensures) (c .before .if1 .taken);
     })
 
 has-room-requires : tie.Need-has-room-requires
@@ -57,13 +61,17 @@ same-length-4 c = search needs
 
 returns-2 : tie.Need-returns-2
 returns-2 c =
-    let a = c .before .before .before .before .before .before .before .before .before .before .before .before .before .before .before .before .args in
-    let e = c .before .before .before .before .before .before .before .before .before .before .before .line-end in
-    let r = c .before .before .before .before .before .before .before .read-line in
+    let at-if1 = c .before .before .before in
+    let at-read-line = at-if1 .before .before .before .before in
+    let at-line-end = at-read-line .before .before .before .before in
+    let start = at-line-end .before .before .before .before .before in
+    let a = start .args in
+    let e = at-line-end .line-end in
+    let r = at-read-line .read-line in
     line-as (c .stopped2 .ensures)
     (record {
       onward = λ z. absurd (omega arith);
-      means = λ f t h i. ends-full h (a .p .budget) (c .before .before .before .before .before .before .before .before .before .before .before .before .before .before .before .before .pre) (e .ensures) f t i (r .ensures) (c .before .before .before .if1 .left) (c .before .if2 .taken) (c .before .before .has-room .ensures);
+      means = λ f t h i. ends-full h (a .p .budget) (start .pre) (e .ensures) f t i (r .ensures) (at-if1 .if1 .left) (c .before .if2 .taken) (c .before .before .has-room .ensures);
     })
 
 sum-requires : tie.Need-sum-requires
@@ -71,11 +79,16 @@ sum-requires c κs = search needs
 
 -- what is known where there is room
 room-here : (c : tie.Else2)
-    → let a = c .before .before .before .before .before .before .before .before .before .before .before .before .before .before .before .args in
-    (suc (a .p .lines) < 8192) × (8 * suc (a .p .lines) ≤ length (a .table .now)) × (a .p .used + c .before .before .before .before .before .before .read-line .result .size ≤ length (a .store .now))
+    → let at-read-line = c .before .before .before .before .before .before in
+    let a = at-read-line .before .before .before .before .before .before .before .before .before .args in
+    (suc (a .p .lines) < lineLimit)
+    × (rowWidth * suc (a .p .lines) ≤ length (a .table .now))
+    × (a .p .used + at-read-line .read-line .result .size ≤ length (a .terms .now))
 room-here c =
-    let a = c .before .before .before .before .before .before .before .before .before .before .before .before .before .before .before .args in
-    room-facts (length (a .table .now)) (length (a .store .now)) (a .p .lines) (a .p .used) (c .before .before .before .before .before .before .read-line .result .size) (c .if2 .left) (c .before .has-room .ensures)
+    let at-read-line = c .before .before .before .before .before .before in
+    let start = at-read-line .before .before .before .before .before .before .before .before .before in
+    let a = start .args in
+    room-facts (length (a .table .now)) (length (a .terms .now)) (a .p .lines) (a .p .used) (at-read-line .read-line .result .size) (c .if2 .left) (c .before .has-room .ensures)
 
 check-stored-requires : tie.Need-check-stored-requires
 check-stored-requires c κs = room-here (c .before .before .before .before) .2
@@ -94,26 +107,39 @@ same-length-7 c = search needs
 
 returns-3 : tie.Need-returns-3
 returns-3 c =
-    let a = c .before .before .before .before .before .before .before .before .before .before .before .before .before .before .before .before .before .before .before .before .before .before .before .before .before .before .before .before .before .args in
-    let e = c .before .before .before .before .before .before .before .before .before .before .before .before .before .before .before .before .before .before .before .before .before .before .before .before .line-end in
-    let r = c .before .before .before .before .before .before .before .before .before .before .before .before .before .before .before .before .before .before .before .before .read-line in
-    let k = c .before .before .before .before .before .before .before .before .before .check-stored in
+    let at-check-stored = c .before .before .before .before .before .before .before .before .before in
+    let at-sum = at-check-stored .before .before .before .before in
+    let at-if2 = at-sum .before in
+    let at-has-room = at-if2 .before in
+    let at-if1 = at-has-room .before in
+    let at-read-line = at-if1 .before .before .before .before in
+    let at-line-end = at-read-line .before .before .before .before in
+    let start = at-line-end .before .before .before .before .before in
+    let a = start .args in
+    let e = at-line-end .line-end in
+    let r = at-read-line .read-line in
+    let k = at-check-stored .check-stored in
     line-as (c .stopped3 .ensures)
     (record {
       onward = λ z. absurd (c .before .if3 .taken z);
       means =
-          λ f t h i. ends-refused h (a .p .budget) (c .before .before .before .before .before .before .before .before .before .before .before .before .before .before .before .before .before .before .before .before .before .before .before .before .before .before .before .before .before .pre) (e .ensures) f t i (r .ensures) (c .before .before .before .before .before .before .before .before .before .before .before .before .before .before .before .before .if1 .left) (c .before .before .before .before .before .before .before .before .before .before .before .before .before .before .if2 .left) (c .before .before .before .before .before .before .before .before .before .before .before .before .before .before .before .has-room .ensures)
-          (c .before .before .before .before .before .before .before .before .before .before .before .before .before .sum .ensures) (k .ensures) (c .before .if3 .taken);
+          λ f t h i. ends-refused h (a .p .budget) (start .pre) (e .ensures) f t i (r .ensures) (at-if1 .if1 .left) (at-if2 .if2 .left) (at-has-room .has-room .ensures)
+          (at-sum .sum .ensures) (k .ensures) (c .before .if3 .taken);
     })
 
 note-line-requires : tie.Need-note-line-requires
 note-line-requires c κs = search needs
 
 add-t25 : tie.Need-add-t25
-add-t25 c = omega (arith, room-here (c .before .before .before .before .before .before .before .before .before .before .before .before .before .before .before .before .before .before) .0)
+add-t25 c =
+    let earlier = c .before .before .before .before .before .before .before .before .before .before .before .before .before .before .before .before .before .before in
+    omega (arith, room-here earlier .0)
 
 add-t17 : tie.Need-add-t17
-add-t17 c = omega (arith, c .before .before .before .before .before .before .before .before .before .before .before .before .before .before .before .before .before .before .before .before .before .before .before .before .before .before .before .before .before .before .before .before .before .before .good .1 .1 .1 .0 .0, room-here (c .before .before .before .before .before .before .before .before .before .before .before .before .before .before .before .before .before .before .before) .2)
+add-t17 c =
+    let earlier = c .before .before .before .before .before .before .before .before .before .before .before .before .before .before .before .before .before .before .before in
+    let start = earlier .before .before .before .before .before .before .before .before .before .before .before .before .before .before .before in
+    omega (arith, start .good .1 .1 .1 .0 .0, room-here earlier .2)
 
 same-length-8 : tie.Need-same-length-8
 same-length-8 c = search needs
@@ -126,15 +152,25 @@ same-length-10 c = search needs
 
 returns-4 : tie.Need-returns-4
 returns-4 c =
-    let a = c .before .before .before .before .before .before .before .before .before .before .before .before .before .before .before .before .before .before .before .before .before .before .before .before .before .before .before .before .before .before .before .before .before .before .args in
-    let e = c .before .before .before .before .before .before .before .before .before .before .before .before .before .before .before .before .before .before .before .before .before .before .before .before .before .before .before .before .before .line-end in
-    let r = c .before .before .before .before .before .before .before .before .before .before .before .before .before .before .before .before .before .before .before .before .before .before .before .before .before .read-line in
-    let k = c .before .before .before .before .before .before .before .before .before .before .before .before .before .before .check-stored in
+    let at-note-line = c .before .before .before in
+    let at-if3 = at-note-line .before .before .before in
+    let at-check-stored = at-if3 .before .before .before .before .before .before .before .before in
+    let at-sum = at-check-stored .before .before .before .before in
+    let at-if2 = at-sum .before in
+    let at-has-room = at-if2 .before in
+    let at-if1 = at-has-room .before in
+    let at-read-line = at-if1 .before .before .before .before in
+    let at-line-end = at-read-line .before .before .before .before in
+    let start = at-line-end .before .before .before .before .before in
+    let a = start .args in
+    let e = at-line-end .line-end in
+    let r = at-read-line .read-line in
+    let k = at-check-stored .check-stored in
     record {
-      onward = λ z. (e .ensures .from (c .before .before .before .before .before .before .before .before .before .before .before .before .before .before .before .before .before .before .before .before .before .before .before .before .before .before .before .before .before .before .before .before .before .before .pre), e .ensures .within (omega (arith, c .before .before .before .before .before .before .before .before .before .before .before .before .before .before .before .before .before .before .before .before .before .before .before .before .before .before .before .before .before .before .before .before .before .before .pre)));
+      onward = λ z. (e .ensures .from (start .pre), e .ensures .within (omega (arith, start .pre)));
       means =
-          λ f t h i. ends-passed h (a .p .budget) (c .before .before .before .before .before .before .before .before .before .before .before .before .before .before .before .before .before .before .before .before .before .before .before .before .before .before .before .before .before .before .before .before .before .before .pre) (e .ensures) f t i (r .ensures) (c .before .before .before .before .before .before .before .before .before .before .before .before .before .before .before .before .before .before .before .before .before .if1 .left) (c .before .before .before .before .before .before .before .before .before .before .before .before .before .before .before .before .before .before .before .if2 .left) (c .before .before .before .before .before .before .before .before .before .before .before .before .before .before .before .before .before .before .before .before .has-room .ensures)
-          (c .before .before .before .before .before .before .before .before .before .before .before .before .before .before .before .before .before .before .sum .ensures) (k .ensures) (c .before .before .before .before .before .before .if3 .left) (c .before .before .before .note-line .ensures);
+          λ f t h i. ends-passed h (a .p .budget) (start .pre) (e .ensures) f t i (r .ensures) (at-if1 .if1 .left) (at-if2 .if2 .left) (at-has-room .has-room .ensures)
+          (at-sum .sum .ensures) (k .ensures) (at-if3 .if3 .left) (at-note-line .note-line .ensures);
     }
 
 pub check-line-spec : {M : Type 1} → statement M

@@ -1,23 +1,25 @@
 -- `check_lines`: while it goes on, what is recorded decides how the book ends (`Going`). The bytes that are left fall.
 use mathlib.Core.Path.{_≡_, refl, _∙_}
-use Prim.Native.Nat.{_-_}
+use mathlib.Core.List.{List}
+use Prim.Native.Nat.{ℕ, _-_}
 use native.Mathlib.Omega.{arith}
 use lib.ListN.{length}
+use Rattle.aut68.specs.Stores.{stores}
 use Rattle.books.specs.Progress.{Going}
 use Rattle.books.proofs.LoopLaws.{going-starts, going-on, going-stops, going-ends, ends-as, fitting-as}
 use Rattle.books.proofs.lines.check_lines.Statement.{statement}
 use Rattle.books.proofs.lines.check_lines.Tie as tie
 
 abbrev Inv-loop : tie.InvT-loop
-Inv-loop book table₀ store₀ w₀ limit budget kinds hints p₀ table store w p =
+Inv-loop book table₀ terms₀ w₀ limit budget kinds hints p₀ table terms w p =
     (p .code ≡ 0)
     × (length table ≡ length table₀)
-    × (length store ≡ length store₀)
+    × (length terms ≡ length terms₀)
     × (length w ≡ length w₀)
-    × Going book limit budget table₀ store₀ (p .at) (p .lines) (p .used) (p .budget) table store w
+    × ((work : List ℕ) → Going book budget limit (stores table₀ terms₀ work) (p .at) (p .lines) (p .used) (p .budget) table terms w)
 
 abbrev μ-loop : tie.MeasureT-loop
-μ-loop book table₀ store₀ w₀ limit budget kinds hints p₀ table store w p = length book - p .at
+μ-loop book table₀ terms₀ w₀ limit budget kinds hints p₀ table terms w p = length book - p .at
 
 kinds-of-bytes-requires : tie.Need-kinds-of-bytes-requires Inv-loop μ-loop
 kinds-of-bytes-requires c κs = tt
@@ -30,41 +32,64 @@ clear-requires c κs = tt
 
 loop-holds : tie.Need-loop-holds Inv-loop μ-loop
 loop-holds c =
-    let a = c .before .before .before .before .before .before .before .before .before .before .args in
-    (refl, refl, refl, refl, going-starts (a .book .now) (a .limit) (a .budget) (a .table .now) (a .store .now) (c .before .before .clear .last .0))
+    let start = c .before .before .before .before .before .before .before .before .before .before in
+    let a = start .args in
+    (refl, refl, refl, refl, λ work. going-starts (a .book .now) (a .budget) (a .limit) (stores (a .table .now) (a .terms .now) work) (c .before .before .clear .last .0))
 
 check-line-requires : tie.Need-check-line-requires Inv-loop μ-loop
 check-line-requires c κs = c .before .before .before .before .if1 .taken
 
 same-length : tie.Need-same-length Inv-loop μ-loop
-same-length c = c .before .before .before .before .before .before .before .before .check-line .kept .1 .1 .0 ∙ c .before .before .before .before .before .before .before .before .before .before .before .before .before .before .before .loop .inv .1
+same-length c =
+    let at-check-line = c .before .before .before .before .before .before .before .before in
+    let at-loop = at-check-line .before .before .before .before .before .before .before in
+    at-check-line .check-line .kept .1 .1 .0 ∙ at-loop .loop .inv .1
 
 same-length-2 : tie.Need-same-length-2 Inv-loop μ-loop
-same-length-2 c = c .before .before .before .before .before .before .before .before .check-line .kept .1 .1 .1 .0 ∙ c .before .before .before .before .before .before .before .before .before .before .before .before .before .before .before .loop .inv .2
+same-length-2 c =
+    let at-check-line = c .before .before .before .before .before .before .before .before in
+    let at-loop = at-check-line .before .before .before .before .before .before .before in
+    at-check-line .check-line .kept .1 .1 .1 .0 ∙ at-loop .loop .inv .2
 
 same-length-3 : tie.Need-same-length-3 Inv-loop μ-loop
-same-length-3 c = c .before .before .before .before .before .before .before .before .check-line .kept .1 .1 .1 .1 .0 ∙ c .before .before .before .before .before .before .before .before .before .before .before .before .before .before .before .loop .inv .3 ∙ c .before .before .before .before .before .before .before .before .before .before .before .before .before .before .before .before .before .before .clear .kept .0
+same-length-3 c =
+    let at-check-line = c .before .before .before .before .before .before .before .before in
+    let at-loop = at-check-line .before .before .before .before .before .before .before in
+    let at-clear = at-loop .before .before .before in
+    at-check-line .check-line .kept .1 .1 .1 .1 .0 ∙ at-loop .loop .inv .3 ∙ at-clear .clear .kept .0
 
 returns : tie.Need-returns Inv-loop μ-loop
 returns c =
-    let a = c .before .before .before .before .before .before .before .before .before .before .before .before .before .before .before .before .before .before .before .before .before .before .before .before .before .before .args in
-    let k = c .before .before .before .before .before .before .before .before .check-line in
-    let v = c .before .before .before .before .before .before .before .before .before .before .before .before .before .before .before .loop .inv in
-    going-stops (a .book .now) (a .limit) (a .budget) (a .table .now) (a .store .now) (v .4) (c .if2 .taken) (k .ensures .means (fitting-as (c .before .before .before .before .before .before .before .before .before .before .before .before .before .before .before .before .before .before .before .before .before .before .before .before .before .before .pre) (v .3 ∙ c .before .before .before .before .before .before .before .before .before .before .before .before .before .before .before .before .before .before .clear .kept .0)) (c .before .before .before .before .before .before .before .before .before .before .before .before .before .before .before .before .before .before .before .before .before .kinds-of-bytes .ensures) (v .4 .reached) (v .4 .hinted))
+    let at-check-line = c .before .before .before .before .before .before .before .before in
+    let at-loop = at-check-line .before .before .before .before .before .before .before in
+    let at-clear = at-loop .before .before .before in
+    let at-kinds-of-bytes = at-clear .before .before .before in
+    let start = at-kinds-of-bytes .before .before .before .before .before in
+    let a = start .args in
+    let k = at-check-line .check-line in
+    let v = at-loop .loop .inv in
+    λ work. going-stops (a .book .now) (a .budget) (a .limit) (stores (a .table .now) (a .terms .now) work) (v .4 work) (c .if2 .taken)
+    (k .ensures .means (fitting-as (start .pre) (v .3 ∙ at-clear .clear .kept .0)) (at-kinds-of-bytes .kinds-of-bytes .ensures) (v .4 work .reached) (v .4 work .hinted))
 
 loop-less : tie.Need-loop-less Inv-loop μ-loop
 loop-less c = omega (arith, c .before .before .before .before .before .before .before .before .check-line .ensures .onward (c .if2 .left))
 
 loop-again : tie.Need-loop-again Inv-loop μ-loop
 loop-again c =
-    let a = c .before .before .before .before .before .before .before .before .before .before .before .before .before .before .before .before .before .before .before .before .before .before .before .before .before .before .args in
-    let k = c .before .before .before .before .before .before .before .before .check-line in
-    let v = c .before .before .before .before .before .before .before .before .before .before .before .before .before .before .before .loop .inv in (
+    let at-check-line = c .before .before .before .before .before .before .before .before in
+    let at-loop = at-check-line .before .before .before .before .before .before .before in
+    let at-clear = at-loop .before .before .before in
+    let at-kinds-of-bytes = at-clear .before .before .before in
+    let start = at-kinds-of-bytes .before .before .before .before .before in
+    let a = start .args in
+    let k = at-check-line .check-line in
+    let v = at-loop .loop .inv in (
       c .if2 .left,
       k .kept .1 .1 .0 ∙ v .1,
       k .kept .1 .1 .1 .0 ∙ v .2,
       k .kept .1 .1 .1 .1 .0 ∙ v .3,
-      going-on (a .book .now) (a .limit) (a .budget) (a .table .now) (a .store .now) (v .4) (c .if2 .left) (k .ensures .means (fitting-as (c .before .before .before .before .before .before .before .before .before .before .before .before .before .before .before .before .before .before .before .before .before .before .before .before .before .before .pre) (v .3 ∙ c .before .before .before .before .before .before .before .before .before .before .before .before .before .before .before .before .before .before .clear .kept .0)) (c .before .before .before .before .before .before .before .before .before .before .before .before .before .before .before .before .before .before .before .before .before .kinds-of-bytes .ensures) (v .4 .reached) (v .4 .hinted)),
+      λ work. going-on (a .book .now) (a .budget) (a .limit) (stores (a .table .now) (a .terms .now) work) (v .4 work) (c .if2 .left)
+          (k .ensures .means (fitting-as (start .pre) (v .3 ∙ at-clear .clear .kept .0)) (at-kinds-of-bytes .kinds-of-bytes .ensures) (v .4 work .reached) (v .4 work .hinted)),
     )
 
 same-length-4 : tie.Need-same-length-4 Inv-loop μ-loop
@@ -78,9 +103,10 @@ same-length-6 c = c .before .before .loop .inv .3 ∙ c .before .before .before 
 
 returns-2 : tie.Need-returns-2 Inv-loop μ-loop
 returns-2 c =
-    let a = c .before .before .before .before .before .before .before .before .before .before .before .before .before .args in
+    let start = c .before .before .before .before .before .before .before .before .before .before .before .before .before in
+    let a = start .args in
     let v = c .before .before .loop .inv in
-    ends-as (v .0) (going-ends (a .book .now) (a .limit) (a .budget) (a .table .now) (a .store .now) (v .4) (c .if1 .left))
+    λ work. ends-as (v .0) (going-ends (a .book .now) (a .budget) (a .limit) (stores (a .table .now) (a .terms .now) work) (v .4 work) (c .if1 .left))
 
 pub check-lines-spec : {M : Type 1} → statement M
 check-lines-spec =

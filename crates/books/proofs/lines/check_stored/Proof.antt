@@ -4,6 +4,7 @@ use mathlib.Core.List.{[], _∷_}
 use Prim.Native.Nat.{_+_, _*_}
 use native.Mathlib.Omega.{arith}
 use lib.Seq.{length-take-le}
+use Rattle.aut68.specs.Sizes.{rowWidth}
 use Rattle.cells.specs.Results.{result-map}
 use Rattle.books.proofs.StoreLaws.{hints-stay, hints-stay-back, result-refused, row-with, category-starts, cells-stored, checked, put-back}
 use borrow.Author.Needs.{needs}
@@ -45,17 +46,33 @@ same-length-3 c = search needs
 
 returns : tie.Need-returns
 returns c =
-    let a = c .before .before .before .before .before .before .before .before .before .before .before .before .before .before .before .before .before .before .before .before .before .before .before .before .before .before .before .args in
-    let x = c .before .before .before .before .before .before .before .before .before .before .before .before .before .before .before .before .before .before .before .before .exchange in
-    let k = c .before .before .before .before .before .before .before .before .before .before .before .check-cells in
-    let m = c .before .before .before .before .before .before .before .before .before .before .before .before .before .before .before .sum in
-    let fits = c .before .before .before .before .before .before .before .before .before .before .before .before .before .before .before .before .before .before .before .before .before .before .before .before .before .before .before .pre in
-    let t = c .before .before .before .before .before .before .before .before .before .before .before .before .before .before .before .before .before .before .before .before .before .before .before .line-at .ensures in
+    let at-exchange2 = c .before .before .before .before in
+    let at-if1 = at-exchange2 .before .before .before in
+    let at-check-cells = at-if1 .before .before .before .before in
+    let at-sum = at-check-cells .before .before .before .before in
+    let at-exchange = at-sum .before .before .before .before .before in
+    let at-line-at = at-exchange .before .before .before in
+    let start = at-line-at .before .before .before .before in
+    let a = start .args in
+    let x = at-exchange .exchange in
+    let k = at-check-cells .check-cells in
+    let m = at-sum .sum in
+    let fits = start .pre in
+    let t = at-line-at .line-at .ensures in
     record {
       long = same-length-3 c;
-      below = hints-stay-back (a .limit) (c .before .before .before .before .before .before .before .before .before .before .before .before .before .before .before .before .before .before .before .before .before .before .before .line-at .result) (a .used) (a .l .size) t (a .store .now) (a .w .now) (x .ensures .1) (k .ensures) (x .last .0) (c .before .before .before .before .exchange2 .ensures .1);
-      means = λ s. result-refused (c .before .before .before .before .before .before .before .if1 .taken) (checked s fits t (x .last .0) (x .last .1 .1 .0) (k .last .1 .1 .1 .1 .0) (m .result) (a .budget) (k .result .code) (k .result .budget) (x .ensures .0) (x .ensures .1) (m .ensures) (k .ensures));
-      restored = λ s n. (refl, put-back s fits t (x .last .0) (x .last .1 .1 .0) (k .last .1 .1 .1 .1 .0) (m .result) (a .budget) (k .result .code) (k .result .budget) (x .ensures .0) (x .ensures .1) (k .ensures) (c .before .before .before .before .exchange2 .ensures .0));
+      below =
+          hints-stay-back (a .limit) (at-line-at .line-at .result) (a .used) (a .l .size) t (a .terms .now) (a .w .now) (x .ensures .1) (k .ensures) (x .last .0) (at-exchange2 .exchange2 .ensures .1);
+      means =
+          λ s. result-refused (at-if1 .if1 .taken)
+          (checked s fits t (x .last .0) (x .last .1 .1 .0) (k .last .1 .1 .1 .1 .0) (m .result) (a .budget) (k .result .code) (k .result .budget) (x .ensures .0) (x .ensures .1)
+          (m .ensures) (k .ensures));
+      restored =
+          λ s n. (
+            refl,
+            put-back s fits t (x .last .0) (x .last .1 .1 .0) (k .last .1 .1 .1 .1 .0) (m .result) (a .budget) (k .result .code) (k .result .budget) (x .ensures .0)
+                (x .ensures .1) (k .ensures) (at-exchange2 .exchange2 .ensures .0),
+          );
     }
 
 put-row-requires : tie.Need-put-row-requires
@@ -72,23 +89,33 @@ same-length-6 c = search needs
 
 returns-2 : tie.Need-returns-2
 returns-2 c =
-    let a = c .before .before .before .before .before .before .before .before .before .before .before .before .before .before .before .before .before .before .before .before .before .before .before .before .args in
-    let x = c .before .before .before .before .before .before .before .before .before .before .before .before .before .before .before .before .before .exchange in
-    let k = c .before .before .before .before .before .before .before .before .check-cells in
-    let m = c .before .before .before .before .before .before .before .before .before .before .before .before .sum in
-    let fits = c .before .before .before .before .before .before .before .before .before .before .before .before .before .before .before .before .before .before .before .before .before .before .before .before .pre in
-    let t = c .before .before .before .before .before .before .before .before .before .before .before .before .before .before .before .before .before .before .before .before .line-at .ensures in
+    let at-if1 = c .before .before .before .before in
+    let at-check-cells = at-if1 .before .before .before .before in
+    let at-sum = at-check-cells .before .before .before .before in
+    let at-exchange = at-sum .before .before .before .before .before in
+    let at-line-at = at-exchange .before .before .before in
+    let start = at-line-at .before .before .before .before in
+    let a = start .args in
+    let x = at-exchange .exchange in
+    let k = at-check-cells .check-cells in
+    let m = at-sum .sum in
+    let fits = start .pre in
+    let t = at-line-at .line-at .ensures in
     record {
       long = same-length-6 c;
-      below = hints-stay (a .limit) (c .before .before .before .before .before .before .before .before .before .before .before .before .before .before .before .before .before .before .before .before .line-at .result) (a .used) (a .l .size) t (a .store .now) (a .w .now) (x .ensures .1) (k .ensures);
+      below = hints-stay (a .limit) (at-line-at .line-at .result) (a .used) (a .l .size) t (a .terms .now) (a .w .now) (x .ensures .1) (k .ensures);
       means =
           λ s. result-map
           (λ u h. record {
-            tableIs = λ n b. row-with (a .table .now) (c .before .before .put-row .last .0) (8 * a .lines) 4294967296 (λ y. a .first ∷ a .l .len ∷ a .l .indicator ∷ a .l .context ∷ a .l .kind ∷ a .used ∷ y ∷ (a .used + a .l .size) ∷ []) (m .ensures (category-starts s fits t)) (c .before .before .put-row .ensures n) b;
+            tableIs =
+                λ n b. row-with (a .table .now) (c .before .before .put-row .last .0) (rowWidth * a .lines) 4294967296
+                (λ y. a .first ∷ a .l .len ∷ a .l .indicator ∷ a .l .context ∷ a .l .kind ∷ a .used ∷ y ∷ (a .used + a .l .size) ∷ []) (m .ensures (category-starts s fits t))
+                (c .before .before .put-row .ensures n) b;
             termsAre = cells-stored s fits t (x .last .0) (x .ensures .0);
           })
-          (checked s fits t (x .last .0) (x .last .1 .1 .0) (k .last .1 .1 .1 .1 .0) (m .result) (a .budget) (k .result .code) (k .result .budget) (x .ensures .0) (x .ensures .1) (m .ensures) (k .ensures));
-      restored = λ s n. absurd (n (c .before .before .before .before .if1 .left));
+          (checked s fits t (x .last .0) (x .last .1 .1 .0) (k .last .1 .1 .1 .1 .0) (m .result) (a .budget) (k .result .code) (k .result .budget) (x .ensures .0) (x .ensures .1)
+          (m .ensures) (k .ensures));
+      restored = λ s n. absurd (n (at-if1 .if1 .left));
     }
 
 pub check-stored-spec : {M : Type 1} → statement M

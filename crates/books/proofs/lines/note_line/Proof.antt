@@ -39,8 +39,10 @@ same-length c = search needs
 
 returns-3 : tie.Need-returns-3
 returns-3 c =
-    let a = c .before .before .before .before .before .before .before .before .before .before .args in
-    line-noted (a .lines) (a .limit) (a .w .now) (c .before .before .note .last .0) (omega arith) (c .before .before .before .before .identifier .ensures .contents) (c .before .before .note .ensures)
+    let at-identifier = c .before .before .before .before in
+    let start = at-identifier .before .before .before .before .before .before in
+    let a = start .args in
+    line-noted (a .lines) (a .limit) (a .w .now) (c .before .before .note .last .0) (omega arith) (at-identifier .identifier .ensures .contents) (c .before .before .note .ensures)
 
 pub note-line-spec : {M : Type 1} → statement M
 note-line-spec =

@@ -6,7 +6,7 @@ use Rattle.books.proofs.rows.has_room.Statement.{statement}
 use Rattle.books.proofs.rows.has_room.Tie as tie
 
 returns : tie.Need-returns
-returns c = let a = c .before .args in too-many-lines (a .table) (a .terms) (a .lines) (a .used) (a .size) (c .if1 .taken)
+returns c = let a = c .before .args in too-many-lines (a .table) (a .terms) (a .lines) (a .used) (a .size) (omega arith)
 
 add-if2 : tie.Need-add-if2
 add-if2 c = search needs

@@ -35,28 +35,45 @@ put-field-requires-8 c κs = search needs
 
 same-length : tie.Need-same-length
 same-length c =
+    let at-put-field7 = c .before .before .before .before .before .before in
+    let at-put-field6 = at-put-field7 .before .before .before .before in
+    let at-put-field5 = at-put-field6 .before .before .before .before in
+    let at-put-field4 = at-put-field5 .before .before .before .before .before in
+    let at-put-field3 = at-put-field4 .before .before .before .before in
+    let at-put-field2 = at-put-field3 .before .before .before .before in
+    let at-put-field = at-put-field2 .before .before .before .before in
     c .before .before .put-field8 .kept .0
-    ∙ c .before .before .before .before .before .before .put-field7 .kept .0
-    ∙ c .before .before .before .before .before .before .before .before .before .before .put-field6 .kept .0
-    ∙ c .before .before .before .before .before .before .before .before .before .before .before .before .before .before .put-field5 .kept .0
-    ∙ c .before .before .before .before .before .before .before .before .before .before .before .before .before .before .before .before .before .before .before .put-field4 .kept .0
-    ∙ c .before .before .before .before .before .before .before .before .before .before .before .before .before .before .before .before .before .before .before .before .before .before .before .put-field3 .kept .0
-    ∙ c .before .before .before .before .before .before .before .before .before .before .before .before .before .before .before .before .before .before .before .before .before .before .before .before .before .before .before .put-field2 .kept .0
-    ∙ c .before .before .before .before .before .before .before .before .before .before .before .before .before .before .before .before .before .before .before .before .before .before .before .before .before .before .before .before .before .before .before .put-field .kept .0
+    ∙ at-put-field7 .put-field7 .kept .0
+    ∙ at-put-field6 .put-field6 .kept .0
+    ∙ at-put-field5 .put-field5 .kept .0
+    ∙ at-put-field4 .put-field4 .kept .0
+    ∙ at-put-field3 .put-field3 .kept .0
+    ∙ at-put-field2 .put-field2 .kept .0
+    ∙ at-put-field .put-field .kept .0
 
 returns : tie.Need-returns
 unfolding Below
-returns c = λ h b.
-    let a = c .before .before .before .before .before .before .before .before .before .before .before .before .before .before .before .before .before .before .before .before .before .before .before .before .before .before .before .before .before .before .before .before .before .before .args in
+returns c =
+    let at-put-field7 = c .before .before .before .before .before .before in
+    let at-put-field6 = at-put-field7 .before .before .before .before in
+    let at-put-field5 = at-put-field6 .before .before .before .before in
+    let at-put-field4 = at-put-field5 .before .before .before .before .before in
+    let at-put-field3 = at-put-field4 .before .before .before .before in
+    let at-put-field2 = at-put-field3 .before .before .before .before in
+    let at-put-field = at-put-field2 .before .before .before .before in
+    let start = at-put-field .before .before .before in
+    λ h b.
+    let a = start .args in
     row-put (a .lines) (a .first) (a .l .len) (a .l .indicator) (a .l .context) (a .l .kind) (a .start) (a .category) (a .end) (a .table .now)
-    (c .before .before .before .before .before .before .before .before .before .before .before .before .before .before .before .before .before .before .before .before .before .before .before .before .before .before .before .before .before .before .before .put-field .last .0) (c .before .before .before .before .before .before .before .before .before .before .before .before .before .before .before .before .before .before .before .before .before .before .before .before .before .before .before .put-field2 .last .0) (c .before .before .before .before .before .before .before .before .before .before .before .before .before .before .before .before .before .before .before .before .before .before .before .put-field3 .last .0) (c .before .before .before .before .before .before .before .before .before .before .before .before .before .before .before .before .before .before .before .put-field4 .last .0) (c .before .before .before .before .before .before .before .before .before .before .before .before .before .before .put-field5 .last .0) (c .before .before .before .before .before .before .before .before .before .before .put-field6 .last .0) (c .before .before .before .before .before .before .put-field7 .last .0) (c .before .before .put-field8 .last .0)
-    (c .before .before .before .before .before .before .before .before .before .before .before .before .before .before .before .before .before .before .before .before .before .before .before .before .before .before .before .before .before .before .before .put-field .ensures h (b .0))
-    (c .before .before .before .before .before .before .before .before .before .before .before .before .before .before .before .before .before .before .before .before .before .before .before .before .before .before .before .put-field2 .ensures h (b .1 .0))
-    (c .before .before .before .before .before .before .before .before .before .before .before .before .before .before .before .before .before .before .before .before .before .before .before .put-field3 .ensures h (b .1 .1 .0))
-    (c .before .before .before .before .before .before .before .before .before .before .before .before .before .before .before .before .before .before .before .put-field4 .ensures h (b .1 .1 .1 .0))
-    (c .before .before .before .before .before .before .before .before .before .before .before .before .before .before .put-field5 .ensures h (b .1 .1 .1 .1 .0))
-    (c .before .before .before .before .before .before .before .before .before .before .put-field6 .ensures h (b .1 .1 .1 .1 .1 .0))
-    (c .before .before .before .before .before .before .put-field7 .ensures h (b .1 .1 .1 .1 .1 .1 .0))
+    (at-put-field .put-field .last .0) (at-put-field2 .put-field2 .last .0) (at-put-field3 .put-field3 .last .0) (at-put-field4 .put-field4 .last .0) (at-put-field5 .put-field5 .last .0)
+    (at-put-field6 .put-field6 .last .0) (at-put-field7 .put-field7 .last .0) (c .before .before .put-field8 .last .0)
+    (at-put-field .put-field .ensures h (b .0))
+    (at-put-field2 .put-field2 .ensures h (b .1 .0))
+    (at-put-field3 .put-field3 .ensures h (b .1 .1 .0))
+    (at-put-field4 .put-field4 .ensures h (b .1 .1 .1 .0))
+    (at-put-field5 .put-field5 .ensures h (b .1 .1 .1 .1 .0))
+    (at-put-field6 .put-field6 .ensures h (b .1 .1 .1 .1 .1 .0))
+    (at-put-field7 .put-field7 .ensures h (b .1 .1 .1 .1 .1 .1 .0))
     (c .before .before .put-field8 .ensures h (b .1 .1 .1 .1 .1 .1 .1 .0))
 
 pub put-row-spec : {M : Type 1} → statement M

@@ -105,10 +105,14 @@ returns c =
     )
 
 returns-2 : tie.Need-returns-2 Inv-loop μ-loop
-returns-2 c = (sym (copy-no-source _ _ _ _ _ (leb-false _ _ (sym (c .before .whole2 .ensures) ∙ c .if2 .left))), sym (copy-no-target _ _ _ _ _ (leb-false _ _ (sym (c .before .whole2 .ensures) ∙ c .if2 .left))))
+returns-2 c =
+    let l = leb-false _ _ (sym (c .before .whole2 .ensures) ∙ c .if2 .left) in
+    (sym (copy-no-source _ _ _ _ _ l), sym (copy-no-target _ _ _ _ _ l))
 
 returns-3 : tie.Need-returns-3 Inv-loop μ-loop
-returns-3 c = (sym (copy-no-target _ _ _ _ _ (leb-false _ _ (sym (c .before .whole .ensures) ∙ c .if1 .left))), sym (copy-no-source _ _ _ _ _ (leb-false _ _ (sym (c .before .whole .ensures) ∙ c .if1 .left))))
+returns-3 c =
+    let l = leb-false _ _ (sym (c .before .whole .ensures) ∙ c .if1 .left) in
+    (sym (copy-no-target _ _ _ _ _ l), sym (copy-no-source _ _ _ _ _ l))
 
 pub exchange-spec : {M : Type 1} → statement M
 exchange-spec =

@@ -21,7 +21,13 @@ whole-requires-2 : tie.Need-whole-requires-2 Inv-loop μ-loop
 whole-requires-2 c κs = tt
 
 loop-holds : tie.Need-loop-holds Inv-loop μ-loop
-loop-holds c = (omega arith, leb-true _ _ (sym (c .before .before .before .whole .ensures) ∙ c .before .before .if1 .taken), leb-true _ _ (sym (c .before .whole2 .ensures) ∙ c .if2 .taken), refl, sym (copied-none _ _ _ _))
+loop-holds c = (
+  omega arith,
+  leb-true _ _ (sym (c .before .before .before .whole .ensures) ∙ c .before .before .if1 .taken),
+  leb-true _ _ (sym (c .before .whole2 .ensures) ∙ c .if2 .taken),
+  refl,
+  sym (copied-none _ _ _ _),
+)
 
 add-w : tie.Need-add-w Inv-loop μ-loop
 add-w c = omega arith

@@ -21,7 +21,12 @@ whole-requires-2 : tie.Need-whole-requires-2 Inv-loop μ-loop
 whole-requires-2 c κs = tt
 
 loop-holds : tie.Need-loop-holds Inv-loop μ-loop
-loop-holds c = (omega arith, leb-true _ _ (sym (c .before .before .before .whole .ensures) ∙ c .before .before .if1 .taken), leb-true _ _ (sym (c .before .whole2 .ensures) ∙ c .if2 .taken), refl)
+loop-holds c = (
+  omega arith,
+  leb-true _ _ (sym (c .before .before .before .whole .ensures) ∙ c .before .before .if1 .taken),
+  leb-true _ _ (sym (c .before .whole2 .ensures) ∙ c .if2 .taken),
+  refl,
+)
 
 add-if3 : tie.Need-add-if3 Inv-loop μ-loop
 add-if3 c = omega arith
@@ -54,9 +59,10 @@ loop-less c = omega arith
 
 loop-again : tie.Need-loop-again Inv-loop μ-loop
 loop-again c =
-    let I = c .before .before .before .before .loop .inv in
-    let A = c .before .before .before .before .before .before .before .before .before .before .before .args in
-    (omega arith, I .1, I .2, equal-more (A .s .now) (A .from) (A .f .now) (A .at) (c .before .before .before .before .loop .i) (omega arith) (omega arith) (I .3) (c .if3 .left))
+    let l = c .before .before .before .before in
+    let I = l .loop .inv in
+    let A = l .before .before .before .before .before .before .before .args in
+    (omega arith, I .1, I .2, equal-more (A .s .now) (A .from) (A .f .now) (A .at) (l .loop .i) (omega arith) (omega arith) (I .3) (c .if3 .left))
 
 returns-2 : tie.Need-returns-2 Inv-loop μ-loop
 returns-2 c =

@@ -3,6 +3,7 @@ use Prim.Native.Nat.{ℕ, _+_, _*_, _-_}
 use native.Mathlib.Omega.{arith}
 use lib.ListN.{getD}
 use borrow.Author.Needs.{needs}
+use Rattle.aut68.specs.Sizes.{rowWidth}
 use Rattle.cells.specs.RowLaws.{row-cell-of-none, row-cell-is, row-cell-past}
 use Rattle.cells.proofs.rows.field.Statement.{statement}
 use Rattle.cells.proofs.rows.field.Tie as tie
@@ -34,14 +35,22 @@ mul-result c = search needs
 shared-slice-read-result : tie.Need-shared-slice-read-result
 shared-slice-read-result c = search needs
 
+-- the cell of the table that is read
+abbrev index : ℕ → ℕ → ℕ
+index v k = rowWidth * (v - 1) + k
+
 cast-result : tie.Need-cast-result
-cast-result c = omega (arith, c .shared-slice-known .given (8 * (c .before .before .before .before .args .v - 1) + c .before .before .before .before .args .k))
+cast-result c =
+    let A = c .before .before .before .before .args in
+    omega (arith, c .shared-slice-known .given (index (A .v) (A .k)))
 
 returns-4 : tie.Need-returns-4
-returns-4 c = (
-  ap (λ (i : ℕ). getD (c .before .before .before .before .args .table .now) i 0) {y = 8 * c .before .before .before .before .args .v + c .before .before .before .before .args .k - 8} (omega arith) ∙ sym (row-cell-is _ _ _ (c .before .before .before .if1 .left)),
-  omega (arith, c .shared-slice-known .given (8 * (c .before .before .before .before .args .v - 1) + c .before .before .before .before .args .k)),
-)
+returns-4 c =
+    let A = c .before .before .before .before .args in (
+      ap (λ (i : ℕ). getD (A .table .now) i 0) {y = rowWidth * A .v + A .k - rowWidth} (omega arith)
+          ∙ sym (row-cell-is _ _ _ (c .before .before .before .if1 .left)),
+      omega (arith, c .shared-slice-known .given (index (A .v) (A .k))),
+    )
 
 pub field-spec : {M : Type 1} → statement M
 field-spec =

@@ -2,13 +2,14 @@ use mathlib.Core.Path.{_≡_, refl}
 use Prim.Native.Nat.{ℕ, _+_, _≤_, _<_}
 use native.Mathlib.Omega.{arith}
 use borrow.Author.Needs.{needs}
+use Rattle.aut68.specs.Sizes.{nesting}
 use Rattle.cells.specs.declared.scope.Scope.{Scope}
 use Rattle.cells.specs.Posts.{Bindable, Bound}
 use Rattle.cells.proofs.scope.bind.Statement.{statement}
 use Rattle.cells.proofs.scope.bind.Tie as tie
 
 -- where there is no room there is no binding more
-no-room : {scope r : Scope} {start len : ℕ} → (scope .depth < 32 → r .depth ≡ scope .depth + 1) → (scope .depth ≤ 32 → r .depth ≤ 32)
+no-room : {scope r : Scope} {start len : ℕ} → (scope .depth < nesting → r .depth ≡ scope .depth + 1) → (scope .depth ≤ nesting → r .depth ≤ nesting)
     → (Bindable scope start len → ⊥) → Bound scope start len r
 no-room d s n = record { deeper = d; more = λ b. absurd (n b); startsAre = λ b. absurd (n b); lensAre = λ b. absurd (n b); shallow = s }
 

@@ -2,7 +2,7 @@ use Prim.Native.Nat.{_+_}
 use native.Mathlib.Omega.{arith}
 use borrow.Author.Needs.{needs}
 use mathlib.Core.Path.{refl}
-use Rattle.symbols.proofs.Laws.{part}
+use Rattle.symbols.proofs.SymbolLaws.{part}
 use Rattle.expressions.proofs.NamedLaws.{put-after-fault, put-no-room, put-meaning}
 use Rattle.expressions.proofs.parts.put_name.Statement.{statement}
 use Rattle.expressions.proofs.parts.put_name.Tie as tie
@@ -38,20 +38,13 @@ same-length : tie.Need-same-length
 same-length c = search needs
 
 returns-3 : tie.Need-returns-3
-returns-3 c = put-meaning (c .before .before .before .before .if1 .left) (record { is = refl }) (part _ (c .before .before .before .before .before .before .before .before .before .args .start) (c .before .before .before .before .before .before .before .before .before .args .start + c .before .before .before .before .before .before .before .before .before .args .len) (omega arith)) (c .before .before .before .before .before .before .before .before .before .pre) (c .meaning-of .ensures)
+returns-3 c =
+    let at-if1 = c .before .before .before .before in let entry = at-if1 .before .before .before .before .before in
+    put-meaning (at-if1 .if1 .left) (record { is = refl }) (part _ (entry .args .start) (entry .args .start + entry .args .len) (omega arith))
+    (entry .pre) (c .meaning-of .ensures)
 
 pub put-name-spec : {M : Type 1} → statement M
 put-name-spec =
     tie.close
-    (tie.spec
-    returns
-    returns-2
-    add-end
-    sub-meaning-of
-    part-meaning-of-start
-    part-meaning-of-end
-    meaning-of-requires
-    mul-w
-    slice-write-w
-    same-length
-    returns-3)
+    (tie.spec returns returns-2 add-end sub-meaning-of part-meaning-of-start part-meaning-of-end meaning-of-requires mul-w slice-write-w
+    same-length returns-3)

@@ -3,6 +3,7 @@ use mathlib.Core.Path.{refl}
 use Prim.Native.Nat.{_+_, _*_, _/_}
 use lib.ListN.{length}
 use borrow.Author.Needs.{needs}
+use Rattle.cells.specs.Layout.{contextUnit, readerUnits}
 use Rattle.names.proofs.NotedLaws.{in-no-context, number-too-large, number-noted, by-chain}
 use Rattle.names.proofs.contexts.in_context.Statement.{statement}
 use Rattle.names.proofs.contexts.in_context.Tie as tie
@@ -47,27 +48,18 @@ shared-slice-read-noted : tie.Need-shared-slice-read-noted
 shared-slice-read-noted c = search needs
 
 cast-noted : tie.Need-cast-noted
-cast-noted c = omega (arith, c .shared-slice-known3 .given (23 * (length (c .before .before .before .before .before .before .before .before .before .args .w .now) / 26) + c .before .before .before .before .before .field .result))
+cast-noted c =
+    let at-field = c .before .before .before .before .before in let entry = at-field .before .before .before .before in
+    omega (arith, c .shared-slice-known3 .given (contextUnit * (length (entry .args .w .now) / readerUnits) + at-field .field .result))
 
 returns-5 : tie.Need-returns-5
-returns-5 c = number-noted (c .before .before .before .before .before .before .if1 .left) (c .before .before .before .before .before .field .ensures .0) (c .before .before .before .before .field2 .ensures .0) (c .before .before .before .if2 .left) (omega arith) (omega arith) refl
+returns-5 c =
+    let at-field2 = c .before .before .before .before in let at-field = at-field2 .before in let at-if1 = at-field .before in
+    number-noted (at-if1 .if1 .left) (at-field .field .ensures .0) (at-field2 .field2 .ensures .0) (c .before .before .before .if2 .left)
+    (omega arith) (omega arith) refl
 
 pub in-context-spec : {M : Type 1} → statement M
 in-context-spec =
     tie.close
-    (tie.spec
-    returns
-    field-requires
-    field-requires-2
-    returns-2
-    add-if3
-    on-chain-requires
-    returns-3
-    on-chain-requires-2
-    returns-4
-    mul-at
-    add-at
-    mul-noted
-    shared-slice-read-noted
-    cast-noted
-    returns-5)
+    (tie.spec returns field-requires field-requires-2 returns-2 add-if3 on-chain-requires returns-3 on-chain-requires-2 returns-4 mul-at
+    add-at mul-noted shared-slice-read-noted cast-noted returns-5)

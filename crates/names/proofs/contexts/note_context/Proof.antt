@@ -34,7 +34,10 @@ same-length-2 : tie.Need-same-length-2 Inv-loop μ-loop
 same-length-2 c = c .before .before .before .before .before .loop .inv .kept .long
 
 returns-2 : tie.Need-returns-2 Inv-loop μ-loop
-returns-2 c = noted-enough (c .before .before .before .before .before .loop .inv) (omega arith) (c .before .before .before .field2 .ensures .0) (c .before .field3 .ensures .0) (c .before .before .before .before .before .before .field .ensures .0) (c .if2 .taken)
+returns-2 c =
+    let at-loop = c .before .before .before .before .before in let at-field = at-loop .before in
+    noted-enough (at-loop .loop .inv) (omega arith) (c .before .before .before .field2 .ensures .0) (c .before .field3 .ensures .0)
+    (at-field .field .ensures .0) (c .if2 .taken)
 
 put-variable-requires : tie.Need-put-variable-requires Inv-loop μ-loop
 put-variable-requires c κs = tt
@@ -43,7 +46,11 @@ loop-less : tie.Need-loop-less Inv-loop μ-loop
 loop-less c = omega arith
 
 loop-again : tie.Need-loop-again Inv-loop μ-loop
-loop-again c = noted-more (c .before .before .before .before .before .before .before .before .before .loop .inv) (omega arith) (c .before .before .before .before .before .before .before .field2 .ensures .0) (omega arith) (c .before .before .before .before .before .field3 .ensures .0) (c .before .before .put-variable .ensures)
+loop-again c =
+    let at-field3 = c .before .before .before .before .before in let at-field2 = at-field3 .before .before in
+    let at-loop = at-field2 .before .before in
+    noted-more (at-loop .loop .inv) (omega arith) (at-field2 .field2 .ensures .0) (omega arith) (at-field3 .field3 .ensures .0)
+    (c .before .before .put-variable .ensures)
 
 same-length-3 : tie.Need-same-length-3 Inv-loop μ-loop
 same-length-3 c = c .before .loop .inv .kept .long
@@ -54,20 +61,5 @@ returns-3 c = noted-all (c .before .loop .inv) (omega arith)
 pub note-context-spec : {M : Type 1} → statement M
 note-context-spec =
     tie.close
-    (tie.spec
-    Inv-loop
-    μ-loop
-    field-requires
-    loop-holds
-    field-requires-2
-    same-length
-    returns
-    field-requires-3
-    add-if2
-    same-length-2
-    returns-2
-    put-variable-requires
-    loop-less
-    loop-again
-    same-length-3
-    returns-3)
+    (tie.spec Inv-loop μ-loop field-requires loop-holds field-requires-2 same-length returns field-requires-3 add-if2 same-length-2
+    returns-2 put-variable-requires loop-less loop-again same-length-3 returns-3)

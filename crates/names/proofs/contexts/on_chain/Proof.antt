@@ -31,15 +31,4 @@ returns-3 : tie.Need-returns-3 Inv-loop μ-loop
 returns-3 c = chain-passed (c .before .before .loop .inv) (omega arith) (c .if2 .left)
 
 pub on-chain-spec : {M : Type 1} → statement M
-on-chain-spec =
-    tie.close
-    (tie.spec
-    Inv-loop
-    μ-loop
-    loop-holds
-    field-requires
-    returns
-    loop-less
-    loop-again
-    returns-2
-    returns-3)
+on-chain-spec = tie.close (tie.spec Inv-loop μ-loop loop-holds field-requires returns loop-less loop-again returns-2 returns-3)

@@ -14,8 +14,8 @@ abbrev μ-loop : tie.MeasureT-loop
 loop-holds : tie.Need-loop-holds Inv-loop μ-loop
 loop-holds c = hash-start
 
-chunk-at-requires : tie.Need-chunk-at-requires Inv-loop μ-loop
-chunk-at-requires c κs = omega arith
+four-at-requires : tie.Need-four-at-requires Inv-loop μ-loop
+four-at-requires c κs = omega arith
 
 add-h : tie.Need-add-h Inv-loop μ-loop
 add-h c = omega arith
@@ -27,7 +27,7 @@ sub-if1 : tie.Need-sub-if1 Inv-loop μ-loop
 sub-if1 c = omega arith
 
 returns : tie.Need-returns Inv-loop μ-loop
-returns c = let e = hash-last (c .before .before .before .loop .inv) (c .before .chunk-at .ensures .0) (omega arith) (omega arith) in (e, omega arith)
+returns c = let e = hash-last (c .before .before .before .loop .inv) (c .before .four-at .ensures .0) (omega arith) (omega arith) in (e, omega arith)
 
 add-i : tie.Need-add-i Inv-loop μ-loop
 add-i c = omega arith
@@ -36,7 +36,7 @@ loop-less : tie.Need-loop-less Inv-loop μ-loop
 loop-less c = omega arith
 
 loop-again : tie.Need-loop-again Inv-loop μ-loop
-loop-again c = hash-more (c .before .before .before .loop .inv) (c .before .chunk-at .ensures .0) (omega arith) (omega arith)
+loop-again c = hash-more (c .before .before .before .loop .inv) (c .before .four-at .ensures .0) (omega arith) (omega arith)
 
 returns-2 : tie.Need-returns-2 Inv-loop μ-loop
 returns-2 c = (hash-end (c .before .loop .inv) (omega arith), omega arith)
@@ -44,16 +44,4 @@ returns-2 c = (hash-end (c .before .loop .inv) (omega arith), omega arith)
 pub hash-spec : {M : Type 1} → statement M
 hash-spec =
     tie.close
-    (tie.spec
-    Inv-loop
-    μ-loop
-    loop-holds
-    chunk-at-requires
-    add-h
-    mul-h
-    sub-if1
-    returns
-    add-i
-    loop-less
-    loop-again
-    returns-2)
+    (tie.spec Inv-loop μ-loop loop-holds four-at-requires add-h mul-h sub-if1 returns add-i loop-less loop-again returns-2)

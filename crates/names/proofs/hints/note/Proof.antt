@@ -6,12 +6,13 @@ use lib.ListN.{length, length-set}
 use Rattle.names.proofs.ProbeLaws.{NoteSoFar, note-start, note-more, noted-here, noted-nowhere, not-noted}
 use Rattle.names.proofs.hints.note.Statement.{statement}
 use Rattle.names.proofs.hints.note.Tie as tie
+use Rattle.names.specs.Hints.{probes}
 
 abbrev Inv-loop : tie.InvT-loop
 Inv-loop w₀ word v first i₀ w i = NoteSoFar w₀ w word first i
 
 abbrev μ-loop : tie.MeasureT-loop
-μ-loop w₀ word v first i₀ w i = 32 - i
+μ-loop w₀ word v first i₀ w i = probes - i
 
 returns : tie.Need-returns Inv-loop μ-loop
 returns c = not-noted (c .if1 .taken)
@@ -70,24 +71,5 @@ returns-4 c = noted-nowhere (c .before .loop .inv) (λ j a b. omega arith)
 pub note-spec : {M : Type 1} → statement M
 note-spec =
     tie.close
-    (tie.spec
-    Inv-loop
-    μ-loop
-    returns
-    slot-of-requires
-    loop-holds
-    add-at
-    same-length
-    returns-2
-    mul-if3
-    slice-read-if3
-    cast-w
-    mul-w
-    slice-write-w
-    same-length-2
-    returns-3
-    add-i
-    loop-less
-    loop-again
-    same-length-3
-    returns-4)
+    (tie.spec Inv-loop μ-loop returns slot-of-requires loop-holds add-at same-length returns-2 mul-if3 slice-read-if3 cast-w mul-w
+    slice-write-w same-length-2 returns-3 add-i loop-less loop-again same-length-3 returns-4)

@@ -12,10 +12,15 @@ slots-requires : tie.Need-slots-requires
 slots-requires c κs = search needs
 
 mul-result : tie.Need-mul-result
-mul-result c = omega (arith, product-below (c .before .before .before .args .word .now) (c .before .before .before .args .n) (c .before .hash .ensures .0) (c .slots .ensures))
+mul-result c =
+    let a = c .before .before .before .args in
+    omega (arith, product-below (a .word .now) (a .n) (c .before .hash .ensures .0) (c .slots .ensures))
 
 returns : tie.Need-returns
-returns c = let e = slot-is (c .before .before .before .args .word .now) (c .before .before .before .args .n) (c .before .hash .ensures .0) (c .slots .ensures) in (e, omega (arith, slot-below (c .before .before .before .args .n) (c .before .before .before .args .word .now), slots-most (c .before .before .before .args .n)))
+returns c =
+    let a = c .before .before .before .args in
+    let e = slot-is (a .word .now) (a .n) (c .before .hash .ensures .0) (c .slots .ensures) in
+    (e, omega (arith, slot-below (a .n) (a .word .now), slots-most (a .n)))
 
 pub slot-of-spec : {M : Type 1} → statement M
 slot-of-spec = tie.close (tie.spec hash-requires slots-requires mul-result returns)

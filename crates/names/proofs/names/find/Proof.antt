@@ -3,12 +3,13 @@ use Prim.Native.Nat.{_+_, _-_}
 use Rattle.names.proofs.ProbeLaws.{Passed, OtherName, passed-start, passed-more, found-by-rows, found-by-hint, found-nothing}
 use Rattle.names.proofs.names.find.Statement.{statement}
 use Rattle.names.proofs.names.find.Tie as tie
+use Rattle.names.specs.Hints.{probes}
 
 abbrev Inv-loop : tie.InvT-loop
 Inv-loop book table lines w word first i₀ i = Passed (OtherName book table lines word) w word first i
 
 abbrev μ-loop : tie.MeasureT-loop
-μ-loop book table lines w word first i₀ i = 32 - i
+μ-loop book table lines w word first i₀ i = probes - i
 
 slot-of-requires : tie.Need-slot-of-requires Inv-loop μ-loop
 slot-of-requires c κs = tt
@@ -61,22 +62,5 @@ returns-4 c = found-by-rows (c .search2 .ensures)
 pub find-spec : {M : Type 1} → statement M
 find-spec =
     tie.close
-    (tie.spec
-    Inv-loop
-    μ-loop
-    slot-of-requires
-    loop-holds
-    add-at
-    search-requires
-    returns
-    mul-v
-    shared-slice-read-v
-    cast-v
-    returns-2
-    line-is-requires
-    returns-3
-    add-i
-    loop-less
-    loop-again
-    search-requires-2
-    returns-4)
+    (tie.spec Inv-loop μ-loop slot-of-requires loop-holds add-at search-requires returns mul-v shared-slice-read-v cast-v returns-2
+    line-is-requires returns-3 add-i loop-less loop-again search-requires-2 returns-4)

@@ -38,14 +38,5 @@ returns-4 c = λ p. c .same-bytes .ensures ∙ part-compared _ _ _ _ (omega arit
 pub part-is-spec : {M : Type 1} → statement M
 part-is-spec =
     tie.close
-    (tie.spec
-    returns
-    returns-2
-    sub-if3
-    returns-3
-    add-end
-    sub-same-bytes
-    part-same-bytes-start
-    part-same-bytes-end
-    same-bytes-requires
+    (tie.spec returns returns-2 sub-if3 returns-3 add-end sub-same-bytes part-same-bytes-start part-same-bytes-end same-bytes-requires
     returns-4)

@@ -1,6 +1,7 @@
 use native.Mathlib.Omega.{arith}
 use mathlib.Core.Path.{refl, sym, _∙_}
 use Prim.Native.Nat.{_+_, _-_}
+use Rattle.aut68.specs.Sizes.{atNameStart, atNameLength}
 use Rattle.names.proofs.FindLaws.{FindSoFar, find-start, find-short, find-here, find-more, find-nothing}
 use Rattle.names.proofs.names.search.Statement.{statement}
 use Rattle.names.proofs.names.search.Tie as tie
@@ -20,6 +21,9 @@ sub-if1 c = omega arith
 returns : tie.Need-returns Inv-loop μ-loop
 returns c = find-short (c .before .before .loop .inv) (omega arith) (omega arith)
 
+add-first : tie.Need-add-first Inv-loop μ-loop
+add-first c = omega arith
+
 mul-first : tie.Need-mul-first Inv-loop μ-loop
 mul-first c = omega arith
 
@@ -27,7 +31,7 @@ shared-slice-read-first : tie.Need-shared-slice-read-first Inv-loop μ-loop
 shared-slice-read-first c = omega arith
 
 cast-first : tie.Need-cast-first Inv-loop μ-loop
-cast-first c = omega (arith, c .shared-slice-known4 .given (c .before .before .before .loop .at))
+cast-first c = omega (arith, c .shared-slice-known4 .given (c .before .before .before .loop .at + atNameStart))
 
 add-n : tie.Need-add-n Inv-loop μ-loop
 add-n c = omega arith
@@ -39,7 +43,7 @@ shared-slice-read-n : tie.Need-shared-slice-read-n Inv-loop μ-loop
 shared-slice-read-n c = omega arith
 
 cast-n : tie.Need-cast-n Inv-loop μ-loop
-cast-n c = omega (arith, c .shared-slice-known5 .given (c .before .before .before .before .loop .at + 1))
+cast-n c = omega (arith, c .shared-slice-known5 .given (c .before .before .before .before .loop .at + atNameLength))
 
 part-is-requires : tie.Need-part-is-requires Inv-loop μ-loop
 part-is-requires c κs = tt
@@ -68,24 +72,5 @@ returns-3 c = find-nothing (c .before .loop .inv) (omega arith)
 pub search-spec : {M : Type 1} → statement M
 search-spec =
     tie.close
-    (tie.spec
-    Inv-loop
-    μ-loop
-    loop-holds
-    sub-if1
-    returns
-    mul-first
-    shared-slice-read-first
-    cast-first
-    add-n
-    mul-n
-    shared-slice-read-n
-    cast-n
-    part-is-requires
-    add-result
-    returns-2
-    add-v
-    add-at
-    loop-less
-    loop-again
-    returns-3)
+    (tie.spec Inv-loop μ-loop loop-holds sub-if1 returns add-first mul-first shared-slice-read-first cast-first add-n mul-n
+    shared-slice-read-n cast-n part-is-requires add-result returns-2 add-v add-at loop-less loop-again returns-3)

@@ -23,16 +23,25 @@ same-length-2 : tie.Need-same-length-2
 same-length-2 c = search needs
 
 returns-2 : tie.Need-returns-2
-returns-2 c = body-no-colon (c .before .before .before .before .before .before .before .middle .ensures) (c .before .before .before .if1 .left) (c .before .before .symbol .ensures) (c .before .if2 .taken) (c .refused .ensures)
+returns-2 c =
+    let at-middle = c .before .before .before .before .before .before .before in
+    body-no-colon (at-middle .middle .ensures) (c .before .before .before .if1 .left) (c .before .before .symbol .ensures) (c .before .if2 .taken)
+    (c .refused .ensures)
 
 category-requires : tie.Need-category-requires
-category-requires c κs = omega (arith, c .before .if2, c .before .before .symbol .ensures .from (c .before .before .before .before .before .before .before .middle .ensures .inside), c .before .before .before .before .before .before .before .middle .ensures .fewer)
+category-requires c κs =
+    let at-middle = c .before .before .before .before .before .before .before in
+    omega (arith, c .before .if2, c .before .before .symbol .ensures .from (at-middle .middle .ensures .inside), at-middle .middle .ensures .fewer)
 
 same-length-3 : tie.Need-same-length-3
 same-length-3 c = search needs
 
 returns-3 : tie.Need-returns-3
-returns-3 c = body-category-refused (c .before .before .before .before .before .before .before .before .before .before .before .before .middle .ensures) (c .before .before .before .before .before .before .before .before .if1 .left) (c .before .before .before .before .before .before .before .symbol .ensures) (c .before .before .before .before .before .before .if2 .left) (c .before .before .before .before .category .ensures) (c .if3 .taken)
+returns-3 c =
+    let at-category = c .before .before .before .before in let at-if2 = at-category .before .before in let at-symbol = at-if2 .before in
+    let at-if1 = at-symbol .before in let at-middle = at-if1 .before .before .before .before in
+    body-category-refused (at-middle .middle .ensures) (at-if1 .if1 .left) (at-symbol .symbol .ensures) (at-if2 .if2 .left)
+    (at-category .category .ensures) (c .if3 .taken)
 
 symbol-requires-2 : tie.Need-symbol-requires-2
 symbol-requires-2 c κs = search needs
@@ -44,31 +53,24 @@ same-length-4 : tie.Need-same-length-4
 same-length-4 c = search needs
 
 returns-4 : tie.Need-returns-4
-returns-4 c = body-not-ended (c .before .before .before .before .before .before .before .before .before .before .before .before .before .before .before .middle .ensures) (c .before .before .before .before .before .before .before .before .before .before .before .if1 .left) (c .before .before .before .before .before .before .before .before .before .before .symbol .ensures) (c .before .before .before .before .before .before .before .before .before .if2 .left) (c .before .before .before .before .before .before .before .category .ensures) (c .before .before .before .if3 .left) (c .before .before .symbol2 .ensures) (c .before .if4 .taken) (c .refused2 .ensures)
+returns-4 c =
+    let at-category = c .before .before .before .before .before .before .before in let at-if2 = at-category .before .before in
+    let at-symbol = at-if2 .before in let at-if1 = at-symbol .before in let at-middle = at-if1 .before .before .before .before in
+    body-not-ended (at-middle .middle .ensures) (at-if1 .if1 .left) (at-symbol .symbol .ensures) (at-if2 .if2 .left) (at-category .category .ensures)
+    (c .before .before .before .if3 .left) (c .before .before .symbol2 .ensures) (c .before .if4 .taken) (c .refused2 .ensures)
 
 same-length-5 : tie.Need-same-length-5
 same-length-5 c = search needs
 
 returns-5 : tie.Need-returns-5
-returns-5 c = body-read (c .before .before .before .before .before .before .before .before .before .before .before .before .before .before .middle .ensures) (c .before .before .before .before .before .before .before .before .before .before .if1 .left) (c .before .before .before .before .before .before .before .before .before .symbol .ensures) (c .before .before .before .before .before .before .before .before .if2 .left) (c .before .before .before .before .before .before .category .ensures) (c .before .before .if3 .left) (c .before .symbol2 .ensures) (c .if4 .left)
+returns-5 c =
+    let at-category = c .before .before .before .before .before .before in let at-if2 = at-category .before .before in
+    let at-symbol = at-if2 .before in let at-if1 = at-symbol .before in let at-middle = at-if1 .before .before .before .before in
+    body-read (at-middle .middle .ensures) (at-if1 .if1 .left) (at-symbol .symbol .ensures) (at-if2 .if2 .left) (at-category .category .ensures)
+    (c .before .before .if3 .left) (c .before .symbol2 .ensures) (c .if4 .left)
 
 pub body-spec : {M : Type 1} → statement M
 body-spec =
     tie.close
-    (tie.spec
-    middle-requires
-    same-length
-    returns
-    symbol-requires
-    refused-requires
-    same-length-2
-    returns-2
-    category-requires
-    same-length-3
-    returns-3
-    symbol-requires-2
-    refused-requires-2
-    same-length-4
-    returns-4
-    same-length-5
-    returns-5)
+    (tie.spec middle-requires same-length returns symbol-requires refused-requires same-length-2 returns-2 category-requires same-length-3
+    returns-3 symbol-requires-2 refused-requires-2 same-length-4 returns-4 same-length-5 returns-5)

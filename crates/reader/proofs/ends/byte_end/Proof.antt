@@ -38,14 +38,4 @@ returns-2 c = book-ends-here (c .before .loop .inv) (omega arith)
 pub byte-end-spec : {M : Type 1} → statement M
 byte-end-spec =
     tie.close
-    (tie.spec
-    Inv-loop
-    μ-loop
-    loop-holds
-    shared-slice-read-if1
-    add-result
-    returns
-    add-i
-    loop-less
-    loop-again
-    returns-2)
+    (tie.spec Inv-loop μ-loop loop-holds shared-slice-read-if1 add-result returns add-i loop-less loop-again returns-2)

@@ -4,15 +4,15 @@ use mathlib.Core.Logic.{⊎-elim}
 use Prim.Native.Nat.{ℕ, _-_, _≤_}
 use native.Mathlib.Omega.{arith}
 use borrow.Author.Count.{below-none, below-more}
-use Rattle.reader.specs.Posts.{NoEnd}
+use Rattle.reader.specs.Posts.{NoEnd, stride}
 use Rattle.reader.proofs.ends.has_end.Statement.{statement}
 use Rattle.reader.proofs.ends.has_end.Tie as tie
 
 abbrev Inv-loop : tie.InvT-loop
-Inv-loop part found₀ j₀ found j = (j ≤ 32) × (found ≡ false → NoEnd part j)
+Inv-loop part found₀ j₀ found j = (j ≤ stride) × (found ≡ false → NoEnd part j)
 
 abbrev μ-loop : tie.MeasureT-loop
-μ-loop part found₀ j₀ found j = 32 - j
+μ-loop part found₀ j₀ found j = stride - j
 
 loop-holds : tie.Need-loop-holds Inv-loop μ-loop
 loop-holds c = (omega arith, λ e. below-none _)
@@ -27,7 +27,14 @@ loop-less : tie.Need-loop-less Inv-loop μ-loop
 loop-less c = omega arith
 
 loop-again : tie.Need-loop-again Inv-loop μ-loop
-loop-again c = (omega arith, λ e. ⊎-elim (λ w. let z : _≡_ {A = ℕ} 0 1 = cc in absurd (omega arith)) (λ w. below-more _ _ (c .before .before .before .loop .inv .1 (sym (w .1) ∙ e)) (w .0 .left)) (c .if1 .came))
+loop-again c = (
+  omega arith,
+  λ e.
+      ⊎-elim
+      (λ w. let z : _≡_ {A = ℕ} 0 1 = cc in absurd (omega arith))
+      (λ w. below-more _ _ (c .before .before .before .loop .inv .1 (sym (w .1) ∙ e)) (w .0 .left))
+      (c .if1 .came),
+)
 
 returns : tie.Need-returns Inv-loop μ-loop
 returns c e j l = c .before .loop .inv .1 e j (omega arith)

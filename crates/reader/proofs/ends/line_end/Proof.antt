@@ -57,20 +57,5 @@ returns-3 c = book-ends-here (c .before .loop .inv) (omega arith)
 pub line-end-spec : {M : Type 1} → statement M
 line-end-spec =
     tie.close
-    (tie.spec
-    Inv-loop
-    μ-loop
-    loop-holds
-    sub-if1
-    byte-end-requires
-    returns
-    add-next
-    sub-has-end
-    part-has-end-start
-    part-has-end-end
-    has-end-requires
-    byte-end-requires-2
-    returns-2
-    loop-less
-    loop-again
-    returns-3)
+    (tie.spec Inv-loop μ-loop loop-holds sub-if1 byte-end-requires returns add-next sub-has-end part-has-end-start part-has-end-end
+    has-end-requires byte-end-requires-2 returns-2 loop-less loop-again returns-3)

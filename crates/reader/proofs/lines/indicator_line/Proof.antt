@@ -29,22 +29,18 @@ field-requires : tie.Need-field-requires
 field-requires c κs = omega arith
 
 returns-3 : tie.Need-returns-3
-returns-3 c = indicator-no-variable _ _ _ (c .before .before .before .before .before .if1 .left) (c .before .before .before .before .before .before .before .before .before .before .pre) (c .before .before .before .find .ensures) (c .before .before .if2 .left) (c .before .field .ensures .0) (c .if3 .taken)
+returns-3 c =
+    let at-if1 = c .before .before .before .before .before in let entry = at-if1 .before .before .before .before .before in
+    indicator-no-variable _ _ _ (at-if1 .if1 .left) (entry .pre) (c .before .before .before .find .ensures) (c .before .before .if2 .left)
+    (c .before .field .ensures .0) (c .if3 .taken)
 
 returns-4 : tie.Need-returns-4
-returns-4 c = indicator-found _ _ _ (c .before .before .before .before .before .if1 .left) (c .before .before .before .before .before .before .before .before .before .before .pre) (c .before .before .before .find .ensures) (c .before .before .if2 .left) (c .before .field .ensures .0) (c .if3 .left)
+returns-4 c =
+    let at-if1 = c .before .before .before .before .before in let entry = at-if1 .before .before .before .before .before in
+    indicator-found _ _ _ (at-if1 .if1 .left) (entry .pre) (c .before .before .before .find .ensures) (c .before .before .if2 .left)
+    (c .before .field .ensures .0) (c .if3 .left)
 
 pub indicator-line-spec : {M : Type 1} → statement M
 indicator-line-spec =
     tie.close
-    (tie.spec
-    returns
-    add-end
-    sub-find
-    part-find-start
-    part-find-end
-    find-requires
-    returns-2
-    field-requires
-    returns-3
-    returns-4)
+    (tie.spec returns add-end sub-find part-find-start part-find-end find-requires returns-2 field-requires returns-3 returns-4)

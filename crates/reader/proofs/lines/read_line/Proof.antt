@@ -33,12 +33,5 @@ returns-2 c = line-in-front (omega arith) (c .before .before .read-into .ensures
 pub read-line-spec : {M : Type 1} → statement M
 read-line-spec =
     tie.close
-    (tie.spec
-    bad-line-requires
-    returns
-    mul-n
-    slice-relend-prefix-read-into
-    slice-aggregate-read-into
-    read-into-requires
-    same-length
+    (tie.spec bad-line-requires returns mul-n slice-relend-prefix-read-into slice-aggregate-read-into read-into-requires same-length
     returns-2)

@@ -1,3 +1,4 @@
+-- `arguments_at`: each argument starts where the one before it ends.
 use Prim.Native.Nat.{_-_}
 use native.Mathlib.Omega.{arith}
 use Rattle.reduction.proofs.ArgumentLaws.{Listed, listed-none, listed-more, listed-wrong, listed-all, listed-full}
@@ -17,32 +18,15 @@ loop-holds c = listed-none
 returns : tie.Need-returns Inv-loop μ-loop
 returns c = listed-all (c .before .before .loop .inv) (c .if1 .taken)
 
-skip-requires : tie.Need-skip-requires Inv-loop μ-loop
-skip-requires c κs = tt
-
 returns-2 : tie.Need-returns-2 Inv-loop μ-loop
 returns-2 c = listed-wrong (c .before .before .before .before .loop .inv) (c .before .skip .ensures) (c .before .before .if1 .left) (λ l. absurd (omega arith))
 
 returns-3 : tie.Need-returns-3 Inv-loop μ-loop
 returns-3 c = listed-wrong (c .before .before .before .before .before .loop .inv) (c .before .before .skip .ensures) (c .before .before .before .if1 .left) (λ l. omega arith)
 
-add-i : tie.Need-add-i Inv-loop μ-loop
-add-i c = omega arith
-
-cast-starts : tie.Need-cast-starts Inv-loop μ-loop
-cast-starts c = omega arith
-
-mul-starts : tie.Need-mul-starts Inv-loop μ-loop
-mul-starts c = omega arith
-
-element-write-starts : tie.Need-element-write-starts Inv-loop μ-loop
-element-write-starts c = search needs
-
-loop-less : tie.Need-loop-less Inv-loop μ-loop
-loop-less c = omega arith
-
 loop-again : tie.Need-loop-again Inv-loop μ-loop
-loop-again c = listed-more (c .before .before .before .before .before .loop .inv) (c .before .before .skip .ensures) (c .before .before .before .before .loop-test .taken) (c .before .before .before .if1 .left)
+loop-again c =
+    listed-more (c .before .before .before .before .before .loop .inv) (c .before .before .skip .ensures) (c .before .before .before .before .loop-test .taken) (c .before .before .before .if1 .left)
 
 returns-4 : tie.Need-returns-4 Inv-loop μ-loop
 returns-4 c = listed-full (c .before .loop .inv) (c .loop-test .left)
@@ -50,18 +34,6 @@ returns-4 c = listed-full (c .before .loop .inv) (c .loop-test .left)
 pub arguments-at-spec : {M : Type 1} → statement M
 arguments-at-spec =
     tie.close
-    (tie.spec
-    Inv-loop
-    μ-loop
-    loop-holds
-    returns
-    skip-requires
-    returns-2
-    returns-3
-    add-i
-    cast-starts
-    mul-starts
-    element-write-starts
-    loop-less
-    loop-again
+    (tie.spec Inv-loop μ-loop loop-holds returns (λ c κs. tt) returns-2 returns-3 (λ c. omega arith) (λ c. omega arith) (λ c. omega arith)
+    (λ c. search needs) (λ c. omega arith) loop-again
     returns-4)

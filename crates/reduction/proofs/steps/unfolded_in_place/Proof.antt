@@ -1,14 +1,9 @@
+-- `unfolded_in_place`: the middle is copied over the constant. cN is c, N steps before.
 use native.Mathlib.Omega.{arith}
 use Rattle.reduction.proofs.PutLaws.{in-place-none, in-place-law}
 use borrow.Author.Needs.{needs}
 use Rattle.reduction.proofs.steps.unfolded_in_place.Statement.{statement}
 use Rattle.reduction.proofs.steps.unfolded_in_place.Tie as tie
-
-field-requires : tie.Need-field-requires
-field-requires c κs = search needs
-
-field-requires-2 : tie.Need-field-requires-2
-field-requires-2 c κs = search needs
 
 returns : tie.Need-returns
 returns c = in-place-none (c .before .before .field .ensures .0) (c .before .field2 .ensures .0) (λ l. absurd (omega arith))
@@ -16,23 +11,13 @@ returns c = in-place-none (c .before .before .field .ensures .0) (c .before .fie
 returns-2 : tie.Need-returns-2
 returns-2 c = in-place-none (c .before .before .before .field .ensures .0) (c .before .before .field2 .ensures .0) (λ l. omega arith)
 
-load-requires : tie.Need-load-requires
-load-requires c κs = search needs
-
-same-length : tie.Need-same-length
-same-length c = search needs
-
 returns-3 : tie.Need-returns-3
-returns-3 c = in-place-law (c .before .before .before .before .before .before .before .field .ensures .0) (c .before .before .before .before .before .before .field2 .ensures .0) (c .before .before .before .before .before .if1 .left) (c .before .before .before .before .if2 .left) (c .before .before .load .ensures)
+returns-3 c =
+    let c4 = c .before .before .before .before in
+    let c7 = c4 .before .before .before in
+    in-place-law (c7 .field .ensures .0) (c4 .before .before .field2 .ensures .0) (c4 .before .if1 .left) (c4 .if2 .left) (c .before .before .load .ensures)
 
 pub unfolded-in-place-spec : {M : Type 1} → statement M
 unfolded-in-place-spec =
     tie.close
-    (tie.spec
-    field-requires
-    field-requires-2
-    returns
-    returns-2
-    load-requires
-    same-length
-    returns-3)
+    (tie.spec (λ c κs. search needs) (λ c κs. search needs) returns returns-2 (λ c κs. search needs) (λ c. search needs) returns-3)

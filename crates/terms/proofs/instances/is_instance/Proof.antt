@@ -23,7 +23,7 @@ returns-3 : tie.Need-returns-3 Inv-loop μ-loop
 returns-3 c = instance-no
 
 loop-holds : tie.Need-loop-holds Inv-loop μ-loop
-loop-holds c = passed-none (c .before .if2 .left)
+loop-holds c = passed-none (c .before .if2 .left) (omega arith)
 
 mul-x : tie.Need-mul-x Inv-loop μ-loop
 mul-x c = omega arith
@@ -59,7 +59,10 @@ loop-less : tie.Need-loop-less Inv-loop μ-loop
 loop-less c = omega arith
 
 loop-again : tie.Need-loop-again Inv-loop μ-loop
-loop-again c = passed-itself (c .before .before .before .before .before .before .before .before .before .loop .inv) (c .before .before .before .before .before .before .before .before .loop-test .taken) refl (c .before .before .before .before .before .run-for .ensures) (c .before .before .before .before .before .before .if4 .left) (c .before .before .before .if5 .taken) (c .before .before .if6 .left) (c .if7 .left)
+loop-again c =
+    let r = c .before .before .before .before .before in
+    passed-itself (r .before .before .before .before .loop .inv) (r .before .before .before .loop-test .taken) refl (r .run-for .ensures) (r .before .if4 .left)
+    (c .before .before .before .if5 .taken) (c .before .before .if6 .left) (c .if7 .left)
 
 add-same-run : tie.Need-add-same-run Inv-loop μ-loop
 add-same-run c = omega (arith, c .before .before .before .run-for .ensures .short, c .before .before .before .before .before .before .before .before .before .before .if1 .left)
@@ -80,7 +83,10 @@ loop-less-2 : tie.Need-loop-less-2 Inv-loop μ-loop
 loop-less-2 c = omega arith
 
 loop-again-2 : tie.Need-loop-again-2 Inv-loop μ-loop
-loop-again-2 c = passed-argument (c .before .before .before .before .before .before .before .before .before .before .loop .inv) (c .before .before .before .before .before .before .before .before .before .loop-test .taken) refl (c .before .before .before .before .before .before .run-for .ensures) (c .before .before .before .before .if5 .left) (omega arith) (sym (c .before .before .same-run .ensures) ∙ not-false _ (c .before .if8 .left))
+loop-again-2 c =
+    let r = c .before .before .before .before .before .before in
+    passed-argument (r .before .before .before .before .loop .inv) (r .before .before .before .loop-test .taken) refl (r .run-for .ensures) (c .before .before .before .before .if5 .left)
+    (sym (c .before .before .same-run .ensures) ∙ not-false _ (c .before .if8 .left))
 
 sub-result : tie.Need-sub-result Inv-loop μ-loop
 sub-result c = omega (arith, c .before .loop .inv .ahead)

@@ -1,5 +1,5 @@
 use native.Mathlib.Omega.{arith}
-use Rattle.terms.proofs.Arguments.{run-other, run-itself, run-unknown, run-argument}
+use Rattle.terms.proofs.ArgumentLaws.{run-other, run-itself, run-unknown, run-argument}
 use borrow.Author.Needs.{needs}
 use Rattle.terms.proofs.instances.run_for.Statement.{statement}
 use Rattle.terms.proofs.instances.run_for.Tie as tie
@@ -42,7 +42,9 @@ sub-t10 c = search needs
 
 returns-5 : tie.Need-returns-5
 returns-5 c =
-    run-argument _ _ _ _ _ (c .before .before .before .before .before .before .if1 .left) (c .before .before .before .before .before .field .ensures .0) (c .before .before .before .before .if2 .left) (c .before .before .before .if3 .left) (c .before .before .start-at .ensures) (c .before .start-at2 .ensures) (omega (arith, c .before .before .start-at .ok)) (c .if4 .left)
+    let i = c .before .before .before .before .before in
+    run-argument _ _ _ _ _ (i .before .if1 .left) (i .field .ensures .0) (c .before .before .before .before .if2 .left) (c .before .before .before .if3 .left)
+    (c .before .before .start-at .ensures) (c .before .start-at2 .ensures) (omega (arith, c .before .before .start-at .ok)) (c .if4 .left)
 
 pub run-for-spec : {M : Type 1} → statement M
 run-for-spec =

@@ -1,0 +1,27 @@
+//! The published sizes.
+
+/// A cell of the term store and of the working store; line numbers and lengths of contexts fit in it.
+pub type Cell = u16;
+
+/// A cell is CELL_FACTOR × value + kind.
+pub const CELL_FACTOR: Cell = 8;
+
+pub const SMALLEST_LIMIT: u32 = 16;
+pub const LARGEST_LIMIT: u32 = 4_096;
+
+/// Working cells for each cell of the limit.
+pub const WORK_UNITS: usize = 128;
+
+/// Table cells for each line.
+pub const ROW_WIDTH: usize = 8;
+
+pub const MOST_LINES: usize = 8_191;
+pub const MOST_BYTES: usize = 16_777_215;
+
+/// How deep expressions may be nested and comparisons may go.
+pub const NESTING: usize = 32;
+
+pub const LONGEST_NAME: usize = 32;
+
+/// How many codes there are, that of acceptance among them.
+pub const CODES: usize = 13;

@@ -1,0 +1,19 @@
+-- The refusal that each reason of the code stands for.
+use Rattle.aut68.specs.Procedure.Answer.{Refusal, workTooSmall, limitOutOfRange, malformed, duplicate, unknownName, wrongArity, notFunction, notType, mismatch, tooLarge, outOfBudget, outOfSpace}
+use Rattle.constants.specs.declared.codes.Reason.{Reason}
+use Rattle.constants.specs.declared.codes.Reason.the-variants.{WorkTooSmall, LimitOutOfRange, Malformed, Duplicate, UnknownName, WrongArity}
+use Rattle.constants.specs.declared.codes.Reason.the-variants.{NotFunction, NotType, Mismatch, TooLarge, OutOfBudget, OutOfSpace}
+
+abbrev pub refusalOf : Reason → Refusal
+refusalOf WorkTooSmall = workTooSmall
+refusalOf LimitOutOfRange = limitOutOfRange
+refusalOf Malformed = malformed
+refusalOf Duplicate = duplicate
+refusalOf UnknownName = unknownName
+refusalOf WrongArity = wrongArity
+refusalOf NotFunction = notFunction
+refusalOf NotType = notType
+refusalOf Mismatch = mismatch
+refusalOf TooLarge = tooLarge
+refusalOf OutOfBudget = outOfBudget
+refusalOf OutOfSpace = outOfSpace

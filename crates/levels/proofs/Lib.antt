@@ -1,0 +1,9 @@
+-- Laws that the proofs of the code cite: what each function leaves.
+pub mod Making
+pub mod Types
+pub mod LeafLaws
+pub mod ContextWalk
+pub mod Instances
+pub mod Fitting
+pub mod Applications
+pub mod Bindings

@@ -1,0 +1,73 @@
+use native.Mathlib.Omega.{arith}
+use borrow.Author.Needs.{needs}
+use mathlib.Core.Path.{refl}
+use Rattle.aut68.specs.Procedure.Resolve.{answered}
+use Rattle.names.specs.Meanings.{told}
+use Rattle.names.proofs.MeaningLaws.{means-bound, means-nothing, means-variable, means-constant}
+use Rattle.names.proofs.meanings.meaning_of.Statement.{statement}
+use Rattle.names.proofs.meanings.meaning_of.Tie as tie
+
+cast-t13 : tie.Need-cast-t13
+cast-t13 c = search needs
+
+mul-t14 : tie.Need-mul-t14
+mul-t14 c = search needs
+
+add-t15 : tie.Need-add-t15
+add-t15 c = search needs
+
+returns : tie.Need-returns
+returns c = means-bound (c .if1 .taken)
+
+look-up-requires : tie.Need-look-up-requires
+look-up-requires c κs = search needs
+
+enum-known-number : tie.Need-enum-known-number
+enum-known-number c = search needs
+
+cast-cell : tie.Need-cast-cell
+cast-cell c = let r = c .before in omega (arith, (rw (r .number .given .1) at (r .before .before .look-up .ensures)) .small)
+
+mul-cell : tie.Need-mul-cell
+mul-cell c = let r = c .before in omega (arith, (rw (r .number .given .1) at (r .before .before .look-up .ensures)) .small)
+
+add-t20 : tie.Need-add-t20
+add-t20 c = let r = c .before .before in omega (arith, (rw (r .number .given .1) at (r .before .before .look-up .ensures)) .small)
+
+returns-2 : tie.Need-returns-2
+returns-2 c =
+    let r = c .before .before in
+    let h = rw (r .number .given .1) at (r .before .before .look-up .ensures) in
+    means-variable (r .before .before .before .if1 .left) h (c .if2 .taken)
+
+field-requires : tie.Need-field-requires
+field-requires c κs = search needs
+
+add-t18 : tie.Need-add-t18
+add-t18 c = let r = c .before .before .before in omega (arith, (rw (r .number .given .1) at (r .before .before .look-up .ensures)) .small)
+
+enum-told : tie.Need-enum-told
+enum-told c = search needs
+
+enum-told-2 : tie.Need-enum-told-2
+enum-told-2 c = search needs
+
+returns-3 : tie.Need-returns-3
+returns-3 c =
+    let r = c .before .before .before in
+    let h = rw (r .number .given .1) at (r .before .before .look-up .ensures) in
+    means-constant (r .before .before .before .if1 .left) h (c .before .if2 .left) (c .field .ensures .0)
+
+returns-4 : tie.Need-returns-4
+unfolding told answered
+returns-4 c = means-nothing (c .before .before .before .if1 .left) (rw (c .enum-told .given .1) at (c .before .before .look-up .ensures)) refl
+
+returns-5 : tie.Need-returns-5
+unfolding told answered
+returns-5 c = means-nothing (c .before .before .before .if1 .left) (rw (c .enum-told2 .given .1) at (c .before .before .look-up .ensures)) refl
+
+pub meaning-of-spec : {M : Type 1} → statement M
+meaning-of-spec =
+    tie.close
+    (tie.spec cast-t13 mul-t14 add-t15 returns look-up-requires enum-known-number cast-cell mul-cell add-t20 returns-2 field-requires
+    add-t18 enum-told enum-told-2 returns-3 returns-4 returns-5)

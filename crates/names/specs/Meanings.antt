@@ -1,0 +1,53 @@
+-- What names mean: what stands for a name that is not bound, and the cell of a meaning.
+use mathlib.Core.Path.{_≡_}
+use mathlib.Core.List.{List}
+use Prim.Native.Nat.{ℕ, zero, suc, _+_, _*_, _≤_, _<_}
+use lib.ListN.{length}
+use Rattle.aut68.specs.Bytes.{Bytes}
+use Rattle.aut68.specs.Lines.{Lines, numberOf}
+use Rattle.aut68.specs.Procedure.Answer.{Answer, Refusal, codeOf}
+use Rattle.aut68.specs.Procedure.Resolve.{found, refused, Meaning, aBound, aVariable, aConstant, lookUp, meaning, wanted, contextAt}
+use Rattle.aut68.specs.Procedure.Resolve as Resolve
+use Rattle.aut68.specs.Sizes.{cellFactor, lineLimit, nesting}
+use Rattle.cells.specs.declared.scope.Scope.{Scope}
+use Rattle.names.specs.Known.{Known, boundNames}
+use Rattle.names.specs.Hints.{Hinted}
+use Rattle.names.specs.NotedContext.{ContextNoted}
+use Rattle.names.specs.Posts.{BindingFound}
+use Rattle.names.specs.declared.meanings.Sought.{Sought}
+
+-- what the procedure's lookup tells, of an answer of the code: a line's kind is 0 for `EB`
+unfoldable pub told : Sought → Resolve.Sought
+told (Sought.Line v zero) = Resolve.means (aVariable v)
+told (Sought.Line v (suc k)) = Resolve.means (aConstant v)
+told Sought.NoLine = Resolve.noLine
+told (Sought.NotInForce v) = Resolve.notInForce v
+
+-- the number of its line; 0 where there is none
+abbrev pub numberIn : Sought → ℕ
+numberIn (Sought.Line v k) = v
+numberIn Sought.NoLine = 0
+numberIn (Sought.NotInForce v) = v
+
+-- r is what stands for a word that is not bound, with the indicator of its line
+pub record SoughtFound (book tb : List ℕ) (lines indicator : ℕ) (w : List ℕ) (word : Bytes) (r : Sought) : Type 0 where
+  pub small : numberIn r < lineLimit
+  pub is : (ls : Lines) → Known ls book tb lines → Hinted book tb lines w → ContextNoted ls indicator w → indicator ≤ lines → 1 ≤ length word
+      → lookUp ls (contextAt ls indicator) (numberOf word ls) ≡ told r
+
+-- the cell of a name: what it means, without its arguments
+unfoldable pub cellOf : Meaning → ℕ
+cellOf (aBound i) = cellFactor * i + 2
+cellOf (aVariable v) = cellFactor * v + 1
+cellOf (aConstant v) = cellFactor * v + 3
+
+-- a name's cell and how many arguments it takes; or the refusal's code as fault
+pub data Meant (ls : Lines) (context : List ℕ) (fault cell count : ℕ) : Answer (Unit {0}) Meaning → Type 0 where
+  means : {m : Meaning} → fault ≡ 0 → cell ≡ cellOf m → count ≡ wanted ls context m → Meant ls context fault cell count (found m)
+  meansNothing : {r : Refusal} → fault ≡ codeOf r → Meant ls context fault cell count (refused r)
+
+-- the meaning of a word, with the indicator of its line, wherever b is its binding
+pub record MeaningFound (b : ℕ) (book tb : List ℕ) (lines indicator : ℕ) (w : List ℕ) (word : Bytes) (fault cell count : ℕ) : Type 0 where
+  pub is : (ls : Lines) → Known ls book tb lines → Hinted book tb lines w → ContextNoted ls indicator w → indicator ≤ lines
+      → (s : Bytes) (scope : Scope) → BindingFound s scope word b → scope .bound ≤ nesting → 1 ≤ length word
+      → Meant ls (contextAt ls indicator) fault cell count (meaning ls (contextAt ls indicator) word (boundNames s scope) tt)

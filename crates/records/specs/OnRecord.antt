@@ -1,0 +1,78 @@
+-- What an accepted book gives: its lines have derivations, and table, term store and book say of them what the functions on names
+-- (`Known`) and on expressions (`Book`) rely on. A call on an accepted book starts from here.
+use mathlib.Core.Path.{_≡_, refl, sym}
+use mathlib.Core.List.{List, [], _++_}
+use Prim.Native.Nat.{ℕ, _≤_}
+use native.Mathlib.Omega.{arith}
+use lib.ListN.{length, drop}
+use Rattle.aut68.specs.Language.{Language}
+use Rattle.aut68.specs.Sizes.{largestLimit}
+use Rattle.aut68.specs.Stores.{Stores, limitsOf}
+use Rattle.aut68.specs.Bytes.{Bytes}
+use Rattle.aut68.specs.Lines.{Lines, termsOf}
+use Rattle.aut68.specs.Procedure.Run.{Recorded, Ending, run, over, recordedAt, tableEnd, termsEnd}
+use Rattle.aut68.specs.Rules.Derivation.{Derived}
+use Rattle.aut68.specs.Demands.{Verdict}
+use Rattle.lookup.specs.DerivedBooks.{right-contexts, distinct-names}
+use Rattle.lookup.specs.Runs.{verdict-admitted}
+use Rattle.inclusion.specs.Books.{built-right}
+use Rattle.inclusion.specs.Derivations.{derived-built}
+use Rattle.cells.specs.Forests.{size-is-length}
+use Rattle.names.specs.Known.{Known}
+use Rattle.reduction.specs.Book.{Book}
+use Rattle.records.specs.Tables.{held-rows, held-stored, held-named}
+use Rattle.records.specs.Reached.{Reached, indicators-before, reached-holds}
+use Rattle.records.specs.Bounds.{reached-stores}
+use Rattle.records.specs.Runs.{run-reached}
+
+pub record OnRecord (language : Language) (book : Bytes) (L : ℕ) (ls : Lines) (tb ts : List ℕ) : Type 0 where
+  pub past : List Bytes
+  pub derived : Derived language [] past ls
+  pub known : Known ls book tb (length ls)
+  pub held : Book ls L tb ts
+
+module _ {language : Language} {book : Bytes} {N L : ℕ} {s : Stores} {k : Recorded} {n used : ℕ} {tb ts : List ℕ} (h : Reached language book N L s k n used tb ts) where
+  -- the rows and names of the recorded lines
+  pub reached-known : Known (k .recorded) book tb n
+  reached-known =
+      record {
+        rows = held-rows (reached-stores h);
+        named = held-named (reached-stores h);
+        count = sym (h .linesAre);
+        few = h .few;
+        contexts = λ i. right-contexts (h .derived) _ _ i;
+        distinct = distinct-names (h .derived);
+        behind = λ i. indicators-before (h .derived) _ _ i;
+      }
+
+  -- their rows and cells, also where the term store has other cells behind theirs
+  pub reached-book : L ≤ largestLimit → (cs rest : List ℕ) → cs ≡ termsOf (k .recorded) ++ rest → Book (k .recorded) L tb cs
+  reached-book small cs rest e =
+      let H = reached-holds h cs rest e in
+      record {
+        few = (let f = h .few in let q = h .linesAre in omega arith);
+        rows = held-rows H;
+        stored = held-stored H;
+        resolved = built-right (derived-built (h .derived)) .resolvedLines;
+        contexts = λ i. right-contexts (h .derived) _ _ i;
+        earlier = λ i. indicators-before (h .derived) _ _ i;
+        middleSize = λ i. h .small i .middleSize;
+        categorySize = λ {v} {l} i. (let c = h .small i .categorySize in omega (arith, c, size-is-length (l .category)));
+        limit = small;
+      }
+
+module _ (language : Language) (book : Bytes) (N L : ℕ) (s : Stores) where
+  abbrev ending : Ending
+  ending = run language book (limitsOf N L s)
+
+  -- of every run with a verdict, accepted or not
+  pub on-record : Verdict ending → OnRecord language book L (recordedAt ending .recorded) (tableEnd ending (s .table)) (termsEnd ending (s .terms))
+  unfolding over termsEnd
+  on-record v =
+      let h = run-reached language book N L s in
+      record {
+        past = h .past;
+        derived = h .derived;
+        known = reached-known h;
+        held = reached-book h (verdict-admitted language book (limitsOf N L s) v .atMost) _ (drop (length (termsOf (recordedAt ending .recorded))) (s .terms)) refl;
+      }

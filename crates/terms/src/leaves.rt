@@ -1,0 +1,105 @@
+// What stands for a leaf (`type`, a variable, a bound variable) of an expression that is lifted or into which something is put.
+ghost use mathlib.Core.Path.{_≡_};
+ghost use mathlib.Core.List.{List};
+ghost use Prim.Native.Nat.{ℕ, _%_, _<_};
+ghost use lib.ListN.{take};
+ghost use Rattle.aut68.specs.Sizes.{cellFactor, cellValues};
+ghost use Rattle.terms.specs.Grafts.{Stands, Instantiates, LeafPost};
+use crate::arguments::argument_at;
+use cells::field;
+use constants::CELL_FACTOR;
+use constants::CELL_VALUES;
+use constants::CONTEXT_LENGTH;
+use constants::Cell;
+
+// A bound variable's number is `number` higher.
+pub const LIFTING: usize = 0;
+
+// The expression at `number` stands for the variable bound at the cutoff.
+pub const SUBSTITUTING: usize = 1;
+
+// The one cell `cell`; or, where that is too large for a cell, the expression at `from`, lifted.
+pub struct Leaf {
+    pub cell: usize,
+    pub from: usize,
+}
+
+// What stands for the leaf x under `cut` bindings, lifted or with an expression put in. A lifted number may be too high for a cell.
+pub fn bound_for(x: Cell, cut: usize, kind: usize, number: usize) -> Leaf
+    requires { ⌜ x % cellFactor < 3 ⌝ }
+    ensures { λ r. ⌜ ((tb low : List ℕ) → LeafPost cellValues (Stands tb kind number low) tb low kind x cut (r .cell) (r .from)) ⌝ }
+{
+    let v = (x / CELL_FACTOR) as usize;
+    let itself = x as usize;
+    if x % CELL_FACTOR != 2 {
+        return Leaf {
+            cell: itself,
+            from: 0,
+        };
+    }
+    if v < cut {
+        return Leaf {
+            cell: itself,
+            from: 0,
+        };
+    }
+    if kind == LIFTING {
+        if number > CELL_VALUES {
+            return Leaf {
+                cell: CELL_VALUES,
+                from: 0,
+            };
+        }
+        let higher = itself + (CELL_FACTOR as usize) * number;
+        return Leaf {
+            cell: higher,
+            from: 0,
+        };
+    }
+    if v > cut {
+        let lower = itself - (CELL_FACTOR as usize);
+        return Leaf {
+            cell: lower,
+            from: 0,
+        };
+    }
+    Leaf {
+        cell: CELL_VALUES,
+        from: number,
+    }
+}
+
+// What stands for the leaf x where the `count` arguments from `base` on are put in for the context variables: for a line's variable the
+// one with the number of its own context's length.
+pub fn argument_for(
+    table: &[u32],
+    w: &[Cell],
+    x: Cell,
+    base: usize,
+    count: usize,
+    starts: &[Cell; 64],
+) -> Leaf
+    requires { ⌜ x % cellFactor < 3 ⌝ }
+    ensures { λ r. ⌜ ((end cut : ℕ) → LeafPost cellValues (Instantiates (now (table .entry)) base count (now (starts .entry)) (take end (now (w .entry))))
+        (now (table .entry)) (take end (now (w .entry))) 1 x cut (r .cell) (r .from)) ⌝ }
+{
+    let itself = x as usize;
+    if x % CELL_FACTOR != 1 {
+        return Leaf {
+            cell: itself,
+            from: 0,
+        };
+    }
+    let i = field(table, (x / CELL_FACTOR) as usize, CONTEXT_LENGTH);
+    if i >= count {
+        return Leaf {
+            cell: itself,
+            from: 0,
+        };
+    }
+    let from = argument_at(table, w, base, starts, i);
+    Leaf {
+        cell: CELL_VALUES,
+        from,
+    }
+}
