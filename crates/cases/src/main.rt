@@ -1,16 +1,16 @@
 // The test program. The first arguments name books, which it lists. Each other argument names a file with one case: a header line of
 // six numbers, then the book. For each case it writes the outcome, what is recorded, and what became of every other cell. All
 // stores hold 7 in each cell beforehand.
-mod header;
-mod report;
-
 use constants::Cell;
 use constants::LARGEST_LIMIT;
 use constants::LINE_LIMIT;
 use constants::ROW_WIDTH;
 use constants::WORK_UNITS;
-use header::Header;
 use libc::STDOUT_FILENO;
+use outcomes::recorded;
+use reports::header;
+use reports::header::Header;
+use reports::report;
 
 // How many books are listed.
 const LISTED: usize = 3;
@@ -24,7 +24,7 @@ const TERMS: usize = 32768;
 fn check(h: Header, book: &[u8], table: &mut [u32], terms: &mut [Cell], work: &mut [Cell]) {
     let o = verifier::check_book(book, h.budget, h.limit, table, terms, work);
     let r = verifier::numbers_of(o);
-    let n = listing::recorded(r);
+    let n = recorded(r);
     report::outcome(r);
     report::rows(book, table, terms, report::least(n, h.shown));
     report::other_names(book, table, n);

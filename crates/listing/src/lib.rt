@@ -1,14 +1,13 @@
 // The listing of a book: a row for each recorded line, then the outcome. Program `list` writes that of standard input.
-mod page;
-
+use columns::ROW;
+use columns::put_lines;
+use columns::put_outcome;
 use constants::Cell;
 use constants::OUT_OF_SPACE;
 use constants::ROW_WIDTH;
 use constants::WORK_UNITS;
-use page::ROW;
-use page::put_lines;
-use page::put_outcome;
-use verifier::Numbers;
+use outcomes::Numbers;
+use outcomes::recorded;
 ghost use Rattle.io.specs.Counts.{Counts};
 
 // The most bytes and lines of a book, the cells of its term store, the budget, the limit.
@@ -21,17 +20,6 @@ const TERMS: usize = 32768;
 const BUDGET: u32 = 100000;
 
 const LIMIT: usize = 256;
-
-// How many lines are recorded at an outcome: all of an accepted book, those before the line of a refused one.
-pub fn recorded(r: Numbers) -> u32 {
-    if r.code == 0 {
-        return r.line;
-    }
-    if r.line == 0 {
-        return 0;
-    }
-    r.line - 1
-}
 
 // The listing of a book, at the start of out. The answer: how many bytes it has.
 fn listing(book: &[u8], out: &mut [u8]) -> usize {

@@ -1,12 +1,12 @@
 // A whole book.
-use crate::outcome::Outcome;
-use crate::outcome::outcome_of;
+use outcomes::Outcome;
+use outcomes::outcome_of;
 use books::admit;
 use constants::Cell;
 ghost use Rattle.aut68.specs.Language.{aut68};
 ghost use Rattle.aut68.specs.Stores.{stores};
 ghost use Rattle.aut68.specs.Demands.{Checks};
-ghost use Rattle.verifier.specs.Outcomes.{codeOfOutcome, lineOfOutcome, stepsOfOutcome};
+ghost use Rattle.outcomes.specs.Outcomes.{codeOfOutcome, lineOfOutcome, stepsOfOutcome};
 
 // Checks a book (run). See document 01 for what each outcome means. Limit out of range, working store too small: every cell is as
 // it was. Else: the rows and the term cells of the lines before the refused one are written, the first WORK_UNITS × limit working

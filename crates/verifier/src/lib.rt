@@ -1,13 +1,12 @@
-// AUT-68 books: the public library. `check_book` checks a book; aut68's Demands has what it promises (`Checks`), specs/Outcomes
+// AUT-68 books: the public library. `check_book` checks a book; aut68's Demands has what it promises (`Checks`), crate `outcomes`
 // the code, line and steps of each outcome. `identifier` fetches a recorded line's identifier as the part of the book.
 mod book;
-mod outcome;
 
 pub use book::check_book;
 pub use constants::Reason;
 pub use names::Part;
 pub use names::identifier;
 pub use names::identifier_place;
-pub use outcome::Numbers;
-pub use outcome::Outcome;
-pub use outcome::numbers_of;
+pub use outcomes::Numbers;
+pub use outcomes::Outcome;
+pub use outcomes::numbers_of;

@@ -8,8 +8,8 @@ use Rattle.aut68.specs.Stores.{Stores}
 use Rattle.aut68.specs.Procedure.Run.{Ending, turnedAway, accepted, refusedAt, codeAt}
 use Rattle.aut68.specs.Demands.{Determined}
 use Rattle.theorems.specs.Checks.{checks}
-use Rattle.verifier.specs.declared.outcome.Outcome.{Outcome}
-use Rattle.verifier.specs.Outcomes.{codeOfOutcome, lineOfOutcome, stepsOfOutcome, IsCode, HasNumbers}
+use Rattle.outcomes.specs.declared.Outcome.{Outcome}
+use Rattle.outcomes.specs.Outcomes.{codeOfOutcome, lineOfOutcome, stepsOfOutcome, IsCode, HasNumbers}
 use Rattle.verifier.proofs.book.check_book.Statement.{statement}
 use Rattle.verifier.proofs.book.check_book.Tie as tie
 

@@ -1,0 +1,142 @@
+// What is written of a case.
+use cells::field;
+use constants::CATEGORY_END;
+use constants::CATEGORY_START;
+use constants::Cell;
+use constants::MIDDLE_START;
+use constants::ROW_WIDTH;
+use constants::WORK_UNITS;
+use libc::STDOUT_FILENO;
+use names::identifier;
+use outcomes::Numbers;
+
+// A number in decimal and the byte c.
+fn say(x: u64, c: u8) {
+    io::print_decimal(STDOUT_FILENO, x);
+    io::write_all(STDOUT_FILENO, &[c]);
+}
+
+// A space and a number in decimal.
+fn spaced(x: u64) {
+    io::write_all(STDOUT_FILENO, &[b' ']);
+    io::print_decimal(STDOUT_FILENO, x);
+}
+
+fn cell(x: Cell) {
+    spaced(x as u64);
+}
+
+pub fn least(a: u32, b: u32) -> u32 {
+    if a < b { a } else { b }
+}
+
+// Code, line, steps.
+pub fn outcome(r: Numbers) {
+    say(r.code as u64, b' ');
+    say(r.line as u64, b' ');
+    say(r.steps as u64, 10);
+}
+
+// The term cells from index `from` on, below `to`, each behind a space.
+fn term_cells(terms: &[Cell], from: usize, to: usize) {
+    let mut i = from;
+    while i < to {
+        if i >= terms.len() {
+            return;
+        }
+        cell(terms[i]);
+        i = i + 1;
+    }
+}
+
+// The cells of the row of a line, each behind a space.
+fn row_cells(table: &[u32], line: usize) {
+    let mut k = 0;
+    while k < ROW_WIDTH {
+        spaced(field(table, line, k) as u64);
+        k = k + 1;
+    }
+}
+
+// Line v: its number, its identifier, the cells of its row, `:` and the cells of its middle, `:` and those of its category.
+fn row(book: &[u8], table: &[u32], terms: &[Cell], v: u32) {
+    say(v as u64, b' ');
+    io::write_all(STDOUT_FILENO, identifier(book, table, v));
+    let line = v as usize;
+    row_cells(table, line);
+    let middle = field(table, line, MIDDLE_START);
+    let category = field(table, line, CATEGORY_START);
+    let end = field(table, line, CATEGORY_END);
+    io::write_all(STDOUT_FILENO, &[b' ', b':']);
+    term_cells(terms, middle, category);
+    io::write_all(STDOUT_FILENO, &[b' ', b':']);
+    term_cells(terms, category, end);
+    io::write_all(STDOUT_FILENO, &[10]);
+}
+
+// The first n lines.
+pub fn rows(book: &[u8], table: &[u32], terms: &[Cell], n: u32) {
+    let mut v = 0;
+    while v < n {
+        v = v + 1;
+        row(book, table, terms, v);
+    }
+}
+
+// The lengths of the identifiers of line 0, of the line behind the n recorded ones, and of the last number of 32 bits.
+pub fn other_names(book: &[u8], table: &[u32], n: u32) {
+    io::write_all(STDOUT_FILENO, b"names ");
+    say(identifier(book, table, 0).len() as u64, b' ');
+    if n < 4294967295 {
+        say(identifier(book, table, n + 1).len() as u64, b' ');
+    }
+    say(
+        identifier(book, table, 4294967295).len() as u64,
+        10,
+    );
+}
+
+// How many cells from index `from` on are not 7.
+fn changed_rows(table: &[u32], from: usize) -> u64 {
+    let mut n = 0;
+    let mut i = from;
+    while i < table.len() {
+        if table[i] != 7 {
+            n = n + 1;
+        }
+        i = i + 1;
+    }
+    n
+}
+
+// How many cells from index `from` on, below `to`, are not x.
+fn others(s: &[Cell], from: usize, to: usize, x: Cell) -> u64 {
+    let mut n = 0;
+    let mut i = from;
+    while i < to {
+        if i >= s.len() {
+            return n;
+        }
+        if s[i] != x {
+            n = n + 1;
+        }
+        i = i + 1;
+    }
+    n
+}
+
+// Cells of table and term store that changed behind those of the n recorded lines; of the first WORK_UNITS × limit working cells
+// those that are not 0; working cells that changed behind them; all working cells that changed.
+pub fn other_cells(table: &[u32], terms: &[Cell], work: &[Cell], n: u32, limit: u32) {
+    let lines = n as usize;
+    let room = WORK_UNITS * (limit as usize);
+    io::write_all(STDOUT_FILENO, b"cells ");
+    say(changed_rows(table, ROW_WIDTH * lines), b' ');
+    say(
+        others(terms, field(table, lines, CATEGORY_END), terms.len(), 7),
+        b' ',
+    );
+    say(others(work, 0, room, 0), b' ');
+    say(others(work, room, work.len(), 7), b' ');
+    say(others(work, 0, work.len(), 7), 10);
+}

@@ -1,2 +1,0 @@
--- What the contracts of the public library say.
-pub mod Outcomes
