@@ -18,7 +18,7 @@ use Rattle.aut68.specs.Procedure.Category.{nth, theLine, made, headForm, parts,
 use Rattle.aut68.specs.Procedure.CheckLine.{checkDomain, checkSupertype, checkWritten}
 use Rattle.calculus.specs.Actions.{the-line, isType-true}
 use Rattle.cells.specs.Results.{Result, passed, refused, code-nonzero}
-use Rattle.terms.specs.Unchanged.{instantiate-empty}
+use Rattle.instances.specs.Unchanged.{instantiate-empty}
 use Rattle.levels.specs.ArgumentPosts.{wantedFits}
 use Rattle.levels.specs.BinderPosts.{applying}
 use Rattle.levels.specs.Answers.{at-line}

@@ -25,7 +25,7 @@ use Rattle.cells.specs.SameCells.{run-is-slice}
 use Rattle.cells.specs.Stores.{outside-same, at-taken}
 use Rattle.terms.specs.Made.{Made, InstantiatePost, InstancePost}
 use Rattle.terms.specs.MadeLaws.{made-large}
-use Rattle.terms.specs.Unchanged.{instantiate-none}
+use Rattle.instances.specs.Unchanged.{instantiate-none}
 use Rattle.reduction.specs.Book.{Book, all-known-wf, category-wf}
 use Rattle.reduction.specs.Places.{wanted-numbered}
 use Rattle.reduction.specs.Sides.{identical-self}

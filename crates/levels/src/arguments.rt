@@ -21,8 +21,8 @@ use constants::CELL_VALUES;
 use constants::CONTEXT_LENGTH;
 use constants::Cell;
 use constants::TOO_LARGE;
-use terms::instantiate;
-use terms::is_instance;
+use instances::instantiate;
+use instances::is_instance;
 
 // A copy of the n cells of s from `at` on, as far behind `base` in w.
 pub fn keep_argument(s: &[Cell], at: usize, n: usize, w: &mut [Cell], base: usize)

@@ -21,7 +21,7 @@ use Rattle.cells.specs.Forests.{at-front, at-second, size-is-length}
 use Rattle.cells.specs.Layout.{unitAt, scratchUnit, resultUnit}
 use Rattle.cells.specs.Stores.{at-kept, at-rest}
 use Rattle.terms.specs.Made.{noRoom}
-use Rattle.terms.specs.Unchanged.{instantiate-empty}
+use Rattle.instances.specs.Unchanged.{instantiate-empty}
 use Rattle.reduction.specs.Book.{Book, known-wf}
 use Rattle.reduction.specs.Depths.{substituted-below}
 use Rattle.reduction.specs.Frames.{Lies, framed-same, framed-then, framed-more, quiet-framed, outside-framed, at-framed}

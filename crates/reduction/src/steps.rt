@@ -15,8 +15,8 @@ use constants::CONTEXT_LENGTH;
 use constants::Cell;
 use constants::LARGEST_LIMIT;
 use constants::MIDDLE_START;
+use instances::instantiate;
 use terms::NO_ROOM;
-use terms::instantiate;
 use terms::substitute;
 
 // Where each of the `count` arguments that lie from `at` on in w starts, counted from there, and where the last one ends: as far as

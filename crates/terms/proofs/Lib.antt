@@ -3,5 +3,3 @@ pub mod WalkLaws
 pub mod Turns
 pub mod LeafLaws
 pub mod Whole
-pub mod ArgumentLaws
-pub mod Matches

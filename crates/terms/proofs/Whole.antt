@@ -11,8 +11,8 @@ use Rattle.aut68.specs.Expr.{Expr, cells}
 use Rattle.cells.specs.Cells.{At, Below, Outside}
 use Rattle.cells.specs.Forests.{size-is-length}
 use Rattle.cells.specs.Stores.{outside-same}
-use Rattle.terms.specs.Made.{noRoom, RaisePost, SubstitutePost, InstantiatePost}
-use Rattle.terms.specs.Grafts.{Choice, lifting, substituting, instantiating, graft, Fit, Stands, raises, substitutes-one, Instantiates, instantiates-all, Kept, Laid, GraftPost, WholePost}
+use Rattle.terms.specs.Made.{noRoom, RaisePost, SubstitutePost}
+use Rattle.terms.specs.Grafts.{Choice, lifting, substituting, graft, Fit, Stands, raises, substitutes-one, Kept, Laid, GraftPost, WholePost}
 
 -- writes within the front of a list
 sets-front : (vs p q : List ℕ) (i : ℕ) → i + length vs ≤ length p → sets (p ++ q) i vs ≡ sets p i vs ++ q
@@ -112,7 +112,7 @@ whole-none h = record {
   made = λ k pk x rest h′ f a b. absurd (omega arith);
 }
 
--- ---- what the three choices make
+-- ---- what lifting and substitution make
 
 module _ {tb w w′ : List ℕ} {e number to room r : ℕ} where
   pub raise-post : WholePost cellValues (Stands tb 0 number) tb (take to w) w w′ e to room r → RaisePost tb w w′ e number to room r
@@ -125,11 +125,3 @@ module _ {tb w w′ : List ℕ} {e number to room r : ℕ} where
     confined = W .confined;
     made = λ x y rx ry h wx wy ax ay b. W .made (substituting y) (substitutes-one refl wy ay) x rx h wx ax b;
   }
-
-pub instantiate-post : {tb s w w′ : List ℕ} {e base count : ℕ} {starts : List ℕ} {to room r : ℕ}
-    → WholePost cellValues (Instantiates tb base count starts) tb s w w′ e to room r → InstantiatePost tb s w w′ e base count starts to room r
-unfolding graft
-instantiate-post W = record {
-  confined = W .confined;
-  made = λ vs xs x rx h fx A ax b. W .made (instantiating vs xs) (instantiates-all A) x rx h fx ax b;
-}

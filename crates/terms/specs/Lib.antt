@@ -4,4 +4,3 @@ pub mod MadeLaws
 pub mod Starts
 pub mod Grafts
 pub mod Kinds
-pub mod Unchanged

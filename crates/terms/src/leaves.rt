@@ -2,14 +2,10 @@
 ghost use mathlib.Core.Path.{_≡_};
 ghost use mathlib.Core.List.{List};
 ghost use Prim.Native.Nat.{ℕ, _%_, _<_};
-ghost use lib.ListN.{take};
 ghost use Rattle.aut68.specs.Sizes.{cellFactor, cellValues};
-ghost use Rattle.terms.specs.Grafts.{Stands, Instantiates, LeafPost};
-use crate::arguments::argument_at;
-use cells::field;
+ghost use Rattle.terms.specs.Grafts.{Stands, LeafPost};
 use constants::CELL_FACTOR;
 use constants::CELL_VALUES;
-use constants::CONTEXT_LENGTH;
 use constants::Cell;
 
 // A bound variable's number is `number` higher.
@@ -66,40 +62,5 @@ pub fn bound_for(x: Cell, cut: usize, kind: usize, number: usize) -> Leaf
     Leaf {
         cell: CELL_VALUES,
         from: number,
-    }
-}
-
-// What stands for the leaf x where the `count` arguments from `base` on are put in for the context variables: for a line's variable the
-// one with the number of its own context's length.
-pub fn argument_for(
-    table: &[u32],
-    w: &[Cell],
-    x: Cell,
-    base: usize,
-    count: usize,
-    starts: &[Cell; 64],
-) -> Leaf
-    requires { ⌜ x % cellFactor < 3 ⌝ }
-    ensures { λ r. ⌜ ((end cut : ℕ) → LeafPost cellValues (Instantiates (now (table .entry)) base count (now (starts .entry)) (take end (now (w .entry))))
-        (now (table .entry)) (take end (now (w .entry))) 1 x cut (r .cell) (r .from)) ⌝ }
-{
-    let itself = x as usize;
-    if x % CELL_FACTOR != 1 {
-        return Leaf {
-            cell: itself,
-            from: 0,
-        };
-    }
-    let i = field(table, (x / CELL_FACTOR) as usize, CONTEXT_LENGTH);
-    if i >= count {
-        return Leaf {
-            cell: itself,
-            from: 0,
-        };
-    }
-    let from = argument_at(table, w, base, starts, i);
-    Leaf {
-        cell: CELL_VALUES,
-        from,
     }
 }

@@ -1,13 +1,12 @@
-// What is made: an expression lifted, with another for the variable of a binding, or with arguments for its context variables. Each
-// function returns its size; the result is written from `to` on in at most `room` cells of w.
+// What is made: an expression lifted, or with another for the variable of a binding. Each function returns its size; the result is
+// written from `to` on in at most `room` cells of w.
 ghost use lib.ListN.{take};
 ghost use Rattle.aut68.specs.Sizes.{cellValues};
-ghost use Rattle.terms.specs.Made.{RaisePost, SubstitutePost, InstantiatePost};
+ghost use Rattle.terms.specs.Made.{RaisePost, SubstitutePost};
 ghost use Rattle.terms.specs.Grafts.{Stands, WholePost};
 use crate::leaves::LIFTING;
 use crate::leaves::SUBSTITUTING;
 use crate::walk::graft;
-use crate::walk::instantiate_in;
 use constants::CELL_VALUES;
 use constants::Cell;
 
@@ -61,33 +60,4 @@ pub fn substitute(
     ensures { λ r. ⌜ SubstitutePost (now (table .entry)) (now (w .entry)) (now (w .exit)) t a to room r ⌝ }
 {
     make(table, w, t, SUBSTITUTING, a, to, room)
-}
-
-// The expression at index e of s, with the arguments for the context variables, all at once.
-pub fn instantiate(
-    table: &[u32],
-    s: &[Cell],
-    e: usize,
-    w: &mut [Cell],
-    base: usize,
-    count: usize,
-    starts: &[Cell; 64],
-    to: usize,
-    room: usize,
-) -> usize
-    ensures { λ r. ⌜ InstantiatePost (now (table .entry)) (now (s .entry)) (now (w .entry)) (now (w .exit)) e base count (now (starts .entry)) to room r ⌝ }
-{
-    if to > w.len() {
-        return NO_ROOM;
-    }
-    if room > w.len() - to {
-        return NO_ROOM;
-    }
-    let stop = to + room;
-    let r = instantiate_in(table, s, &mut w[..stop], to, e, to, 0, base, count, starts);
-    let at = r.to;
-    if at > stop {
-        return NO_ROOM;
-    }
-    at - to
 }

@@ -2,10 +2,11 @@ use mathlib.Core.Path.{sym}
 use native.Mathlib.Omega.{arith}
 use lib.ListN.{length-take}
 use lib.Seq.{length-take-le}
-use Rattle.terms.proofs.Whole.{whole-none, whole-full, whole-made, instantiate-post}
+use Rattle.terms.proofs.Whole.{whole-none, whole-full, whole-made}
+use Rattle.instances.proofs.InstantiationLaws.{instantiate-post}
 use borrow.Author.Needs.{needs}
-use Rattle.terms.proofs.made.instantiate.Statement.{statement}
-use Rattle.terms.proofs.made.instantiate.Tie as tie
+use Rattle.instances.proofs.instantiation.instantiate.Statement.{statement}
+use Rattle.instances.proofs.instantiation.instantiate.Tie as tie
 
 returns : tie.Need-returns
 returns c = instantiate-post (whole-none (omega arith))

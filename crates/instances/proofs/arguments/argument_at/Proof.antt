@@ -1,8 +1,8 @@
 use native.Mathlib.Omega.{arith}
-use Rattle.terms.proofs.ArgumentLaws.{start-none, start-listed, start-past}
+use Rattle.instances.proofs.ArgumentLaws.{start-none, start-listed, start-past}
 use borrow.Author.Needs.{needs}
-use Rattle.terms.proofs.arguments.argument_at.Statement.{statement}
-use Rattle.terms.proofs.arguments.argument_at.Tie as tie
+use Rattle.instances.proofs.arguments.argument_at.Statement.{statement}
+use Rattle.instances.proofs.arguments.argument_at.Tie as tie
 
 returns : tie.Need-returns
 returns c = λ count. start-none (omega arith)

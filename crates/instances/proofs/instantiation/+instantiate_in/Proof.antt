@@ -2,20 +2,20 @@ use mathlib.Core.Path.{refl}
 use native.Mathlib.Omega.{arith}
 use lib.ListN.{length, getD, take, length-set}
 use Rattle.aut68.specs.Sizes.{cellValues}
 use Rattle.terms.specs.Grafts.{Instantiates}
 use Rattle.terms.proofs.WalkLaws.{Inv, start, finish}
 use Rattle.terms.proofs.Turns.{stop-start, stop-source, stop-full, Ready, turn-branch, turn-cell, turn-put, stop-put, stop-domain, stop-body, turn-abstraction}
 use Prim.Native.Nat.{ℕ, _-_, _<_}
 use borrow.Fn.Kinds.{In}
 use borrow.Fn.PlainCycle.{Measures, is, falls, and}
-use Rattle.terms.proofs.walk.instantiate_in.Reads as own
-use Rattle.terms.proofs.walk.instantiate_in.Kinds as kinds
-use Rattle.terms.proofs.walk.+instantiate_in.Lts-instantiate_in as lts
+use Rattle.instances.proofs.instantiation.instantiate_in.Reads as own
+use Rattle.instances.proofs.instantiation.instantiate_in.Kinds as kinds
+use Rattle.instances.proofs.instantiation.+instantiate_in.Lts-instantiate_in as lts
 use Rattle.cells.proofs.kids.Reads as kids-reads
-use Rattle.terms.proofs.leaves.argument_for.Reads as argument-for-reads
-use Rattle.terms.proofs.walk.graft.Reads as graft-reads
-use Rattle.terms.proofs.walk.+instantiate_in.{statement}
-use Rattle.terms.proofs.walk.+instantiate_in.Tie.{close}
+use Rattle.instances.proofs.arguments.argument_for.Reads as argument-for-reads
+use Rattle.terms.proofs.graft.Reads as graft-reads
+use Rattle.instances.proofs.instantiation.+instantiate_in.{statement}
+use Rattle.instances.proofs.instantiation.+instantiate_in.Tie.{close}
 
 abbrev μ : Measures 4 kinds.ps ℕ
 μ κs a = length (a .1 .0 .now) - a .1 .1 .1 .1 .0

@@ -1,8 +1,9 @@
 use native.Mathlib.Omega.{arith}
-use Rattle.terms.proofs.LeafLaws.{leaf-cell, leaf-put, variable-other, variable-itself, variable-argument}
+use Rattle.terms.proofs.LeafLaws.{leaf-cell, leaf-put}
+use Rattle.instances.proofs.InstantiationLaws.{variable-other, variable-itself, variable-argument}
 use borrow.Author.Needs.{needs}
-use Rattle.terms.proofs.leaves.argument_for.Statement.{statement}
-use Rattle.terms.proofs.leaves.argument_for.Tie as tie
+use Rattle.instances.proofs.arguments.argument_for.Statement.{statement}
+use Rattle.instances.proofs.arguments.argument_for.Tie as tie
 
 returns : tie.Need-returns
 returns c = λ end cut. leaf-cell (omega arith) λ k q e xe f. variable-other _ _ (c .before .before .before .pre) (c .if1 .taken) q e xe

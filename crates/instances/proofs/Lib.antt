@@ -1,0 +1,3 @@
+pub mod InstantiationLaws
+pub mod ArgumentLaws
+pub mod Matches
