@@ -14,7 +14,7 @@ use Rattle.cells.specs.Cells.{Wfs, At}
 use Rattle.cells.specs.Posts.{Skipped}
 use Rattle.cells.specs.Forests.{join, cells-join, count-join, count-long, at-length, at-front, at-second}
 use Rattle.terms.specs.Made.{startOf, ArgumentsLie}
-use Rattle.terms.specs.Starts.{start-join, start-behind, start-next, Parted, parted, formed-split, Split, split, argument-within, argument-taken}
+use Rattle.instances.specs.Starts.{start-join, start-behind, start-next, Parted, parted, formed-split, Split, split, argument-within, argument-taken}
 use Rattle.terms.specs.Kinds.{of-variable}
 use Rattle.terms.specs.Grafts.{instantiating, pastEnd, Fit, StartPost, RunPost}
 use Rattle.instances.proofs.InstantiationLaws.{no-argument-cells, argument-put}

@@ -13,7 +13,7 @@ use Rattle.aut68.specs.Substitution.{lift, argumentFor, instantiateVariable, in
 use Rattle.cells.specs.Cells.{Formed, RightCount, At}
 use Rattle.cells.specs.Forests.{count-long, at-length}
 use Rattle.terms.specs.Made.{argumentAt, Numbered, startOf, ArgumentsLie, InstantiatePost}
-use Rattle.terms.specs.Starts.{Split, split, argument-formed, argument-lies}
+use Rattle.instances.specs.Starts.{Split, split, argument-formed, argument-lies}
 use Rattle.terms.specs.Kinds.{of-leaf, of-variable}
 use Rattle.terms.specs.Grafts.{Choice, instantiating, graft, Fit, Instantiates, instantiates-all, Put, StartPost, WholePost}
 

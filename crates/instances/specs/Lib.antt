@@ -1,2 +1,3 @@
--- What callers use of instantiation where there is nothing to put in.
+-- What callers use of instantiation: where arguments start, and where there is nothing to put in.
 pub mod Unchanged
+pub mod Starts
