@@ -20,9 +20,9 @@ use Rattle.cells.specs.Results.{Result, then-refused, then-passed}
 use Rattle.cells.specs.declared.scope.Scope.{Scope}
 use Rattle.reduction.specs.Book.{Book, known-wf}
 use Rattle.levels.specs.FoundPosts.{Finds, Passes, FunctionKnown, FoundTypePost}
-use Rattle.levels.specs.BinderPosts.{FunctionOfPost, AppliedPost, OverBindingPost}
 use Rattle.levels.specs.Spots.{frames, function-kept}
 use Rattle.levels.specs.Parts.{application-argument, abstraction-domain, abstraction-front}
+use Rattle.typing.specs.BinderPosts.{FunctionOfPost, AppliedPost, OverBindingPost}
 use Rattle.categories.specs.AnyDepth.{category68}
 use Rattle.categories.specs.Places.{Expression}
 use Rattle.categories.specs.Posts.{CategoryPost, ApplicationPost, AbstractionPost}

@@ -30,8 +30,9 @@ use Rattle.cells.specs.declared.scope.Scope.{Scope}
 use Rattle.reduction.specs.Book.{Book}
 use Rattle.reduction.specs.Frames.{frame-of}
 use Rattle.levels.specs.Places.{FoundAt, DomainCells, ScopeHolds}
-use Rattle.levels.specs.FoundPosts.{Passes, FindsKnown, FoundTypePost, ComparePost}
+use Rattle.levels.specs.FoundPosts.{Passes, FindsKnown, FoundTypePost}
 use Rattle.levels.specs.Spots.{frames, level-below, lies-kept, copied-found, is-type-cell}
+use Rattle.typing.specs.ComparisonPosts.{ComparePost}
 use Rattle.categories.specs.AnyDepth.{category68}
 use Rattle.categories.specs.Nesting.{nesting}
 use Rattle.categories.specs.Places.{Expression, LineCells}

@@ -21,7 +21,7 @@ use Rattle.instances.specs.Starts.{start-first, started-more, started-past}
 use Rattle.reduction.specs.Book.{Book}
 use Rattle.levels.specs.Places.{Awaits}
 use Rattle.levels.specs.FoundPosts.{Frame}
-use Rattle.levels.specs.ArgumentPosts.{wantedFits, NextStart}
+use Rattle.typing.specs.ArgumentPosts.{wantedFits, NextStart}
 use Rattle.categories.specs.AnyDepth.{category68}
 use Rattle.categories.specs.Nesting.{nestings}
 use Rattle.categories.specs.Places.{Expression, Arguments}

@@ -10,8 +10,8 @@ use cells::no_bindings;
 use constants::Cell;
 use constants::NOT_TYPE;
 use constants::TOO_LARGE;
-use levels::compare_units;
 use levels::found_type;
+use typing::compare_units;
 
 // The written category, at index `at` of the terms: it is `type`, or its category is (else 8).
 fn check_written(

@@ -3,7 +3,3 @@ pub mod Making
 pub mod Types
 pub mod LeafLaws
 pub mod ContextWalk
-pub mod Instances
-pub mod Fitting
-pub mod Applications
-pub mod Bindings

@@ -1,23 +1,20 @@
--- What is found at a level, as every record of this crate says it: tb is the table, ts the term store, w the working store as it was
--- and w′ as it is left; `frame` says which of its cells are as they were, whatever lies there; `means` says which part of the
--- procedure the code and the budget that is left answer, for every expression that lies where the arguments point.
+-- What is found at a level, as every record of this crate and of crate `typing` says it: tb is the table, ts the term store, w the
+-- working store as it was and w′ as it is left; `frame` says which of its cells are as they were, whatever lies there; `means` says
+-- which part of the procedure the code and the budget that is left answer, for every expression that lies where the arguments point.
 use mathlib.Core.Path.{_≡_}
 use mathlib.Core.Bool.{Bool}
 use mathlib.Core.List.{List}
 use Prim.Native.Nat.{ℕ, _*_, _≤_}
 use lib.ListN.{length}
-use Rattle.aut68.specs.Sizes.{largestLimit, workUnits, nesting}
-use Rattle.aut68.specs.Language.{aut68}
+use Rattle.aut68.specs.Sizes.{largestLimit, workUnits}
 use Rattle.aut68.specs.Procedure.Answer.{Answer, andThen, ensure, notType}
 use Rattle.aut68.specs.Expr.{Expr, abs, size, isType}
 use Rattle.aut68.specs.Lines.{Lines}
-use Rattle.aut68.specs.Procedure.Compare.{compare}
 use Rattle.aut68.specs.Procedure.Category.{Function, made}
 use Rattle.calculus.specs.Resolved.{KnownCategory}
 use Rattle.cells.specs.Cells.{Outside}
-use Rattle.cells.specs.Layout.{unitAt, levelUnit, sideUnit}
+use Rattle.cells.specs.Layout.{unitAt, levelUnit}
 use Rattle.cells.specs.Results.{Result}
-use Rattle.reduction.specs.Book.{Book}
 use Rattle.levels.specs.Places.{Lies, FoundAt, FunctionIn, Held}
 
 -- what lies below a level's unit is as it was
@@ -59,9 +56,3 @@ pub record IsTypePost (w : List ℕ) (limit level : ℕ) (r : Bool) : Type 0 whe
 pub record FoundTypePost (w : List ℕ) (limit level found size budget code rest : ℕ) : Type 0 where
   pub means : {m : Answer ℕ Expr} → limit ≤ largestLimit → Finds w limit level found size budget m
       → Passes code rest (andThen (λ k. ensure (isType k) notType) m)
-
--- what was found at level l on the left, what was found at level r on the right
-pub record ComparePost (tb ts w : List ℕ) (limit budget l r : ℕ) (w′ : List ℕ) (code rest : ℕ) : Type 0 where
-  pub frame : limit ≤ largestLimit → Outside (unitAt limit (sideUnit nesting)) (length w) w w′
-  pub means : {ls : Lines} {k : ℕ} {x y : Expr} → Book ls limit tb ts → workUnits * limit ≤ length w → k ≤ nesting → KnownCategory ls k x → KnownCategory ls k y
-      → Lies w limit l x → Lies w limit r y → Passes code rest (compare aut68 ls limit x y budget)

@@ -2,13 +2,11 @@
 ghost use mathlib.Core.Path.{_≡_};
 ghost use Prim.Native.Nat.{ℕ, _<_};
 ghost use Rattle.cells.specs.Layout.{levels};
-ghost use Rattle.levels.specs.FoundPosts.{MadePost, IsTypePost, FoundTypePost, ComparePost};
+ghost use Rattle.levels.specs.FoundPosts.{MadePost, IsTypePost, FoundTypePost};
 use cells::level_at;
 use cells::move_cells;
 use cells::result_at;
-use comparison::compare;
 use constants::Cell;
-use constants::NESTING;
 use constants::NOT_TYPE;
 use constants::TOO_LARGE;
 
@@ -115,27 +113,5 @@ pub fn found_type(w: &[Cell], limit: usize, level: usize, found: Found) -> Check
     Checked {
         code: NOT_TYPE,
         budget: found.budget,
-    }
-}
-
-// The comparison of what was found at level l with what was found at level r.
-pub fn compare_units(
-    table: &[u32],
-    terms: &[Cell],
-    w: &mut [Cell],
-    limit: usize,
-    budget: u32,
-    l: usize,
-    r: usize,
-) -> Checked
-    requires { ⌜ (l < levels) × (r < levels) ⌝ }
-    ensures { λ c. ⌜ ComparePost (now (table .entry)) (now (terms .entry)) (now (w .entry)) limit budget l r (now (w .exit)) (c .code) (c .budget) ⌝ }
-{
-    let a = level_at(limit, l);
-    let b = level_at(limit, r);
-    let c = compare(table, terms, w, limit, budget, a, b, NESTING);
-    Checked {
-        code: c.code,
-        budget: c.budget,
     }
 }
