@@ -26,7 +26,8 @@ use Rattle.cells.specs.Layout.{lineUnit}
 use Rattle.cells.specs.Forests.{size-is-length}
 use Rattle.cells.specs.Results.{Result, passed, refused}
 use Rattle.kinds.specs.Kinds.{KindsTable}
-use Rattle.reader.specs.Posts.{LineReadTo, LineEnd}
+use Rattle.headings.specs.Posts.{LineEnd}
+use Rattle.reader.specs.Posts.{LineReadTo}
 use Rattle.reader.specs.Posts as Reader
 use Rattle.reader.specs.declared.lines.Line.{Line}
 use Rattle.categories.specs.Places.{LineCells}

@@ -14,6 +14,7 @@ use Rattle.aut68.specs.Procedure.Answer.{done, stop, andThen, malformed}
 use Rattle.aut68.specs.Procedure.Parse.{Read, symbol, lineEnd}
 use Rattle.kinds.specs.Kinds.{KindsTable, kindOf, placeOr0}
 use Rattle.symbols.specs.Symbols.{PastSymbol}
+use Rattle.headings.specs.ReadLine.{afterHeading}
 use Rattle.names.specs.Hints.{slots}
 use Rattle.names.specs.HintLaws.{hinted-same}
 use Rattle.names.specs.NotedContext.{context-noted-same}
@@ -23,7 +24,6 @@ use Rattle.expressions.specs.Posts.{goOn, Refusing}
 use Rattle.expressions.proofs.StoreLaws.{below-then}
 use Rattle.expressions.proofs.ReadLaws.{then-refused, then-passed, then-done, then-stop}
 use Rattle.expressions.proofs.ExpressionLaws.{code-malformed}
-use Rattle.reader.specs.ReadLine.{afterHeading}
 use Rattle.reader.specs.Posts.{Lookup, MiddleRead, CategoryRead, BodyRead}
 
 -- ---- the whole body

@@ -14,14 +14,14 @@ use Rattle.aut68.specs.Procedure.Resolve.{found, refused, indicatorLine}
 use Rattle.aut68.specs.Sizes.{lineLimit, atKind}
 use Rattle.lookup.specs.LineNumbers.{line-lineOf}
 use Rattle.symbols.proofs.SymbolLaws.{part}
+use Rattle.headings.specs.ReadLine.{nameOr}
+use Rattle.headings.proofs.HeadLaws.{name-none, name-some}
 use Rattle.names.specs.Known.{Known}
 use Rattle.names.specs.Hints.{Hinted}
 use Rattle.names.specs.Posts.{LineFound}
 use Rattle.names.proofs.MeaningLaws.{option-none, option-some, number-positive}
 use Rattle.names.proofs.ContextLaws.{lineAt}
-use Rattle.reader.specs.ReadLine.{nameOr}
 use Rattle.reader.specs.Posts.{IndicatorFound, isLine, noLine}
-use Rattle.reader.proofs.HeadLaws.{name-none, name-some}
 
 indicator-none : (ls : Lines) → indicatorLine ls none tt ≡ found 0
 unfolding indicatorLine

@@ -24,6 +24,9 @@ use Rattle.cells.specs.Cells.{At, Outside}
 use Rattle.cells.specs.Stores.{outside-below}
 use Rattle.cells.specs.Results.{Result}
 use Rattle.cells.specs.Results as Results
+use Rattle.headings.specs.declared.heads.Head.{Head}
+use Rattle.headings.specs.ReadLine.{nameOr}
+use Rattle.headings.specs.Posts.{HeadRead}
 use Rattle.names.specs.Known.{Known}
 use Rattle.names.specs.Hints.{slots, Hinted, probes}
 use Rattle.names.specs.HintLaws.{slots-fit, hinted-same}
@@ -32,10 +35,8 @@ use Rattle.expressions.specs.declared.parts.Reading.{Reading}
 use Rattle.expressions.specs.Walk.{ReadTo, passed, refused, SameBelow}
 use Rattle.expressions.proofs.StoreLaws.{below-same, below-then, part-append, part-stays}
 use Rattle.expressions.proofs.ReadLaws.{read-is}
-use Rattle.reader.specs.declared.heading.Head.{Head}
 use Rattle.reader.specs.declared.lines.Line.{Line as LineOf}
-use Rattle.reader.specs.ReadLine.{nameOr}
-use Rattle.reader.specs.Posts.{HeadRead, MiddleKind, LineWritten, BodyRead, IndicatorFound, LineRead, LineReadInto, LineReadTo}
+use Rattle.reader.specs.Posts.{MiddleKind, LineWritten, BodyRead, IndicatorFound, LineRead, LineReadInto, LineReadTo}
 use Rattle.reader.proofs.StepLaws.{reading-result, step-stopped, step-names, step-fault, step-right, step-wrong, step-indicator, step-no-indicator}
 use Rattle.reader.proofs.StepLaws.{name-unused, name-taken, kind-number, context-length, indicator-within, zero-or-not}
 

@@ -1,3 +1,2 @@
 -- Reading a line: its form, its names, its cells.
-pub mod ReadLine
 pub mod Posts

@@ -1,20 +1,19 @@
 -- What the functions that read a line leave.
 use mathlib.Core.Path.{_≡_}
-use mathlib.Core.Logic.{_≢_}
 use mathlib.Core.Bool.{true, false}
 use mathlib.Core.Option.{Option}
-use mathlib.Core.List.{List, [], _∷_}
-use Prim.Native.Nat.{ℕ, _+_, _-_, _*_, _/_, _≤_, _<_}
-use lib.ListN.{length, getD, drop, take}
+use mathlib.Core.List.{List, []}
+use Prim.Native.Nat.{ℕ, _+_, _*_, _/_, _≤_, _<_}
+use lib.ListN.{length, drop, take}
 use lib.Seq.{slice}
 use Rattle.aut68.specs.Language.{aut68}
 use Rattle.aut68.specs.Rules.Grammar.{ending}
-use Rattle.aut68.specs.Bytes.{Bytes, lines, sameBytes, wordPN, wordEB}
+use Rattle.aut68.specs.Bytes.{Bytes, sameBytes, wordPN, wordEB}
 use Rattle.aut68.specs.Source.{Src, Middle, variable, primitive, meaning, cellsOfSrc, middleCells}
 use Rattle.aut68.specs.Expr.{cells}
 use Rattle.aut68.specs.Lines.{Lines, kindCells, kindNumber, lineCells}
-use Rattle.aut68.specs.Procedure.Answer.{Answer, done, stop, malformed, unknownName}
-use Rattle.aut68.specs.Procedure.Parse.{Placed, aLine, anIndicator, aMiddle, anExpression, wordAhead}
+use Rattle.aut68.specs.Procedure.Answer.{Answer, unknownName}
+use Rattle.aut68.specs.Procedure.Parse.{Placed, aMiddle, anExpression, wordAhead}
 use Rattle.aut68.specs.Procedure.Resolve.{found, refused, resolve, resolveMiddle, contextAt}
 use Rattle.aut68.specs.Procedure.CheckLine.{Passed, readLine}
 use Rattle.aut68.specs.Sizes.{lineLimit, smallestLimit, nesting}
@@ -22,6 +21,7 @@ use Rattle.cells.specs.Cells.{At, Outside}
 use Rattle.cells.specs.Results.{Result}
 use Rattle.cells.specs.Layout.{contextUnit, lineUnit, readerUnits}
 use Rattle.kinds.specs.Kinds.{KindsTable}
+use Rattle.headings.specs.ReadLine.{afterHeading}
 use Rattle.names.specs.Known.{Known}
 use Rattle.names.specs.Hints.{slots, Hinted, probes}
 use Rattle.names.specs.NotedContext.{ContextNoted}
@@ -29,27 +29,7 @@ use Rattle.expressions.specs.declared.parts.Reading.{Reading}
 use Rattle.expressions.specs.Walk as Walk
 use Rattle.expressions.specs.Walk.{ReadTo, SameBelow}
 use Rattle.expressions.specs.Posts.{Onward}
-use Rattle.reader.specs.declared.heading.Prefix.{Prefix}
-use Rattle.reader.specs.declared.heading.Head.{Head}
 use Rattle.reader.specs.declared.lines.Line.{Line}
-use Rattle.reader.specs.ReadLine.{afterHeading, nameOr}
-
--- the indicator was read, if there is one
-pub record PrefixRead (ks s : Bytes) (p : Prefix) : Type 0 where
-  pub inside : p .at ≤ length s
-  pub named : p .start + p .len ≤ length s
-  pub read : KindsTable ks → p .code ≡ 0 → anIndicator aut68 s ≡ done (nameOr s (p .start) (p .len)) (drop (p .at) s)
-  pub missing : KindsTable ks → p .code ≢ 0 → anIndicator aut68 s ≡ stop malformed s
-
--- `indicator*identifier:=` was read
-pub record HeadRead (ks s : Bytes) (h : Head) : Type 0 where
-  pub inside : h .at ≤ length s
-  pub indicated : h .start + h .len ≤ length s
-  pub named : h .first + h .size ≤ length s
-  pub sized : h .code ≡ 0 → h .size ≢ 0
-  pub read : KindsTable ks → h .code ≡ 0
-      → aLine aut68 (length s) s ≡ afterHeading aut68 (nameOr s (h .start) (h .len)) (h .first) (slice (h .first) (h .first + h .size) s) (drop (h .at) s)
-  pub missing : KindsTable ks → h .code ≢ 0 → (rest : Bytes) × (h .code ≡ 3) × (aLine aut68 (length s) s ≡ stop malformed rest)
 
 -- a middle's kind, by the word that stands next: 0 `EB`, 1 `PN`, else 2
 pub record MiddleKind (ks s : Bytes) (at kind : ℕ) : Type 0 where
@@ -151,17 +131,3 @@ pub record LineReadTo (ks s book tb : List ℕ) (lines limit : ℕ) (w w′ : Li
   pub read : (ls : Lines) → KindsTable ks → Known ls book tb lines → length s < 4294967296 → smallestLimit ≤ limit → readerUnits * limit ≤ length w
       → Hinted book tb lines (take (readerUnits * limit) w)
       → Result (LineRead s w′ (lineUnit * limit) l) (l .code) tt (readLine aut68 ls limit s tt)
-
--- how many bytes are looked at at once for the end of a line
-abbrev pub stride : ℕ
-stride = 32
-
--- none of the first n bytes is 10
-abbrev pub NoEnd : Bytes → ℕ → Type 0
-NoEnd part n = (j : ℕ) → j < n → getD part j 0 ≢ 10
-
--- r is the end of the first line of what is left of the book at `at`
-pub record LineEnd (book : Bytes) (at r : ℕ) : Type 0 where
-  pub from : at < length book → at < r
-  pub within : at ≤ length book → r ≤ length book
-  pub is : at < length book → lines (drop at book) ≡ take (r - at) (drop at book) ∷ lines (drop r book)

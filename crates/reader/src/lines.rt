@@ -1,13 +1,13 @@
 // A whole line: form, indicator, identifier, sizes, names, in that order of refusals.
 use crate::body::body;
 use crate::body::middle_kind;
-use crate::heading::heading;
 use cells::LINE_UNIT;
 use cells::READER_UNITS;
 use constants::CONTEXT_LENGTH;
 use constants::Cell;
 use constants::KIND;
 use constants::LINE_LIMIT;
+use headings::heading;
 use names::find;
 use names::note_context;
 ghost use mathlib.Core.Path.{_≡_};
@@ -17,9 +17,9 @@ ghost use Rattle.aut68.specs.Sizes.{lineLimit, atContext};
 ghost use Rattle.aut68.specs.Lines.{Lines, rowCell};
 ghost use Rattle.aut68.specs.Procedure.Resolve.{indicatorLine};
 ghost use Rattle.cells.specs.Layout.{readerUnits};
+ghost use Rattle.headings.specs.ReadLine.{nameOr};
 ghost use Rattle.names.specs.Known.{Known};
 ghost use Rattle.names.specs.Hints.{Hinted};
-ghost use Rattle.reader.specs.ReadLine.{nameOr};
 ghost use Rattle.reader.specs.Posts.{IndicatorFound, LineReadInto, LineReadTo};
 
 // The indicator's line (indicatorLine): 0 if empty, LINE_LIMIT where it is no EB line.

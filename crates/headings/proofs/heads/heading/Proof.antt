@@ -1,8 +1,8 @@
 use native.Mathlib.Omega.{arith}
 use borrow.Author.Needs.{needs}
-use Rattle.reader.proofs.HeadLaws.{heading-no-indicator, heading-no-star, heading-no-name, heading-no-colon, heading-no-equals, heading-read}
-use Rattle.reader.proofs.heading.heading.Statement.{statement}
-use Rattle.reader.proofs.heading.heading.Tie as tie
+use Rattle.headings.proofs.HeadLaws.{heading-no-indicator, heading-no-star, heading-no-name, heading-no-colon, heading-no-equals, heading-read}
+use Rattle.headings.proofs.heads.heading.Statement.{statement}
+use Rattle.headings.proofs.heads.heading.Tie as tie
 
 prefix-of-requires : tie.Need-prefix-of-requires
 prefix-of-requires c κs = search needs

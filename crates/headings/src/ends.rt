@@ -2,7 +2,7 @@
 ghost use mathlib.Core.Path.{_≡_};
 ghost use mathlib.Core.Bool.{false};
 ghost use lib.ListN.{length};
-ghost use Rattle.reader.specs.Posts.{stride, NoEnd, LineEnd};
+ghost use Rattle.headings.specs.Posts.{stride, NoEnd, LineEnd};
 
 // How many bytes are looked at at once.
 const STRIDE: usize = 32;

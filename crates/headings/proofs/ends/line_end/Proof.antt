@@ -2,9 +2,9 @@ use borrow.Author.Needs.{needs}
 use native.Mathlib.Omega.{arith}
 use Prim.Native.Nat.{_-_}
 use lib.ListN.{length, length-take, length-drop}
-use Rattle.reader.proofs.LineEndLaws.{NoEndSoFar, no-end-start, no-end-part, line-ends-later, book-ends-here}
-use Rattle.reader.proofs.ends.line_end.Statement.{statement}
-use Rattle.reader.proofs.ends.line_end.Tie as tie
+use Rattle.headings.proofs.LineEndLaws.{NoEndSoFar, no-end-start, no-end-part, line-ends-later, book-ends-here}
+use Rattle.headings.proofs.ends.line_end.Statement.{statement}
+use Rattle.headings.proofs.ends.line_end.Tie as tie
 
 abbrev Inv-loop : tie.InvT-loop
 Inv-loop book at i₀ i = NoEndSoFar book at i

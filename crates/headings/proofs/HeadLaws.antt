@@ -1,4 +1,4 @@
--- `indicator*identifier:=`, and where a line ends.
+-- `indicator*identifier:=`.
 use mathlib.Core.Path.{_≡_, refl, sym, ap, _∙_}
 use mathlib.Core.Logic.{_≢_}
 use mathlib.Core.Bool.{Bool, true, false}
@@ -16,10 +16,10 @@ use Rattle.aut68.specs.Procedure.Parse.{Read, spaces, starts, byte, aName, anIn
 use Rattle.kinds.specs.Kinds.{KindsTable, kindOf, placeOr0, kind-of-name, name-of-kind, one-of-kind}
 use Rattle.symbols.specs.Symbols.{firstKind, PastSpaces, KindAt, PastSymbol, NameAt}
 use Rattle.symbols.proofs.SymbolLaws.{step, byte-here, byte-missing, byte-end}
-use Rattle.reader.specs.declared.heading.Prefix.{Prefix}
-use Rattle.reader.specs.declared.heading.Head.{Head}
-use Rattle.reader.specs.ReadLine.{afterHeading, nameOr}
-use Rattle.reader.specs.Posts.{PrefixRead, HeadRead}
+use Rattle.headings.specs.declared.heads.Prefix.{Prefix}
+use Rattle.headings.specs.declared.heads.Head.{Head}
+use Rattle.headings.specs.ReadLine.{afterHeading, nameOr}
+use Rattle.headings.specs.Posts.{PrefixRead, HeadRead}
 
 -- ---- names that may be missing
 

@@ -9,7 +9,7 @@ use lib.Seq.{take-suc, take-add, getD-take, getD-drop, drop-drop}
 use borrow.Author.Tests.{ne-eqb}
 use Rattle.aut68.specs.Bytes.{Bytes, onto, lines}
 use Rattle.symbols.proofs.SymbolLaws.{step, ended}
-use Rattle.reader.specs.Posts.{NoEnd, LineEnd, stride}
+use Rattle.headings.specs.Posts.{NoEnd, LineEnd, stride}
 
 -- bytes without byte 10, in front of lines
 pub ontoAll : Bytes → List Bytes → List Bytes

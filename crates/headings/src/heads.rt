@@ -5,7 +5,7 @@ use symbols::spaces;
 use symbols::symbol;
 ghost use mathlib.Core.Path.{_≡_};
 ghost use Prim.Native.Nat.{_+_};
-ghost use Rattle.reader.specs.Posts.{PrefixRead, HeadRead};
+ghost use Rattle.headings.specs.Posts.{PrefixRead, HeadRead};
 
 // The indicator: code 0 or 3, the byte behind it, its name (length 0 if empty).
 pub struct Prefix {

@@ -1,8 +1,8 @@
 use native.Mathlib.Omega.{arith}
 use borrow.Author.Needs.{needs}
-use Rattle.reader.proofs.HeadLaws.{prefix-empty, prefix-malformed, prefix-named}
-use Rattle.reader.proofs.heading.prefix_of.Statement.{statement}
-use Rattle.reader.proofs.heading.prefix_of.Tie as tie
+use Rattle.headings.proofs.HeadLaws.{prefix-empty, prefix-malformed, prefix-named}
+use Rattle.headings.proofs.heads.prefix_of.Statement.{statement}
+use Rattle.headings.proofs.heads.prefix_of.Tie as tie
 
 spaces-requires : tie.Need-spaces-requires
 spaces-requires c κs = search needs

@@ -4,9 +4,9 @@ use mathlib.Core.Logic.{⊎-elim}
 use Prim.Native.Nat.{ℕ, _-_, _≤_}
 use native.Mathlib.Omega.{arith}
 use borrow.Author.Count.{below-none, below-more}
-use Rattle.reader.specs.Posts.{NoEnd, stride}
-use Rattle.reader.proofs.ends.has_end.Statement.{statement}
-use Rattle.reader.proofs.ends.has_end.Tie as tie
+use Rattle.headings.specs.Posts.{NoEnd, stride}
+use Rattle.headings.proofs.ends.has_end.Statement.{statement}
+use Rattle.headings.proofs.ends.has_end.Tie as tie
 
 abbrev Inv-loop : tie.InvT-loop
 Inv-loop part found₀ j₀ found j = (j ≤ stride) × (found ≡ false → NoEnd part j)

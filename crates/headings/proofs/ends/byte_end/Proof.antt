@@ -1,9 +1,9 @@
 use native.Mathlib.Omega.{arith}
 use Prim.Native.Nat.{_-_}
 use lib.ListN.{length}
-use Rattle.reader.proofs.LineEndLaws.{NoEndSoFar, no-end-start, no-end-more, line-ends-here, book-ends-here}
-use Rattle.reader.proofs.ends.byte_end.Statement.{statement}
-use Rattle.reader.proofs.ends.byte_end.Tie as tie
+use Rattle.headings.proofs.LineEndLaws.{NoEndSoFar, no-end-start, no-end-more, line-ends-here, book-ends-here}
+use Rattle.headings.proofs.ends.byte_end.Statement.{statement}
+use Rattle.headings.proofs.ends.byte_end.Tie as tie
 
 abbrev Inv-loop : tie.InvT-loop
 Inv-loop book at i₀ i = NoEndSoFar book at i

@@ -1,0 +1,3 @@
+-- Where a line ends, and its heading.
+pub mod ReadLine
+pub mod Posts
