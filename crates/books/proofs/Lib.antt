@@ -1,5 +1,4 @@
 -- Laws that the proofs of several functions cite.
-pub mod RowLaws
 pub mod StoreLaws
 pub mod ReadLaws
 pub mod HintLaws

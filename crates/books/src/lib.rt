@@ -2,7 +2,6 @@
 // the contracts.
 mod admission;
 mod lines;
-mod rows;
 
 pub use admission::Admission;
 pub use admission::admit;

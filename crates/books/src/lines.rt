@@ -1,7 +1,4 @@
 // The lines of a book, one after the other.
-use crate::rows::has_room;
-use crate::rows::put_row;
-use crate::rows::sum;
 use categories::Checked;
 use categories::check_cells;
 use cells::READER_UNITS;
@@ -17,6 +14,9 @@ use names::identifier;
 use names::note;
 use reader::Line;
 use reader::read_line;
+use storage::has_room;
+use storage::put_row;
+use storage::sum;
 ghost use mathlib.Core.Path.{_≡_};
 ghost use mathlib.Core.List.{List, [], _∷_};
 ghost use Prim.Native.Nat.{ℕ, _+_, _<_, _≤_};

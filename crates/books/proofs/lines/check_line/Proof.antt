@@ -3,7 +3,7 @@ use Prim.Native.Nat.{suc, _+_, _*_, _≤_, _<_}
 use native.Mathlib.Omega.{arith}
 use lib.ListN.{length}
 use Rattle.aut68.specs.Sizes.{lineLimit, rowWidth}
-use Rattle.books.proofs.RowLaws.{room-facts}
+use Rattle.storage.proofs.RowLaws.{room-facts}
 use Rattle.books.proofs.LineLaws.{line-as, ends-unread, ends-full, ends-refused, ends-passed}
 use borrow.Author.Needs.{needs}
 use Rattle.books.proofs.lines.check_line.Statement.{statement}

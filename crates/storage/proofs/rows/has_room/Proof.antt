@@ -1,9 +1,9 @@
 -- `has_room`: each test that fails is one of the procedure's.
 use native.Mathlib.Omega.{arith}
-use Rattle.books.proofs.RowLaws.{too-many-lines, no-row, no-cells, room-by-size}
+use Rattle.storage.proofs.RowLaws.{too-many-lines, no-row, no-cells, room-by-size}
 use borrow.Author.Needs.{needs}
-use Rattle.books.proofs.rows.has_room.Statement.{statement}
-use Rattle.books.proofs.rows.has_room.Tie as tie
+use Rattle.storage.proofs.rows.has_room.Statement.{statement}
+use Rattle.storage.proofs.rows.has_room.Tie as tie
 
 returns : tie.Need-returns
 returns c = let a = c .before .args in too-many-lines (a .table) (a .terms) (a .lines) (a .used) (a .size) (omega arith)

@@ -1,10 +1,10 @@
 -- `put_row`: eight cells one after the other.
 use mathlib.Core.Path.{_∙_}
 use Rattle.cells.specs.Cells.{Below}
-use Rattle.books.proofs.RowLaws.{row-put}
+use Rattle.storage.proofs.RowLaws.{row-put}
 use borrow.Author.Needs.{needs}
-use Rattle.books.proofs.rows.put_row.Statement.{statement}
-use Rattle.books.proofs.rows.put_row.Tie as tie
+use Rattle.storage.proofs.rows.put_row.Statement.{statement}
+use Rattle.storage.proofs.rows.put_row.Tie as tie
 
 put-field-requires : tie.Need-put-field-requires
 put-field-requires c κs = search needs

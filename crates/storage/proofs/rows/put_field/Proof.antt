@@ -3,8 +3,8 @@ use mathlib.Core.Path.{sym}
 use native.Mathlib.Omega.{arith}
 use lib.Seq.{set-out}
 use borrow.Author.Needs.{needs}
-use Rattle.books.proofs.rows.put_field.Statement.{statement}
-use Rattle.books.proofs.rows.put_field.Tie as tie
+use Rattle.storage.proofs.rows.put_field.Statement.{statement}
+use Rattle.storage.proofs.rows.put_field.Tie as tie
 
 returns : tie.Need-returns
 returns c = λ h k. absurd (omega arith)
