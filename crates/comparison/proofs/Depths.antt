@@ -16,7 +16,8 @@ use Rattle.cells.specs.Layout.{unitAt, sideUnit, scratchUnit, unit-next, unit-b
 use Rattle.cells.specs.Results.{Result, passed, refused}
 use Rattle.cells.specs.Stores.{outside-same, outside-then, outside-more, at-before}
 use Rattle.reduction.specs.Book.{Book}
-use Rattle.comparison.specs.Posts.{Side, Pair, Compares, ComparesParts, Placed, Goes, identically, toParts, onward, tooFar, spent, Settles}
+use Rattle.sides.specs.Posts.{Side, Pair, Placed, Goes, identically, toParts, onward, tooFar, spent, Settles}
+use Rattle.comparison.specs.Posts.{Compares, ComparesParts}
 
 -- ---- no level is left, or there are no such levels or units
 

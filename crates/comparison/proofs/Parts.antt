@@ -20,10 +20,11 @@ use Rattle.cells.specs.Posts.{Skipped}
 use Rattle.cells.specs.Results.{Result, passed, refused, code-nonzero, then-refused}
 use Rattle.cells.specs.Stores.{outside-same, outside-then, outside-more, outside-below}
 use Rattle.reduction.specs.Book.{Book, category-wf}
-use Rattle.comparison.specs.Posts.{Side, Pair, Compares, ComparesParts}
-use Rattle.comparison.proofs.Heads.{EachKnown, known-parts}
+use Rattle.sides.specs.Posts.{Side, Pair}
+use Rattle.sides.proofs.Heads.{EachKnown, known-parts}
+use Rattle.sides.proofs.Places.{at-whole}
+use Rattle.comparison.specs.Posts.{Compares, ComparesParts}
 use Rattle.comparison.proofs.Depths.{result-is}
-use Rattle.comparison.proofs.Places.{at-whole}
 
 -- where the sides of the parts begin: the sides themselves lie below
 abbrev pub below : ℕ → ℕ → ℕ

@@ -5,9 +5,6 @@
 ghost use mathlib.Core.Path.{_≡_};
 ghost use Prim.Native.Nat.{ℕ};
 ghost use Rattle.comparison.specs.Posts.{Compares, ComparesParts};
-
-mod sides;
-
 use cells::kids;
 use cells::side_at;
 use cells::skip;

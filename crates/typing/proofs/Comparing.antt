@@ -12,7 +12,8 @@ use Rattle.calculus.specs.Resolved.{KnownCategory}
 use Rattle.cells.specs.Layout.{levels, unitAt, levelUnit, sideUnit}
 use Rattle.cells.specs.Forests.{size-is-length}
 use Rattle.cells.specs.Stores.{at-before}
-use Rattle.comparison.specs.Posts.{Compares, Side}
+use Rattle.sides.specs.Posts.{Side}
+use Rattle.comparison.specs.Posts.{Compares}
 use Rattle.levels.specs.Places.{Lies}
 use Rattle.levels.specs.Spots.{level-below}
 use Rattle.typing.specs.ComparisonPosts.{ComparePost}

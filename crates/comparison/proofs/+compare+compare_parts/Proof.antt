@@ -15,7 +15,7 @@ use Rattle.comparison.proofs.+compare+compare_parts.Lts-compare_parts a
 use Rattle.cells.proofs.side_at.Reads as side-at-reads
 use Rattle.cells.proofs.kids.Reads as kids-reads
 use Rattle.cells.proofs.skip.Reads as skip-reads
-use Rattle.comparison.proofs.sides.settle.Reads as settle-reads
+use Rattle.sides.proofs.settle.Reads as settle-reads
 use Rattle.comparison.proofs.+compare+compare_parts.{statement}
 use Rattle.comparison.proofs.+compare+compare_parts.Tie.{close}
 

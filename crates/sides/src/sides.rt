@@ -1,7 +1,7 @@
 // Head steps in two sides until they are identical or neither has one.
 ghost use mathlib.Core.Path.{_≡_};
 ghost use Prim.Native.Nat.{ℕ, _+_};
-ghost use Rattle.comparison.specs.Posts.{SaysIdentical, SaysSame, Chooses, Proceeds, Settles};
+ghost use Rattle.sides.specs.Posts.{SaysIdentical, SaysSame, Chooses, Proceeds, Settles};
 use cells::extent;
 use cells::kids;
 use cells::move_cells;
@@ -22,7 +22,7 @@ pub struct Progress {
 }
 
 // Are the sides of n and m cells at l and r identical?
-fn identical(w: &[Cell], l: usize, n: usize, r: usize, m: usize) -> bool
+pub fn identical(w: &[Cell], l: usize, n: usize, r: usize, m: usize) -> bool
     ensures { λ x. ⌜ SaysIdentical (now (w .entry)) l n r m x ⌝ }
 {
     if n != m {
@@ -32,7 +32,7 @@ fn identical(w: &[Cell], l: usize, n: usize, r: usize, m: usize) -> bool
 }
 
 // Are the expressions at a and b identical? They are compared where they lie.
-fn same_expression(table: &[u32], w: &[Cell], a: usize, b: usize) -> bool
+pub fn same_expression(table: &[u32], w: &[Cell], a: usize, b: usize) -> bool
     ensures { λ x. ⌜ SaysSame (now (table .entry)) (now (w .entry)) a b x ⌝ }
 {
     let mut i = a;
@@ -60,7 +60,7 @@ fn same_expression(table: &[u32], w: &[Cell], a: usize, b: usize) -> bool
 }
 
 // The side of the next head step, by the kind and the line of each side's: 0 none, 1 left, 2 right (choose).
-fn choose(kind: u32, line: usize, other_kind: u32, other_line: usize) -> u32
+pub fn choose(kind: u32, line: usize, other_kind: u32, other_line: usize) -> u32
     ensures { λ x. ⌜ Chooses kind line «other_kind» «other_line» x ⌝ }
 {
     if other_kind == 0 {
@@ -85,7 +85,7 @@ fn choose(kind: u32, line: usize, other_kind: u32, other_line: usize) -> u32
 }
 
 // One head step in the sides of n and m cells at l and r, if one is next.
-fn turn(
+pub fn turn(
     table: &[u32],
     terms: &[Cell],
     w: &mut [Cell],

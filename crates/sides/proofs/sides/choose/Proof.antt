@@ -1,7 +1,7 @@
 -- `choose`: each clause of the choice.
 use borrow.Author.Needs.{needs}
-use Rattle.comparison.proofs.sides.choose.Statement.{statement}
-use Rattle.comparison.proofs.sides.choose.Tie as tie
+use Rattle.sides.proofs.sides.choose.Statement.{statement}
+use Rattle.sides.proofs.sides.choose.Tie as tie
 
 -- two unfoldings: the larger line
 returns-6 : tie.Need-returns-6

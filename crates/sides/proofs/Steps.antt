@@ -22,10 +22,10 @@ use Rattle.reduction.specs.Frames.{Framed, at-framed, framed-frame}
 use Rattle.reduction.specs.Heads.{HeadIs}
 use Rattle.reduction.specs.Posts.{HeadPost, StepPost}
 use Rattle.reduction.specs.declared.heads.Head.{Head}
-use Rattle.comparison.specs.Posts.{Side, Pair, Placed, SaysIdentical, Chooses, Goes, identically, toParts, onward, tooFar, spent, Proceeds}
-use Rattle.comparison.proofs.Turns.{Which, theLeft, theRight, number, pick, stepIn}
-use Rattle.comparison.proofs.Turns.{sides-same, sides-parts, sides-spent, sides-step, sides-large, next-same, next-choice, Choice, neither, chosen, choice}
-use Rattle.comparison.proofs.Heads.{head-numbered, head-some, StepIs, made, large, step-is}
+use Rattle.sides.specs.Posts.{Side, Pair, Placed, SaysIdentical, Chooses, Goes, identically, toParts, onward, tooFar, spent, Proceeds}
+use Rattle.sides.proofs.Turns.{Which, theLeft, theRight, number, pick, stepIn}
+use Rattle.sides.proofs.Turns.{sides-same, sides-parts, sides-spent, sides-step, sides-large, next-same, next-choice, Choice, neither, chosen, choice}
+use Rattle.sides.proofs.Heads.{head-numbered, head-some, StepIs, made, large, step-is}
 
 answered : {tb ts w : List ℕ} {limit l n r m : ℕ} {answer : Bool} → SaysIdentical w l n r m answer → (ls : Lines) (k : ℕ) (e f : Expr)
     → Book ls limit tb ts → Pair ls limit k w l r e f → n ≡ size e → m ≡ size f → answer ≡ identical e f

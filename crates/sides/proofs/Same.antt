@@ -12,8 +12,8 @@ use Rattle.calculus.specs.Shapes.{identical-same}
 use Rattle.cells.specs.Cells.{At, Wf, AnyVariable, partsAfter, sameCells}
 use Rattle.cells.specs.Forests.{Pending, pending-one, pending-long, pending-ends, pass-cell, at-inside, cells-unique}
 use Rattle.reduction.specs.Sides.{identical-self, same-cells-identical}
-use Rattle.comparison.specs.Posts.{SaysIdentical, SaysSame}
-use Rattle.comparison.proofs.Places.{at-cell}
+use Rattle.sides.specs.Posts.{SaysIdentical, SaysSame}
+use Rattle.sides.proofs.Places.{at-cell}
 
 -- sides that differ
 identical-not : (e f : Expr) → (e ≡ f → ⊥) → identical e f ≡ false

@@ -1,10 +1,10 @@
 -- `turn`: identical sides, no step, no budget, or a step in the chosen side. cN is c, N steps before.
 use native.Mathlib.Omega.{arith}
-use Rattle.comparison.proofs.Steps.{Decided, turn-same, turn-parts, turn-spent, turn-step, turn-large}
-use Rattle.comparison.proofs.Turns.{theLeft, theRight}
+use Rattle.sides.proofs.Steps.{Decided, turn-same, turn-parts, turn-spent, turn-step, turn-large}
+use Rattle.sides.proofs.Turns.{theLeft, theRight}
 use borrow.Author.Needs.{needs}
-use Rattle.comparison.proofs.sides.turn.Statement.{statement}
-use Rattle.comparison.proofs.sides.turn.Tie as tie
+use Rattle.sides.proofs.sides.turn.Statement.{statement}
+use Rattle.sides.proofs.sides.turn.Tie as tie
 
 -- what is known where the side is chosen
 decided : (c : tie.After-choose)

@@ -3,9 +3,9 @@ use mathlib.Core.Path.{_≡_}
 use Prim.Native.Nat.{_+_, _-_, _≤_}
 use native.Mathlib.Omega.{arith}
 use lib.ListN.{length}
-use Rattle.comparison.proofs.Same.{Agree, agree-none, agree-more, past-first, past-second, cells-differ, cells-agree}
-use Rattle.comparison.proofs.sides.same_expression.Statement.{statement}
-use Rattle.comparison.proofs.sides.same_expression.Tie as tie
+use Rattle.sides.proofs.Same.{Agree, agree-none, agree-more, past-first, past-second, cells-differ, cells-agree}
+use Rattle.sides.proofs.sides.same_expression.Statement.{statement}
+use Rattle.sides.proofs.sides.same_expression.Tie as tie
 
 abbrev Inv-loop : tie.InvT-loop
 Inv-loop table w a b i₀ j₀ pending₀ i j pending =

@@ -3,10 +3,10 @@ use mathlib.Core.Path.{_≡_, refl, _∙_}
 use native.Mathlib.Omega.{arith}
 use lib.ListN.{length}
 use borrow.Author.Needs.{needs}
-use Rattle.comparison.specs.Posts.{Proceeds}
-use Rattle.comparison.proofs.Settling.{proceed-none, proceed-then, proceed-on, settled-same, settled}
-use Rattle.comparison.proofs.sides.settle.Statement.{statement}
-use Rattle.comparison.proofs.sides.settle.Tie as tie
+use Rattle.sides.specs.Posts.{Proceeds}
+use Rattle.sides.proofs.Settling.{proceed-none, proceed-then, proceed-on, settled-same, settled}
+use Rattle.sides.proofs.sides.settle.Statement.{statement}
+use Rattle.sides.proofs.sides.settle.Tie as tie
 
 abbrev Inv-loop : tie.InvT-loop
 Inv-loop table terms w₀ limit budget a b l r n m left₀ right₀ rest₀ w left right rest =

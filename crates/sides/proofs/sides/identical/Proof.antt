@@ -1,8 +1,8 @@
 -- `identical`: sides of other sizes differ; of one size, the cells say.
 use borrow.Author.Needs.{needs}
-use Rattle.comparison.proofs.Same.{other-sizes, of-one-size}
-use Rattle.comparison.proofs.sides.identical.Statement.{statement}
-use Rattle.comparison.proofs.sides.identical.Tie as tie
+use Rattle.sides.proofs.Same.{other-sizes, of-one-size}
+use Rattle.sides.proofs.sides.identical.Statement.{statement}
+use Rattle.sides.proofs.sides.identical.Tie as tie
 
 returns : tie.Need-returns
 returns c = other-sizes (c .if1 .taken)

@@ -19,9 +19,9 @@ use Rattle.cells.specs.CopyLaws.{move-outside, move-at}
 use Rattle.cells.specs.Layout.{unit-inside, scratchUnit}
 use Rattle.reduction.specs.Book.{Book, category-wf}
 use Rattle.reduction.specs.Frames.{frame-of}
-use Rattle.comparison.specs.Posts.{Pair, Placed, Goes, identically, toParts, onward, tooFar, spent, Proceeds, Settles, SaysSame}
-use Rattle.comparison.proofs.Places.{at-whole, at-under}
-use Rattle.comparison.proofs.Turns.{sides-same, next-same}
+use Rattle.sides.specs.Posts.{Pair, Placed, Goes, identically, toParts, onward, tooFar, spent, Proceeds, Settles, SaysSame}
+use Rattle.sides.proofs.Places.{at-whole, at-under}
+use Rattle.sides.proofs.Turns.{sides-same, next-same}
 
 -- ---- one turn after another
 

@@ -1,0 +1,7 @@
+-- Laws of the sides.
+pub mod Places
+pub mod Turns
+pub mod Heads
+pub mod Same
+pub mod Steps
+pub mod Settling

@@ -1,0 +1,2 @@
+-- What is said of a pair of sides.
+pub mod Posts

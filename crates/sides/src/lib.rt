@@ -1,0 +1,10 @@
+// What a comparison does with one pair of sides at one depth: whether they are identical, the side of the next head step, a step,
+// and all head steps.
+mod sides;
+
+pub use sides::Progress;
+pub use sides::choose;
+pub use sides::identical;
+pub use sides::same_expression;
+pub use sides::settle;
+pub use sides::turn;
