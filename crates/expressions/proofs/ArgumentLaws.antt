@@ -13,7 +13,7 @@ use Rattle.aut68.specs.Procedure.Parse.{arguments}
 use Rattle.aut68.specs.Procedure.Resolve.{contextAt}
 use Rattle.symbols.specs.Symbols.{PastSymbol}
 use Rattle.cells.specs.declared.scope.Scope.{Scope}
-use Rattle.names.specs.Known.{boundNames}
+use Rattle.meanings.specs.Bindings.{boundNames}
 use Rattle.expressions.specs.declared.parts.Reading.{Reading}
 use Rattle.expressions.specs.Walk.{ReadTo, passed, SameBelow}
 use Rattle.expressions.specs.Posts.{expressionIn, goOn, Ready, Refusing, ExpressionRead, Counted, ArgumentsRead}

@@ -21,11 +21,12 @@ use Rattle.kinds.specs.Kinds.{KindsTable, kindOf, placeOr0, opensKind}
 use Rattle.symbols.specs.Symbols.{firstKind, PastSpaces, KindAt, PastSymbol}
 use Rattle.cells.specs.declared.scope.Scope.{Scope}
 use Rattle.cells.specs.Posts.{Nested, Bindable, Bound}
-use Rattle.names.specs.Known.{boundNames}
 use Rattle.names.specs.Hints.{slots}
 use Rattle.names.specs.HintLaws.{hinted-same}
-use Rattle.names.specs.NotedContext.{context-noted-same}
-use Rattle.names.proofs.PartLaws.{part-whole, nested-names, bound-names}
+use Rattle.names.proofs.PartLaws.{part-whole}
+use Rattle.meanings.specs.Bindings.{boundNames}
+use Rattle.meanings.specs.NotedContext.{context-noted-same}
+use Rattle.meanings.proofs.BindingLaws.{nested-names, bound-names}
 use Rattle.expressions.specs.declared.parts.Reading.{Reading}
 use Rattle.expressions.specs.Walk.{ReadTo, SameBelow, Written}
 use Rattle.expressions.specs.Posts.{expressionIn, namedIn, applicationIn, abstractionIn, Sized, Ready, Refusing, Onward, WrittenOne, ExpressionRead}

@@ -18,11 +18,11 @@ use Rattle.aut68.specs.Sizes.{nesting}
 use Rattle.symbols.specs.Symbols.{PastSymbol, NameAt}
 use Rattle.cells.specs.declared.scope.Scope.{Scope}
 use Rattle.cells.specs.Posts.{Nested}
-use Rattle.names.specs.Known.{boundNames}
-use Rattle.names.specs.Posts.{BindingFound}
-use Rattle.names.specs.Meanings.{Meant, MeaningFound}
-use Rattle.names.specs.declared.meanings.Meaning.{Meaning}
-use Rattle.names.proofs.PartLaws.{nested-names, bound-start, bound-nowhere}
+use Rattle.meanings.specs.Bindings.{boundNames}
+use Rattle.meanings.specs.Posts.{BindingFound}
+use Rattle.meanings.specs.Meanings.{Meant, MeaningFound}
+use Rattle.meanings.specs.declared.meanings.Meaning.{Meaning}
+use Rattle.meanings.proofs.BindingLaws.{nested-names, bound-start, bound-nowhere}
 use Rattle.expressions.specs.declared.parts.Reading.{Reading}
 use Rattle.expressions.specs.Walk.{ReadTo, passed, CellPut, Written}
 use Rattle.expressions.specs.Posts.{partIn, namedIn, goOn, Ready, Refusing, ExpressionRead, Counted, ArgumentsRead, NamePut, CountTested}

@@ -17,7 +17,7 @@ use Rattle.aut68.specs.Sizes.{nesting}
 use Rattle.symbols.specs.Symbols.{PastSymbol, NameAt}
 use Rattle.cells.specs.declared.scope.Scope.{Scope}
 use Rattle.cells.specs.Posts.{Nested, Bound}
-use Rattle.names.specs.Known.{boundNames}
+use Rattle.meanings.specs.Bindings.{boundNames}
 use Rattle.expressions.specs.declared.parts.Reading.{Reading}
 use Rattle.expressions.specs.Walk.{CellPut}
 use Rattle.expressions.specs.Posts.{applicationIn, abstractionIn, goOn, Ready, Refusing, Onward, ExpressionRead}

@@ -21,12 +21,13 @@ use Rattle.aut68.specs.Sizes.{cellFactor, nesting}
 use Rattle.lookup.specs.Answers.{done-value}
 use Rattle.cells.specs.Results.{code-nonzero}
 use Rattle.cells.specs.declared.scope.Scope.{Scope}
-use Rattle.names.specs.Known.{Known, boundNames}
+use Rattle.names.specs.Known.{Known}
 use Rattle.names.specs.Hints.{Hinted}
-use Rattle.names.specs.NotedContext.{ContextNoted}
-use Rattle.names.specs.Posts.{BindingFound}
-use Rattle.names.specs.Meanings.{cellOf, Meant, means, meansNothing}
-use Rattle.names.specs.declared.meanings.Meaning.{Meaning as MeaningOf}
+use Rattle.meanings.specs.Bindings.{boundNames}
+use Rattle.meanings.specs.NotedContext.{ContextNoted}
+use Rattle.meanings.specs.Posts.{BindingFound}
+use Rattle.meanings.specs.Meanings.{cellOf, Meant, means, meansNothing}
+use Rattle.meanings.specs.declared.meanings.Meaning.{Meaning as MeaningOf}
 use Rattle.expressions.specs.declared.parts.Reading.{Reading}
 use Rattle.expressions.specs.Posts.{NamePut, CountTested}
 use Rattle.expressions.specs.Walk.{SameBelow, CellPut, Faulted, whole, faulty, Written}

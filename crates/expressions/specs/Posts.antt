@@ -17,12 +17,13 @@ use Rattle.aut68.specs.Sizes.{nesting}
 use Rattle.cells.specs.Layout.{lineUnit, readerUnits}
 use Rattle.kinds.specs.Kinds.{KindsTable}
 use Rattle.cells.specs.declared.scope.Scope.{Scope}
-use Rattle.names.specs.Known.{Known, boundNames}
+use Rattle.names.specs.Known.{Known}
 use Rattle.names.specs.Hints.{slots, Hinted, probes}
-use Rattle.names.specs.NotedContext.{ContextNoted}
-use Rattle.names.specs.Posts.{BindingFound}
-use Rattle.names.specs.Meanings.{Meant}
-use Rattle.names.specs.declared.meanings.Meaning.{Meaning}
+use Rattle.meanings.specs.Bindings.{boundNames}
+use Rattle.meanings.specs.NotedContext.{ContextNoted}
+use Rattle.meanings.specs.Posts.{BindingFound}
+use Rattle.meanings.specs.Meanings.{Meant}
+use Rattle.meanings.specs.declared.meanings.Meaning.{Meaning}
 use Rattle.expressions.specs.declared.parts.Reading.{Reading}
 use Rattle.expressions.specs.Walk.{ReadTo, SameBelow, CellPut, Written}
 

@@ -1,7 +1,7 @@
 // The parts of a walk over an expression that call no other: how far it came, a cell and a name's cell written, counts tested.
 use constants::Cell;
-use names::Meaning;
-use names::meaning_of;
+use meanings::Meaning;
+use meanings::meaning_of;
 ghost use mathlib.Core.Path.{_≡_};
 ghost use Prim.Native.Nat.{_+_, _≤_};
 ghost use lib.ListN.{length};

@@ -10,7 +10,7 @@ use cells::bind;
 use cells::nest;
 use constants::Cell;
 use constants::NESTING;
-use names::binding;
+use meanings::binding;
 use symbols::kind_at;
 use symbols::name_at;
 use symbols::spaces;

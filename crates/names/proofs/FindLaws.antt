@@ -22,6 +22,11 @@ line-at [] v l = absurd (omega arith)
 line-at (k ∷ ls) zero l = first
 line-at (k ∷ ls) (suc v) l = later (line-at ls v (omega arith))
 
+module _ {ls : Lines} {book tb : List ℕ} {lines : ℕ} (k : Known ls book tb lines) where
+  pub lineAt : (c : ℕ) → 0 < c → c ≤ lines → (l : Line) × IsLine ls c l
+  lineAt zero p b = absurd (omega arith)
+  lineAt (suc c) p b = (getD ls c noLine, line-at ls c (omega (arith, k .count)))
+
 -- a cell of the row behind the first v rows
 pub row-cell-at : (tb : List ℕ) (v k at : ℕ) → at ≡ rowWidth * v → rowCell tb (suc v) k ≡ getD tb (at + k) 0
 row-cell-at tb v k at e =

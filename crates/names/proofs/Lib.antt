@@ -2,7 +2,4 @@
 pub mod PartLaws
 pub mod HashLaws
 pub mod FindLaws
-pub mod ContextLaws
-pub mod NotedLaws
 pub mod ProbeLaws
-pub mod MeaningLaws

@@ -19,7 +19,7 @@ use Rattle.names.specs.Known.{Known}
 use Rattle.names.specs.Hints.{slotOf, nameAt, Hinted, put, full, probes}
 use Rattle.names.specs.Posts.{numberOr, LineSought, LineFound, LineIs, NotePost}
 use Rattle.names.proofs.PartLaws.{part-whole}
-use Rattle.names.proofs.ContextLaws.{lineAt}
+use Rattle.names.proofs.FindLaws.{lineAt}
 
 -- ---- one row and the word
 

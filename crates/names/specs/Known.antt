@@ -1,19 +1,18 @@
--- What a book, a table and a count of lines say of the lines, and what a scope says of the bound names.
+-- What a book, a table and a count of lines say of the lines.
 use mathlib.Core.Path.{_≡_}
 use mathlib.Core.Bool.{true, false, _&&_}
-use mathlib.Core.List.{List, [], _∷_}
-use Prim.Native.Nat.{ℕ, zero, suc, _+_, _*_, _≤_, _<_}
+use mathlib.Core.List.{List}
+use Prim.Native.Nat.{ℕ, _+_, _*_, _≤_, _<_}
 use lib.Dec.{leb}
-use lib.ListN.{length, getD}
+use lib.ListN.{length}
 use denote.Ref.{RefT}
 use lib.Seq.{slice}
 use Rattle.aut68.specs.Bytes.{Bytes}
-use Rattle.aut68.specs.Lines.{partOf, identifierPart, Line, Lines, rowCell}
+use Rattle.aut68.specs.Lines.{identifierPart, Line, Lines, rowCell}
 use Rattle.aut68.specs.Rules.Names.{IsLine, Context}
 use Rattle.aut68.specs.Sizes.{lineLimit, rowWidth, atNameStart, atNameLength}
 use Rattle.lookup.specs.Identifiers.{Distinct}
 use Rattle.cells.specs.Rows.{Rows, Named}
-use Rattle.cells.specs.declared.scope.Scope.{Scope}
 
 -- the first `lines` rows of the table are those of the lines ls, whose names stand in the book
 pub record Known (ls : Lines) (book tb : List ℕ) (lines : ℕ) : Type 0 where
@@ -24,14 +23,6 @@ pub record Known (ls : Lines) (book tb : List ℕ) (lines : ℕ) : Type 0 where
   pub contexts : {v : ℕ} {l : Line} → IsLine ls v l → Context ls (l .indicator) (l .context)
   pub distinct : Distinct ls
   pub behind : {v : ℕ} {l : Line} → IsLine ls v l → l .indicator < v
-
--- the bound names of the first n bindings, innermost first
-unfoldable pub namesFrom : Bytes → List ℕ → List ℕ → ℕ → List Bytes
-namesFrom s starts lens zero = []
-namesFrom s starts lens (suc i) = partOf s (getD starts i 0) (getD lens i 0) ∷ namesFrom s starts lens i
-
-unfoldable pub boundNames : Bytes → Scope → List Bytes
-boundNames s scope = namesFrom s (scope .starts) (scope .lens) (scope .bound)
 
 -- the part r of what s lends: the same memory, from index `start` on, with these bytes
 pub record PartLent (s r : RefT (List ℕ)) (start : ℕ) (bytes : Bytes) : Type 0 where

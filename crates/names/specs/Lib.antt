@@ -1,7 +1,5 @@
--- What names mean, by the rows of the earlier lines and the bindings around an expression.
+-- Lines by their identifiers, by rows and by hints.
 pub mod Known
 pub mod Hints
 pub mod HintLaws
-pub mod NotedContext
 pub mod Posts
-pub mod Meanings

@@ -17,7 +17,7 @@ use Rattle.symbols.specs.Symbols.{PastSymbol}
 use Rattle.headings.specs.ReadLine.{afterHeading}
 use Rattle.names.specs.Hints.{slots}
 use Rattle.names.specs.HintLaws.{hinted-same}
-use Rattle.names.specs.NotedContext.{context-noted-same}
+use Rattle.meanings.specs.NotedContext.{context-noted-same}
 use Rattle.expressions.specs.declared.parts.Reading.{Reading}
 use Rattle.expressions.specs.Walk.{ReadTo, passed}
 use Rattle.expressions.specs.Posts.{goOn, Refusing}

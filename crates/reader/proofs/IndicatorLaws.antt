@@ -19,8 +19,8 @@ use Rattle.headings.proofs.HeadLaws.{name-none, name-some}
 use Rattle.names.specs.Known.{Known}
 use Rattle.names.specs.Hints.{Hinted}
 use Rattle.names.specs.Posts.{LineFound}
-use Rattle.names.proofs.MeaningLaws.{option-none, option-some, number-positive}
-use Rattle.names.proofs.ContextLaws.{lineAt}
+use Rattle.names.proofs.FindLaws.{lineAt}
+use Rattle.meanings.proofs.MeaningLaws.{option-none, option-some, number-positive}
 use Rattle.reader.specs.Posts.{IndicatorFound, isLine, noLine}
 
 indicator-none : (ls : Lines) → indicatorLine ls none tt ≡ found 0

@@ -30,7 +30,8 @@ use Rattle.headings.specs.Posts.{HeadRead}
 use Rattle.names.specs.Known.{Known}
 use Rattle.names.specs.Hints.{slots, Hinted, probes}
 use Rattle.names.specs.HintLaws.{slots-fit, hinted-same}
-use Rattle.names.specs.Posts.{LineFound, ContextPost}
+use Rattle.names.specs.Posts.{LineFound}
+use Rattle.meanings.specs.Posts.{ContextPost}
 use Rattle.expressions.specs.declared.parts.Reading.{Reading}
 use Rattle.expressions.specs.Walk.{ReadTo, passed, refused, SameBelow}
 use Rattle.expressions.proofs.StoreLaws.{below-same, below-then, part-append, part-stays}

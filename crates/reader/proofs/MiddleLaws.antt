@@ -22,7 +22,7 @@ use Rattle.symbols.specs.Symbols.{PastSpaces, WordEnd}
 use Rattle.symbols.proofs.SymbolLaws.{part}
 use Rattle.symbols.proofs.WordLaws.{word-ahead, past-word}
 use Rattle.cells.specs.declared.scope.Scope.{Scope}
-use Rattle.names.proofs.PartLaws.{no-names}
+use Rattle.meanings.proofs.BindingLaws.{no-names}
 use Rattle.expressions.specs.declared.parts.Reading.{Reading}
 use Rattle.expressions.specs.Walk as Walk
 use Rattle.expressions.specs.Walk.{ReadTo, passed, Faulted, whole, faulty, CellPut}

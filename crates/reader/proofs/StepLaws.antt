@@ -25,8 +25,8 @@ use Rattle.cells.specs.Results as Results
 use Rattle.names.specs.Known.{Known}
 use Rattle.names.specs.Hints.{Hinted}
 use Rattle.names.specs.Posts.{LineFound}
-use Rattle.names.proofs.MeaningLaws.{option-none, option-some, number-positive}
-use Rattle.names.proofs.ContextLaws.{lineAt}
+use Rattle.names.proofs.FindLaws.{lineAt}
+use Rattle.meanings.proofs.MeaningLaws.{option-none, option-some, number-positive}
 use Rattle.expressions.specs.Walk.{ReadTo, passed, refused, Faulted, whole, faulty}
 use Rattle.reader.specs.Posts.{middleNumber, IndicatorFound, isLine, noLine}
 

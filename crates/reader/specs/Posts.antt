@@ -24,7 +24,7 @@ use Rattle.kinds.specs.Kinds.{KindsTable}
 use Rattle.headings.specs.ReadLine.{afterHeading}
 use Rattle.names.specs.Known.{Known}
 use Rattle.names.specs.Hints.{slots, Hinted, probes}
-use Rattle.names.specs.NotedContext.{ContextNoted}
+use Rattle.meanings.specs.NotedContext.{ContextNoted}
 use Rattle.expressions.specs.declared.parts.Reading.{Reading}
 use Rattle.expressions.specs.Walk as Walk
 use Rattle.expressions.specs.Walk.{ReadTo, SameBelow}

@@ -36,7 +36,7 @@ use Rattle.cells.proofs.nest.Reads as nest
 use Rattle.expressions.proofs.parts.counted.Reads as counted
 use Rattle.expressions.proofs.parts.opens.Reads as opens
 use Rattle.expressions.proofs.parts.put.Reads as put
-use Rattle.names.proofs.binding.Reads as binding
+use Rattle.meanings.proofs.binding.Reads as binding
 use Rattle.expressions.proofs.parts.put_name.Reads as put-name
 use Rattle.expressions.proofs.parts.refused.Reads as refused
 use Rattle.symbols.proofs.kind_at.Reads as kind-at

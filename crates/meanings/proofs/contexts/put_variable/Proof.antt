@@ -1,8 +1,8 @@
 use native.Mathlib.Omega.{arith}
 use borrow.Author.Needs.{needs}
-use Rattle.names.proofs.NotedLaws.{not-put, was-put}
-use Rattle.names.proofs.contexts.put_variable.Statement.{statement}
-use Rattle.names.proofs.contexts.put_variable.Tie as tie
+use Rattle.meanings.proofs.NotedLaws.{not-put, was-put}
+use Rattle.meanings.proofs.contexts.put_variable.Statement.{statement}
+use Rattle.meanings.proofs.contexts.put_variable.Tie as tie
 
 returns : tie.Need-returns
 returns c = not-put (λ s u. omega arith)

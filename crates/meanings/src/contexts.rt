@@ -6,7 +6,7 @@ use constants::CELL_VALUES;
 use constants::CONTEXT_LENGTH;
 use constants::Cell;
 use constants::INDICATOR;
-ghost use Rattle.names.specs.Posts.{OnChain, InContext, VariablePut, ContextPost};
+ghost use Rattle.meanings.specs.Posts.{OnChain, InContext, VariablePut, ContextPost};
 
 // How many variables are noted.
 const NOTED_VARIABLES: usize = 64;

@@ -4,9 +4,9 @@ use Prim.Native.Nat.{_+_, _*_, _/_}
 use lib.ListN.{length}
 use borrow.Author.Needs.{needs}
 use Rattle.cells.specs.Layout.{contextUnit, readerUnits}
-use Rattle.names.proofs.NotedLaws.{in-no-context, number-too-large, number-noted, by-chain}
-use Rattle.names.proofs.contexts.in_context.Statement.{statement}
-use Rattle.names.proofs.contexts.in_context.Tie as tie
+use Rattle.meanings.proofs.NotedLaws.{in-no-context, number-too-large, number-noted, by-chain}
+use Rattle.meanings.proofs.contexts.in_context.Statement.{statement}
+use Rattle.meanings.proofs.contexts.in_context.Tie as tie
 
 returns : tie.Need-returns
 returns c = in-no-context (c .if1 .taken)

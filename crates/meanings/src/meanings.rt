@@ -1,7 +1,5 @@
 // What names mean: bound names, lines, variables of the context. specs/Meanings has the contracts.
 use crate::contexts::in_context;
-use crate::names::find;
-use crate::names::part_is;
 use cells::Scope;
 use cells::field;
 use constants::CELL_FACTOR;
@@ -11,9 +9,11 @@ use constants::KIND;
 use constants::LINE_LIMIT;
 use constants::NESTING;
 use constants::UNKNOWN_NAME;
+use names::find;
+use names::part_is;
 ghost use mathlib.Core.Path.{_≡_};
-ghost use Rattle.names.specs.Posts.{BindingFound};
-ghost use Rattle.names.specs.Meanings.{SoughtFound, MeaningFound};
+ghost use Rattle.meanings.specs.Posts.{BindingFound};
+ghost use Rattle.meanings.specs.Meanings.{SoughtFound, MeaningFound};
 
 fn wide(x: u32) -> usize
     ensures { λ r. ⌜ r ≡ x ⌝ }

@@ -10,11 +10,12 @@ use Rattle.aut68.specs.Procedure.Resolve.{found, refused, Meaning, aBound, aVar
 use Rattle.aut68.specs.Procedure.Resolve as Resolve
 use Rattle.aut68.specs.Sizes.{cellFactor, lineLimit, nesting}
 use Rattle.cells.specs.declared.scope.Scope.{Scope}
-use Rattle.names.specs.Known.{Known, boundNames}
+use Rattle.names.specs.Known.{Known}
 use Rattle.names.specs.Hints.{Hinted}
-use Rattle.names.specs.NotedContext.{ContextNoted}
-use Rattle.names.specs.Posts.{BindingFound}
-use Rattle.names.specs.declared.meanings.Sought.{Sought}
+use Rattle.meanings.specs.Bindings.{boundNames}
+use Rattle.meanings.specs.NotedContext.{ContextNoted}
+use Rattle.meanings.specs.Posts.{BindingFound}
+use Rattle.meanings.specs.declared.meanings.Sought.{Sought}
 
 -- what the procedure's lookup tells, of an answer of the code: a line's kind is 0 for `EB`
 unfoldable pub told : Sought → Resolve.Sought

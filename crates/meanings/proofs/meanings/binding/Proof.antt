@@ -1,8 +1,8 @@
 use native.Mathlib.Omega.{arith}
 use mathlib.Core.Path.{sym, _∙_}
-use Rattle.names.proofs.PartLaws.{BoundSoFar, bound-start, bound-more, bound-found, bound-nowhere, bound-too-many}
-use Rattle.names.proofs.meanings.binding.Statement.{statement}
-use Rattle.names.proofs.meanings.binding.Tie as tie
+use Rattle.meanings.proofs.BindingLaws.{BoundSoFar, bound-start, bound-more, bound-found, bound-nowhere, bound-too-many}
+use Rattle.meanings.proofs.meanings.binding.Statement.{statement}
+use Rattle.meanings.proofs.meanings.binding.Tie as tie
 
 abbrev Inv-loop : tie.InvT-loop
 Inv-loop line word scope bindings i₀ i = BoundSoFar line scope word i

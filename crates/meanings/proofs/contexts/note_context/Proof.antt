@@ -1,7 +1,7 @@
 use native.Mathlib.Omega.{arith}
-use Rattle.names.proofs.NotedLaws.{NotedSoFar, noted-start, noted-all, noted-broken, noted-enough, noted-more}
-use Rattle.names.proofs.contexts.note_context.Statement.{statement}
-use Rattle.names.proofs.contexts.note_context.Tie as tie
+use Rattle.meanings.proofs.NotedLaws.{NotedSoFar, noted-start, noted-all, noted-broken, noted-enough, noted-more}
+use Rattle.meanings.proofs.contexts.note_context.Statement.{statement}
+use Rattle.meanings.proofs.contexts.note_context.Tie as tie
 
 abbrev Inv-loop : tie.InvT-loop
 Inv-loop table w₀ last end c₀ w c = NotedSoFar table w₀ w last c

@@ -15,12 +15,13 @@ use Rattle.aut68.specs.Procedure.Resolve as Resolve
 use Rattle.aut68.specs.Sizes.{cellFactor, lineLimit, nesting, atContext, atKind}
 use Rattle.lookup.specs.LineNumbers.{line-lineOf, line-positive}
 use Rattle.lookup.specs.Identifiers.{number-sound}
 use Rattle.names.specs.Known.{Known}
 use Rattle.names.specs.Hints.{Hinted}
-use Rattle.names.specs.Posts.{numberOr, LineFound, InContext}
-use Rattle.names.specs.Meanings.{told, SoughtFound, cellOf, Meant, means, meansNothing, MeaningFound}
-use Rattle.names.specs.declared.meanings.Sought.{Sought}
-use Rattle.names.proofs.ContextLaws.{lineAt}
+use Rattle.names.specs.Posts.{numberOr, LineFound}
+use Rattle.names.proofs.FindLaws.{lineAt}
+use Rattle.meanings.specs.Posts.{InContext}
+use Rattle.meanings.specs.Meanings.{told, SoughtFound, cellOf, Meant, means, meansNothing, MeaningFound}
+use Rattle.meanings.specs.declared.meanings.Sought.{Sought}
 
 -- ---- numbers of options
 

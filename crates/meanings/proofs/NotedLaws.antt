@@ -18,10 +18,11 @@ use Rattle.lookup.specs.Contexts.{line-context, context-unique}
 use Rattle.cells.specs.Cells.{Outside}
 use Rattle.cells.specs.Stores.{outside-same, outside-then, outside-more, outside-sets}
 use Rattle.cells.specs.Layout.{contextUnit, lineUnit, readerUnits}
 use Rattle.names.specs.Known.{Known}
-use Rattle.names.specs.Posts.{OnChain, InContext, VariablePut, ContextPost}
-use Rattle.names.proofs.ContextLaws.{lineAt, context-is, zero-context}
-use Rattle.names.specs.NotedContext.{variableAt, notedVariables}
+use Rattle.names.proofs.FindLaws.{lineAt}
+use Rattle.meanings.specs.Posts.{OnChain, InContext, VariablePut, ContextPost}
+use Rattle.meanings.proofs.ContextLaws.{context-is, zero-context}
+use Rattle.meanings.specs.NotedContext.{variableAt, notedVariables}
 
 -- ---- members by their numbers
 

@@ -1,8 +1,8 @@
 use native.Mathlib.Omega.{arith}
 use borrow.Author.Needs.{needs}
-use Rattle.names.proofs.MeaningLaws.{sought-nothing, sought-too-many, sought-constant, sought-variable, sought-outside}
-use Rattle.names.proofs.meanings.look_up.Statement.{statement}
-use Rattle.names.proofs.meanings.look_up.Tie as tie
+use Rattle.meanings.proofs.MeaningLaws.{sought-nothing, sought-too-many, sought-constant, sought-variable, sought-outside}
+use Rattle.meanings.proofs.meanings.look_up.Statement.{statement}
+use Rattle.meanings.proofs.meanings.look_up.Tie as tie
 
 find-requires : tie.Need-find-requires
 find-requires c κs = search needs

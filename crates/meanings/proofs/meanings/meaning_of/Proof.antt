@@ -2,10 +2,10 @@ use native.Mathlib.Omega.{arith}
 use borrow.Author.Needs.{needs}
 use mathlib.Core.Path.{refl}
 use Rattle.aut68.specs.Procedure.Resolve.{answered}
-use Rattle.names.specs.Meanings.{told}
-use Rattle.names.proofs.MeaningLaws.{means-bound, means-nothing, means-variable, means-constant}
-use Rattle.names.proofs.meanings.meaning_of.Statement.{statement}
-use Rattle.names.proofs.meanings.meaning_of.Tie as tie
+use Rattle.meanings.specs.Meanings.{told}
+use Rattle.meanings.proofs.MeaningLaws.{means-bound, means-nothing, means-variable, means-constant}
+use Rattle.meanings.proofs.meanings.meaning_of.Statement.{statement}
+use Rattle.meanings.proofs.meanings.meaning_of.Tie as tie
 
 cast-t13 : tie.Need-cast-t13
 cast-t13 c = search needs

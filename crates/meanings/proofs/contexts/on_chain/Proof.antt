@@ -1,7 +1,7 @@
 use native.Mathlib.Omega.{arith}
-use Rattle.names.proofs.ContextLaws.{ChainSoFar, chain-start, chain-more, chain-broken, chain-found, chain-passed}
-use Rattle.names.proofs.contexts.on_chain.Statement.{statement}
-use Rattle.names.proofs.contexts.on_chain.Tie as tie
+use Rattle.meanings.proofs.ContextLaws.{ChainSoFar, chain-start, chain-more, chain-broken, chain-found, chain-passed}
+use Rattle.meanings.proofs.contexts.on_chain.Statement.{statement}
+use Rattle.meanings.proofs.contexts.on_chain.Tie as tie
 
 abbrev Inv-loop : tie.InvT-loop
 Inv-loop table last v c₀ c = ChainSoFar table last v c

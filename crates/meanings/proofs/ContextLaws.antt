@@ -6,17 +6,16 @@ use mathlib.Core.List.{List, [], _∷_, _++_}
 use Prim.Native.Nat.{ℕ, zero, suc, _+_, _≤_, _<_}
 use native.Mathlib.Omega.{arith}
 use lib.Dec.{eqb}
-use lib.ListN.{getD}
 use borrow.Author.Tests.{eq-eqb, ne-eqb}
 use Rattle.aut68.specs.Bytes.{Bytes}
-use Rattle.aut68.specs.Lines.{Line, Lines, noLine, rowCell}
+use Rattle.aut68.specs.Lines.{Line, Lines, rowCell}
 use Rattle.aut68.specs.Procedure.Resolve.{member, contextAt}
 use Rattle.aut68.specs.Rules.Names.{IsLine, Context, within}
 use Rattle.aut68.specs.Sizes.{atIndicator}
 use Rattle.lookup.specs.Contexts.{line-context, context-at}
 use Rattle.names.specs.Known.{Known}
-use Rattle.names.specs.Posts.{OnChain}
-use Rattle.names.proofs.FindLaws.{line-at}
+use Rattle.names.proofs.FindLaws.{lineAt}
+use Rattle.meanings.specs.Posts.{OnChain}
 
 or-assoc : (x y z : Bool) → (x || (y || z)) ≡ ((x || y) || z)
 or-assoc true y z = refl
@@ -43,10 +42,6 @@ module _ {ls : Lines} {book tb : List ℕ} {lines : ℕ} (k : Known ls book tb l
   pub context-is : {v : ℕ} {vs : List ℕ} → Context ls v vs → contextAt ls v ≡ vs
   context-is c = context-at (λ v l h. k .contexts h) c
 
-  pub lineAt : (c : ℕ) → 0 < c → c ≤ lines → (l : Line) × IsLine ls c l
-  lineAt zero p b = absurd (omega arith)
-  lineAt (suc c) p b = (getD ls c noLine, line-at ls c (omega (arith, k .count)))
-
   -- the context that ends with line c is that of its indicator, and c
   member-step : (v : ℕ) {c : ℕ} {l : Line} → IsLine ls c l → member v (contextAt ls c) ≡ (member v (contextAt ls (l .indicator)) || eqb v c)
   member-step v {c} {l} h =
@@ -58,7 +53,7 @@ module _ {ls : Lines} {book tb : List ℕ} {lines : ℕ} (k : Known ls book tb l
   unfolding member
   above-step n v zero ih b d l = ap (member v) (zero-context ls)
   above-step n v (suc c) ih b d l =
-      let (x, h) = lineAt (suc c) (omega arith) d in
+      let (x, h) = lineAt k (suc c) (omega arith) d in
       let i = k .behind h in
       member-step v h ∙ ap₂ _||_ (ih (x .indicator) (omega arith) (omega arith) (omega arith)) (ne-eqb v (suc c) (λ e. omega arith))
 
