@@ -90,10 +90,7 @@ pub fn other_names(book: &[u8], table: &[u32], n: u32) {
     if n < 4294967295 {
         say(identifier(book, table, n + 1).len() as u64, b' ');
     }
-    say(
-        identifier(book, table, 4294967295).len() as u64,
-        10,
-    );
+    say(identifier(book, table, 4294967295).len() as u64, 10);
 }
 
 // How many cells from index `from` on are not 7.

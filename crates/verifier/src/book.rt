@@ -1,8 +1,8 @@
 // A whole book.
-use outcomes::Outcome;
-use outcomes::outcome_of;
 use books::admit;
 use constants::Cell;
+use outcomes::Outcome;
+use outcomes::outcome_of;
 ghost use Rattle.aut68.specs.Language.{aut68};
 ghost use Rattle.aut68.specs.Stores.{stores};
 ghost use Rattle.aut68.specs.Demands.{Checks};

@@ -6,35 +6,14 @@ use borrow.Author.Needs.{needs}
 use Rattle.symbols.proofs.four.Statement.{statement}
 use Rattle.symbols.proofs.four.Tie as tie
 
-shared-slice-read-a : tie.Need-shared-slice-read-a
-shared-slice-read-a c = search needs
-
 cast-a : tie.Need-cast-a
 cast-a c = omega (arith, c .shared-slice-known .given (c .before .args .i))
-
-add-b : tie.Need-add-b
-add-b c = search needs
-
-shared-slice-read-b : tie.Need-shared-slice-read-b
-shared-slice-read-b c = search needs
 
 cast-b : tie.Need-cast-b
 cast-b c = omega (arith, c .shared-slice-known2 .given (c .before .before .args .i + 1))
 
-add-c : tie.Need-add-c
-add-c c = search needs
-
-shared-slice-read-c : tie.Need-shared-slice-read-c
-shared-slice-read-c c = search needs
-
 cast-c : tie.Need-cast-c
 cast-c c = omega (arith, c .shared-slice-known3 .given (c .before .before .before .args .i + 2))
-
-add-d : tie.Need-add-d
-add-d c = search needs
-
-shared-slice-read-d : tie.Need-shared-slice-read-d
-shared-slice-read-d c = search needs
 
 cast-d : tie.Need-cast-d
 cast-d c = omega (arith, c .shared-slice-known4 .given (c .before .before .before .before .args .i + 3))
@@ -76,5 +55,5 @@ returns c =
 pub four-spec : {M : Type 1} → statement M
 four-spec =
     tie.close
-    (tie.spec shared-slice-read-a cast-a add-b shared-slice-read-b cast-b add-c shared-slice-read-c cast-c add-d shared-slice-read-d cast-d
-    mul-result add-result mul-result-2 add-result-2 mul-result-3 add-result-3 returns)
+    (tie.spec (λ c. search needs) cast-a (λ c. search needs) (λ c. search needs) cast-b (λ c. search needs) (λ c. search needs) cast-c
+    (λ c. search needs) (λ c. search needs) cast-d mul-result add-result mul-result-2 add-result-2 mul-result-3 add-result-3 returns)

@@ -4,12 +4,6 @@ use Rattle.symbols.proofs.SymbolLaws.{kind-here, kind-end}
 use Rattle.symbols.proofs.kind_at.Statement.{statement}
 use Rattle.symbols.proofs.kind_at.Tie as tie
 
-shared-slice-read-kind-of : tie.Need-shared-slice-read-kind-of
-shared-slice-read-kind-of c = search needs
-
-kind-of-requires : tie.Need-kind-of-requires
-kind-of-requires c κs = search needs
-
 returns : tie.Need-returns
 returns c = kind-here (omega arith) (c .kind-of .ensures)
 
@@ -17,4 +11,4 @@ returns-2 : tie.Need-returns-2
 returns-2 c = kind-end (omega arith)
 
 pub kind-at-spec : {M : Type 1} → statement M
-kind-at-spec = tie.close (tie.spec shared-slice-read-kind-of kind-of-requires returns returns-2)
+kind-at-spec = tie.close (tie.spec (λ c. search needs) (λ c κs. search needs) returns returns-2)

@@ -11,29 +11,11 @@ use Rattle.symbols.proofs.name_at.Tie as tie
 returns : tie.Need-returns
 returns c = name-outside (c .if1 .taken)
 
-spaces-requires : tie.Need-spaces-requires
-spaces-requires c κs = search needs
-
-word-end-requires : tie.Need-word-end-requires
-word-end-requires c κs = search needs
-
-sub-len : tie.Need-sub-len
-sub-len c = search needs
-
 returns-2 : tie.Need-returns-2
 returns-2 c = name-long (c .before .before .spaces .ensures) (c .before .word-end .ensures) (omega arith)
 
-sub-is-reserved : tie.Need-sub-is-reserved
-sub-is-reserved c = search needs
-
-part-is-reserved-start : tie.Need-part-is-reserved-start
-part-is-reserved-start c = search needs
-
 part-is-reserved-end : tie.Need-part-is-reserved-end
 part-is-reserved-end c = omega (arith, c .before .word-end .ensures .within (c .before .before .spaces .ensures .within (c .before .before .before .if1 .left)))
-
-is-reserved-requires : tie.Need-is-reserved-requires
-is-reserved-requires c κs = search needs
 
 returns-3 : tie.Need-returns-3
 returns-3 c =
@@ -52,5 +34,5 @@ returns-4 c =
 pub name-at-spec : {M : Type 1} → statement M
 name-at-spec =
     tie.close
-    (tie.spec returns spaces-requires word-end-requires sub-len returns-2 sub-is-reserved part-is-reserved-start part-is-reserved-end
-    is-reserved-requires returns-3 returns-4)
+    (tie.spec returns (λ c κs. search needs) (λ c κs. search needs) (λ c. search needs) returns-2 (λ c. search needs) (λ c. search needs)
+    part-is-reserved-end (λ c κs. search needs) returns-3 returns-4)

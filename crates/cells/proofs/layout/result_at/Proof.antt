@@ -2,11 +2,8 @@ use borrow.Author.Needs.{needs}
 use Rattle.cells.proofs.layout.result_at.Statement.{statement}
 use Rattle.cells.proofs.layout.result_at.Tie as tie
 
-unit-at-requires : tie.Need-unit-at-requires
-unit-at-requires c κs = search needs
-
 returns : tie.Need-returns
 returns c = c .unit-at .ensures
 
 pub result-at-spec : {M : Type 1} → statement M
-result-at-spec = tie.close (tie.spec unit-at-requires returns)
+result-at-spec = tie.close (tie.spec (λ c κs. search needs) returns)

@@ -5,9 +5,6 @@ use borrow.Author.Needs.{needs}
 use Rattle.cells.proofs.layout.unit_at.Statement.{statement}
 use Rattle.cells.proofs.layout.unit_at.Tie as tie
 
-returns : tie.Need-returns
-returns c = search needs
-
 mul-result : tie.Need-mul-result
 mul-result c = omega (arith, unit-small (c .before .args .limit) (c .before .args .k) (omega arith) (omega arith))
 
@@ -16,4 +13,4 @@ unfolding unitAt
 returns-2 c = λ h. refl
 
 pub unit-at-spec : {M : Type 1} → statement M
-unit-at-spec = tie.close (tie.spec returns mul-result returns-2)
+unit-at-spec = tie.close (tie.spec (λ c. search needs) mul-result returns-2)

@@ -11,9 +11,6 @@ use Rattle.cells.proofs.rows.extent.Tie as tie
 returns : tie.Need-returns
 returns c = record { within = omega arith; is = λ e rest w a. absurd (omega (arith, at-inside e a, cells-long e)) }
 
-skip-requires : tie.Need-skip-requires
-skip-requires c κs = search needs
-
 sub-result : tie.Need-sub-result
 sub-result c = omega (arith, c .skip .ensures .within (omega arith))
 
@@ -27,4 +24,4 @@ returns-2 c =
     }
 
 pub extent-spec : {M : Type 1} → statement M
-extent-spec = tie.close (tie.spec returns skip-requires sub-result returns-2)
+extent-spec = tie.close (tie.spec returns (λ c κs. search needs) sub-result returns-2)

@@ -11,29 +11,11 @@ use Rattle.cells.proofs.rows.field.Tie as tie
 returns : tie.Need-returns
 returns c = (sym (row-cell-of-none _ _ _ (c .if1 .taken)), omega arith)
 
-sub-before : tie.Need-sub-before
-sub-before c = search needs
-
 returns-2 : tie.Need-returns-2
 returns-2 c = (sym (row-cell-past _ _ _ (c .before .if1 .left) (omega arith)), omega arith)
 
-mul-row : tie.Need-mul-row
-mul-row c = search needs
-
-sub-if3 : tie.Need-sub-if3
-sub-if3 c = search needs
-
 returns-3 : tie.Need-returns-3
 returns-3 c = (sym (row-cell-past _ _ _ (c .before .before .if1 .left) (omega arith)), omega arith)
-
-add-result : tie.Need-add-result
-add-result c = search needs
-
-mul-result : tie.Need-mul-result
-mul-result c = search needs
-
-shared-slice-read-result : tie.Need-shared-slice-read-result
-shared-slice-read-result c = search needs
 
 -- the cell of the table that is read
 abbrev index : ℕ → ℕ → ℕ
@@ -55,15 +37,5 @@ returns-4 c =
 pub field-spec : {M : Type 1} → statement M
 field-spec =
     tie.close
-    (tie.spec
-    returns
-    sub-before
-    returns-2
-    mul-row
-    sub-if3
-    returns-3
-    add-result
-    mul-result
-    shared-slice-read-result
-    cast-result
-    returns-4)
+    (tie.spec returns (λ c. search needs) returns-2 (λ c. search needs) (λ c. search needs) returns-3 (λ c. search needs)
+    (λ c. search needs) (λ c. search needs) cast-result returns-4)

@@ -5,12 +5,6 @@ use borrow.Author.Needs.{needs}
 use Rattle.cells.proofs.rows.kids.Statement.{statement}
 use Rattle.cells.proofs.rows.kids.Tie as tie
 
-cast-field : tie.Need-cast-field
-cast-field c = search needs
-
-field-requires : tie.Need-field-requires
-field-requires c κs = search needs
-
 returns : tie.Need-returns
 returns c = (c .field .ensures .0 ∙ sym (parts-after-constant _ _ (c .before .match .keys1)), c .field .ensures .1)
 
@@ -24,4 +18,4 @@ returns-4 : tie.Need-returns-4
 returns-4 c = (sym (parts-after-other _ _ (c .match .rest .0 .0 .1) (c .match .rest .0 .1) (c .match .rest .1)), omega arith)
 
 pub kids-spec : {M : Type 1} → statement M
-kids-spec = tie.close (tie.spec cast-field field-requires returns returns-2 returns-3 returns-4)
+kids-spec = tie.close (tie.spec (λ c. search needs) (λ c κs. search needs) returns returns-2 returns-3 returns-4)

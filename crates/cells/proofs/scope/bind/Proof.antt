@@ -16,9 +16,6 @@ no-room d s n = record { deeper = d; more = λ b. absurd (n b); startsAre = λ b
 returns : tie.Need-returns
 returns c = no-room (λ h. absurd (omega arith)) (λ h. h) λ b. omega (arith, b .shallow)
 
-add-inner : tie.Need-add-inner
-add-inner c = search needs
-
 returns-2 : tie.Need-returns-2
 returns-2 c = no-room (λ h. refl) (λ h. omega arith) λ b. omega (arith, b .few)
 
@@ -28,44 +25,8 @@ returns-3 c = no-room (λ h. refl) (λ h. omega arith) λ b. omega (arith, b .st
 returns-4 : tie.Need-returns-4
 returns-4 c = no-room (λ h. refl) (λ h. omega arith) λ b. omega (arith, b .lenFits)
 
-cast-inner : tie.Need-cast-inner
-cast-inner c = search needs
-
-mul-inner : tie.Need-mul-inner
-mul-inner c = search needs
-
-element-write-inner : tie.Need-element-write-inner
-element-write-inner c = search needs
-
-cast-inner-2 : tie.Need-cast-inner-2
-cast-inner-2 c = search needs
-
-mul-inner-2 : tie.Need-mul-inner-2
-mul-inner-2 c = search needs
-
-element-write-inner-2 : tie.Need-element-write-inner-2
-element-write-inner-2 c = search needs
-
-add-inner-2 : tie.Need-add-inner-2
-add-inner-2 c = search needs
-
-returns-5 : tie.Need-returns-5
-returns-5 c = search needs
-
 pub bind-spec : {M : Type 1} → statement M
 bind-spec =
     tie.close
-    (tie.spec
-    returns
-    add-inner
-    returns-2
-    returns-3
-    returns-4
-    cast-inner
-    mul-inner
-    element-write-inner
-    cast-inner-2
-    mul-inner-2
-    element-write-inner-2
-    add-inner-2
-    returns-5)
+    (tie.spec returns (λ c. search needs) returns-2 returns-3 returns-4 (λ c. search needs) (λ c. search needs) (λ c. search needs)
+    (λ c. search needs) (λ c. search needs) (λ c. search needs) (λ c. search needs) (λ c. search needs))

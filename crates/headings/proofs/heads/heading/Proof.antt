@@ -4,32 +4,14 @@ use Rattle.headings.proofs.HeadLaws.{heading-no-indicator, heading-no-s
 use Rattle.headings.proofs.heads.heading.Statement.{statement}
 use Rattle.headings.proofs.heads.heading.Tie as tie
 
-prefix-of-requires : tie.Need-prefix-of-requires
-prefix-of-requires c κs = search needs
-
-bad-head-requires : tie.Need-bad-head-requires
-bad-head-requires c κs = search needs
-
 returns : tie.Need-returns
 returns c = heading-no-indicator (c .before .before .before .prefix-of .ensures) (c .before .if1 .taken) (c .bad-head .ensures)
-
-symbol-requires : tie.Need-symbol-requires
-symbol-requires c κs = search needs
-
-bad-head-requires-2 : tie.Need-bad-head-requires-2
-bad-head-requires-2 c κs = search needs
 
 returns-2 : tie.Need-returns-2
 returns-2 c =
     let at-prefix-of = c .before .before .before .before .before in
     heading-no-star (at-prefix-of .prefix-of .ensures) (c .before .before .before .if1 .left) (c .before .before .symbol .ensures)
     (c .before .if2 .taken) (c .bad-head2 .ensures)
-
-name-at-requires : tie.Need-name-at-requires
-name-at-requires c κs = search needs
-
-bad-head-requires-3 : tie.Need-bad-head-requires-3
-bad-head-requires-3 c κs = search needs
 
 returns-3 : tie.Need-returns-3
 returns-3 c =
@@ -40,12 +22,6 @@ returns-3 c =
 add-symbol : tie.Need-add-symbol
 add-symbol c = omega (arith, c .before .name-at .ensures .within (c .before .before .if2 .left), c .before .before .before .before .before .before .before .before)
 
-symbol-requires-2 : tie.Need-symbol-requires-2
-symbol-requires-2 c κs = search needs
-
-bad-head-requires-4 : tie.Need-bad-head-requires-4
-bad-head-requires-4 c κs = search needs
-
 returns-4 : tie.Need-returns-4
 returns-4 c =
     let at-name-at = c .before .before .before .before in let at-if2 = at-name-at .before in let at-symbol = at-if2 .before in
@@ -53,12 +29,6 @@ returns-4 c =
     heading-no-colon (at-prefix-of .prefix-of .ensures) (at-if1 .if1 .left) (at-symbol .symbol .ensures) (at-if2 .if2 .left)
     (at-name-at .name-at .ensures) (c .before .before .before .if3 .left) (c .before .before .symbol2 .ensures) (c .before .if4 .taken)
     (c .bad-head4 .ensures)
-
-kind-at-requires : tie.Need-kind-at-requires
-kind-at-requires c κs = search needs
-
-bad-head-requires-5 : tie.Need-bad-head-requires-5
-bad-head-requires-5 c κs = search needs
 
 returns-5 : tie.Need-returns-5
 returns-5 c =
@@ -83,6 +53,6 @@ returns-6 c =
 pub heading-spec : {M : Type 1} → statement M
 heading-spec =
     tie.close
-    (tie.spec prefix-of-requires bad-head-requires returns symbol-requires bad-head-requires-2 returns-2 name-at-requires
-    bad-head-requires-3 returns-3 add-symbol symbol-requires-2 bad-head-requires-4 returns-4 kind-at-requires bad-head-requires-5 returns-5
-    add-t11 returns-6)
+    (tie.spec (λ c κs. search needs) (λ c κs. search needs) returns (λ c κs. search needs) (λ c κs. search needs) returns-2
+    (λ c κs. search needs) (λ c κs. search needs) returns-3 add-symbol (λ c κs. search needs) (λ c κs. search needs) returns-4
+    (λ c κs. search needs) (λ c κs. search needs) returns-5 add-t11 returns-6)

@@ -4,17 +4,8 @@ use Rattle.headings.proofs.HeadLaws.{prefix-empty, prefix-malformed, pr
 use Rattle.headings.proofs.heads.prefix_of.Statement.{statement}
 use Rattle.headings.proofs.heads.prefix_of.Tie as tie
 
-spaces-requires : tie.Need-spaces-requires
-spaces-requires c κs = search needs
-
-kind-at-requires : tie.Need-kind-at-requires
-kind-at-requires c κs = search needs
-
 returns : tie.Need-returns
 returns c = prefix-empty (c .before .before .spaces .ensures) (c .before .kind-at .ensures) (c .if1 .taken)
-
-name-at-requires : tie.Need-name-at-requires
-name-at-requires c κs = search needs
 
 returns-2 : tie.Need-returns-2
 returns-2 c =
@@ -34,4 +25,4 @@ returns-3 c =
 pub prefix-of-spec : {M : Type 1} → statement M
 prefix-of-spec =
     tie.close
-    (tie.spec spaces-requires kind-at-requires returns name-at-requires returns-2 add-t9 returns-3)
+    (tie.spec (λ c κs. search needs) (λ c κs. search needs) returns (λ c κs. search needs) returns-2 add-t9 returns-3)

@@ -8,12 +8,6 @@ use Rattle.storage.proofs.rows.has_room.Tie as tie
 returns : tie.Need-returns
 returns c = let a = c .before .args in too-many-lines (a .table) (a .terms) (a .lines) (a .used) (a .size) (omega arith)
 
-add-if2 : tie.Need-add-if2
-add-if2 c = search needs
-
-mul-if2 : tie.Need-mul-if2
-mul-if2 c = search needs
-
 returns-2 : tie.Need-returns-2
 returns-2 c = let a = c .before .before .args in no-row (a .table) (a .terms) (a .lines) (a .used) (a .size) (omega arith)
 
@@ -24,4 +18,4 @@ returns-4 : tie.Need-returns-4
 returns-4 c = let a = c .before .before .before .args in room-by-size (a .table) (a .terms) (a .lines) (a .used) (a .size) (omega arith) (omega arith) (omega arith)
 
 pub has-room-spec : {M : Type 1} → statement M
-has-room-spec = tie.close (tie.spec returns add-if2 mul-if2 returns-2 returns-3 returns-4)
+has-room-spec = tie.close (tie.spec returns (λ c. search needs) (λ c. search needs) returns-2 returns-3 returns-4)

@@ -6,33 +6,6 @@ use borrow.Author.Needs.{needs}
 use Rattle.storage.proofs.rows.put_row.Statement.{statement}
 use Rattle.storage.proofs.rows.put_row.Tie as tie
 
-put-field-requires : tie.Need-put-field-requires
-put-field-requires c κs = search needs
-
-put-field-requires-2 : tie.Need-put-field-requires-2
-put-field-requires-2 c κs = search needs
-
-put-field-requires-3 : tie.Need-put-field-requires-3
-put-field-requires-3 c κs = search needs
-
-put-field-requires-4 : tie.Need-put-field-requires-4
-put-field-requires-4 c κs = search needs
-
-cast-put-field : tie.Need-cast-put-field
-cast-put-field c = search needs
-
-put-field-requires-5 : tie.Need-put-field-requires-5
-put-field-requires-5 c κs = search needs
-
-put-field-requires-6 : tie.Need-put-field-requires-6
-put-field-requires-6 c κs = search needs
-
-put-field-requires-7 : tie.Need-put-field-requires-7
-put-field-requires-7 c κs = search needs
-
-put-field-requires-8 : tie.Need-put-field-requires-8
-put-field-requires-8 c κs = search needs
-
 same-length : tie.Need-same-length
 same-length c =
     let at-put-field7 = c .before .before .before .before .before .before in
@@ -79,15 +52,5 @@ returns c =
 pub put-row-spec : {M : Type 1} → statement M
 put-row-spec =
     tie.close
-    (tie.spec
-    put-field-requires
-    put-field-requires-2
-    put-field-requires-3
-    put-field-requires-4
-    cast-put-field
-    put-field-requires-5
-    put-field-requires-6
-    put-field-requires-7
-    put-field-requires-8
-    same-length
-    returns)
+    (tie.spec (λ c κs. search needs) (λ c κs. search needs) (λ c κs. search needs) (λ c κs. search needs) (λ c. search needs)
+    (λ c κs. search needs) (λ c κs. search needs) (λ c κs. search needs) (λ c κs. search needs) same-length returns)

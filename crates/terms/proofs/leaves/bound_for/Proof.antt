@@ -4,9 +4,6 @@ use borrow.Author.Needs.{needs}
 use Rattle.terms.proofs.leaves.bound_for.Statement.{statement}
 use Rattle.terms.proofs.leaves.bound_for.Tie as tie
 
-cast-v : tie.Need-cast-v
-cast-v c = search needs
-
 returns : tie.Need-returns
 returns c = λ tb low. leaf-cell (omega arith) λ k q e xe f. other-stays _ _ (c .before .pre) (c .if1 .taken) q e xe
 
@@ -16,23 +13,8 @@ returns-2 c = λ tb low. leaf-cell (omega arith) λ k q e xe f. low-stays _ _ (c
 returns-3 : tie.Need-returns-3
 returns-3 c = λ tb low. leaf-too-high _ _ (c .before .if3 .taken) (c .before .before .before .if1 .left) (c .before .before .if2 .left) (omega arith)
 
-cast-higher : tie.Need-cast-higher
-cast-higher c = search needs
-
-mul-higher : tie.Need-mul-higher
-mul-higher c = search needs
-
-add-higher : tie.Need-add-higher
-add-higher c = search needs
-
 returns-4 : tie.Need-returns-4
 returns-4 c = λ tb low. leaf-raised _ _ (c .before .if3 .taken) (c .before .before .before .if1 .left) (c .before .before .if2 .left)
-
-cast-lower : tie.Need-cast-lower
-cast-lower c = search needs
-
-sub-lower : tie.Need-sub-lower
-sub-lower c = search needs
 
 returns-5 : tie.Need-returns-5
 returns-5 c = λ tb low. leaf-cell (omega arith) λ k q e xe f. bound-high _ _ (c .before .if3 .left) (c .before .before .before .if1 .left) (c .if5 .taken) q e xe
@@ -43,16 +25,5 @@ returns-6 c = λ tb low. leaf-put (c .before .if3 .left) λ k q e xe f. bound-he
 pub bound-for-spec : {M : Type 1} → statement M
 bound-for-spec =
     tie.close
-    (tie.spec
-    cast-v
-    returns
-    returns-2
-    returns-3
-    cast-higher
-    mul-higher
-    add-higher
-    returns-4
-    cast-lower
-    sub-lower
-    returns-5
-    returns-6)
+    (tie.spec (λ c. search needs) returns returns-2 returns-3 (λ c. search needs) (λ c. search needs) (λ c. search needs) returns-4
+    (λ c. search needs) (λ c. search needs) returns-5 returns-6)
