@@ -1,52 +1,23 @@
 -- What instantiation leaves of a leaf, and what it makes of a whole expression.
-use Prim.Native.Nat.{ℕ, zero, suc, _+_, _≤_, _<_, _%_, _/_}
-use mathlib.Core.Path.{_≡_, refl, sym, ap, _∙_}
-use mathlib.Core.Option.{none, some}
+use Prim.Native.Nat.{ℕ, _+_, _≤_, _<_, _%_, _/_}
+use mathlib.Core.Path.{_≡_, sym, ap, _∙_}
 use mathlib.Core.List.{List, [], _∷_, _++_, append-assoc}
 use native.Mathlib.Omega.{arith}
 use lib.ListN.{length, take, drop, take-append-drop}
 use lib.Seq.{drop-append-le}
 use Rattle.aut68.specs.Lines.{rowCell}
 use Rattle.aut68.specs.Sizes.{cellFactor, cellValues, atContext}
-use Rattle.aut68.specs.Expr.{Expr, Exprs, nil, cons, firstCell, cells, cellss, countExprs}
-use Rattle.aut68.specs.Substitution.{lift, argumentFor, instantiateVariable, instantiate}
-use Rattle.cells.specs.Cells.{Formed, RightCount, At}
+use Rattle.aut68.specs.Expr.{Expr, Exprs, firstCell, cells, cellss}
+use Rattle.aut68.specs.Substitution.{instantiate}
+use Rattle.cells.specs.Cells.{At}
 use Rattle.cells.specs.Forests.{count-long, at-length}
-use Rattle.terms.specs.Made.{argumentAt, Numbered, startOf, ArgumentsLie, InstantiatePost}
-use Rattle.instances.specs.Starts.{Split, split, argument-formed, argument-lies}
-use Rattle.terms.specs.Kinds.{of-leaf, of-variable}
+use Rattle.terms.specs.Made.{startOf, ArgumentsLie, InstantiatePost}
+use Rattle.terms.specs.Starts.{split, argument-formed, argument-lies}
+use Rattle.terms.specs.Kinds.{of-leaf}
 use Rattle.terms.specs.Grafts.{Choice, instantiating, graft, Fit, Instantiates, instantiates-all, Put, StartPost, WholePost}
+use Rattle.terms.proofs.VariableLaws.{no-argument-cells, argument-put}
 
--- ---- a context variable
-
-no-argument : (xs : Exprs) (i : ℕ) → countExprs xs ≤ i → argumentAt xs i ≡ none
-unfolding countExprs argumentAt
-no-argument nil i h = refl
-no-argument (cons a xs) zero h = absurd (omega arith)
-no-argument (cons a xs) (suc i) h = no-argument xs i (omega arith)
-
--- what instantiation leaves of a context variable: itself where there are too few arguments, or its argument, lifted
-pub no-argument-cells : (tb : List ℕ) (cut x : ℕ) (vs : List ℕ) (xs : Exprs) → x % cellFactor ≡ 1 → countExprs xs ≤ rowCell tb (x / cellFactor) atContext → (e : Expr) → firstCell e ≡ x
-    → Fit tb (instantiating vs xs) e → cells (instantiate vs xs cut e) ≡ x ∷ []
-unfolding instantiate cells firstCell Formed instantiateVariable
-no-argument-cells tb cut x vs xs is1 l e xe f =
-    of-variable (λ e. firstCell e ≡ x → Formed (Numbered tb vs xs) (RightCount tb) e → cells (instantiate vs xs cut e) ≡ x ∷ [])
-    (λ v q n.
-    let h : x / cellFactor ≡ v = omega arith in
-    let m : countExprs xs ≤ rowCell tb v atContext = rw h at l in
-    rw (n, no-argument xs (rowCell tb v atContext) m) (ap (λ (c : ℕ). c ∷ []) q))
-    e (rw xe is1) xe f
-
-pub argument-put : (tb : List ℕ) (cut x : ℕ) (vs : List ℕ) (xs : Exprs) → x % cellFactor ≡ 1 → {i : ℕ} → rowCell tb (x / cellFactor) atContext ≡ i → (r : Split xs i) → (e : Expr)
-    → firstCell e ≡ x → Fit tb (instantiating vs xs) e → instantiate vs xs cut e ≡ lift cut 0 (r .argument)
-unfolding instantiate firstCell Formed instantiateVariable
-argument-put tb cut x vs xs is1 row r e xe f =
-    of-variable (λ e. firstCell e ≡ x → Formed (Numbered tb vs xs) (RightCount tb) e → instantiate vs xs cut e ≡ lift cut 0 (r .argument))
-    (λ v q n.
-    let h : x / cellFactor ≡ v = omega arith in
-    let m : argumentFor v vs xs ≡ some (r .argument) = n ∙ ap (λ (u : ℕ). argumentAt xs (rowCell tb u atContext)) (sym h) ∙ ap (argumentAt xs) row ∙ r .found in
-    rw m)
-    e (rw xe is1) xe f
+-- ---- the arguments, below `end` and in the whole store
 
 -- what lies below `end` lies in the whole store
 at-whole : (end : ℕ) {w xs rest : List ℕ} {i : ℕ} → i ≤ length (take end w) → At (take end w) i xs rest → At w i xs (rest ++ drop end w)

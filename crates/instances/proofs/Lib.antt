@@ -1,3 +1,2 @@
 pub mod InstantiationLaws
 pub mod ArgumentLaws
-pub mod Matches

@@ -1,3 +1,2 @@
--- What callers use of instantiation: where arguments start, and where there is nothing to put in.
+-- What callers use of instantiation: where there is nothing to put in.
 pub mod Unchanged
-pub mod Starts

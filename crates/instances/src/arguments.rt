@@ -1,8 +1,7 @@
 // Arguments: expressions that lie one after the other from `base` on in the working store. starts: where each starts, counted from
 // there, and where the last one ends; for the first 64 of these places.
-ghost use mathlib.Core.Path.{_≡_};
 ghost use Prim.Native.Nat.{ℕ, _%_, _<_};
-ghost use lib.ListN.{getD, take};
+ghost use lib.ListN.{take};
 ghost use Rattle.aut68.specs.Sizes.{cellFactor, cellValues};
 ghost use Rattle.terms.specs.Grafts.{Instantiates, LeafPost, StartPost};
 use cells::field;
@@ -12,14 +11,7 @@ use constants::CELL_VALUES;
 use constants::CONTEXT_LENGTH;
 use constants::Cell;
 use terms::Leaf;
-
-// Place i of `starts`: by a call, as its result is known to be as wide as a cell and what lies behind a reference is not.
-pub fn start_at(starts: &[Cell; 64], i: usize) -> Cell
-    requires { ⌜ i < 64 ⌝ }
-    ensures { λ r. ⌜ r ≡ getD (now (starts .entry)) i 0 ⌝ }
-{
-    starts[i]
-}
+use terms::start_at;
 
 // Where argument i starts.
 pub fn argument_at(table: &[u32], w: &[Cell], base: usize, starts: &[Cell; 64], i: usize) -> usize

@@ -11,7 +11,7 @@ use Rattle.cells.specs.Cells.{AllFormed, Wfs, At}
 use Rattle.cells.specs.Forests.{at-one, cells-one, size-is-length}
 use Rattle.cells.specs.Posts.{Skipped}
 use Rattle.terms.specs.Made.{startOf, StartedTo}
-use Rattle.instances.specs.Starts.{start-first, split, argument-formed, argument-lies, argument-within, start-next, started-none, started-more, started-past, started-less}
+use Rattle.terms.specs.Starts.{start-first, split, argument-formed, argument-lies, argument-within, start-next, started-none, started-more, started-past, started-less}
 use Rattle.reduction.specs.Posts.{ArgumentsAtPost}
 
 -- of the arguments at `at`, the first i are passed, and the next one starts at `next`; starts has become starts′

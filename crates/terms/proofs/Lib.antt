@@ -2,4 +2,5 @@ pub mod Writes
 pub mod WalkLaws
 pub mod Turns
 pub mod LeafLaws
+pub mod VariableLaws
 pub mod Whole

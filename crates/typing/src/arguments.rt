@@ -16,13 +16,13 @@ use constants::CONTEXT_LENGTH;
 use constants::Cell;
 use constants::TOO_LARGE;
 use instances::instantiate;
-use instances::is_instance;
 use levels::Argued;
 use levels::Checked;
 use levels::Found;
 use levels::made;
 use levels::refused;
 use levels::stored;
+use matching::is_instance;
 
 // A copy of the n cells of s from `at` on, as far behind `base` in w.
 pub fn keep_argument(s: &[Cell], at: usize, n: usize, w: &mut [Cell], base: usize)

@@ -1,13 +1,13 @@
-// Is this the instance of that expression? Cells compared with an expression whose arguments are put in as it is read.
+// Cells compared with an expression whose arguments are put in as it is read.
 ghost use Rattle.terms.specs.Made.{InstancePost};
 ghost use Rattle.terms.specs.Grafts.{RunPost};
-use crate::arguments::start_at;
 use cells::field;
 use cells::same_run;
 use constants::CELL_FACTOR;
 use constants::CONTEXT_LENGTH;
 use constants::Cell;
 use terms::PAST;
+use terms::start_at;
 
 // A run of cells of the working store; no cells where a cell stands for itself.
 struct Run {

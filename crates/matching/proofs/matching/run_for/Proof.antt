@@ -1,8 +1,8 @@
 use native.Mathlib.Omega.{arith}
-use Rattle.instances.proofs.ArgumentLaws.{run-other, run-itself, run-unknown, run-argument}
+use Rattle.matching.proofs.RunLaws.{run-other, run-itself, run-unknown, run-argument}
 use borrow.Author.Needs.{needs}
-use Rattle.instances.proofs.matching.run_for.Statement.{statement}
-use Rattle.instances.proofs.matching.run_for.Tie as tie
+use Rattle.matching.proofs.matching.run_for.Statement.{statement}
+use Rattle.matching.proofs.matching.run_for.Tie as tie
 
 returns : tie.Need-returns
 returns c = run-other _ _ _ _ (c .if1 .taken)

@@ -3,9 +3,9 @@ use mathlib.Core.Path.{refl, sym, _∙_}
 use native.Mathlib.Omega.{arith}
 use borrow.Author.Tests.{not-false}
 use Rattle.cells.specs.SameCells.{same-run-means}
-use Rattle.instances.proofs.Matches.{Passed, passed-none, passed-itself, passed-argument, passed-all, instance-no}
-use Rattle.instances.proofs.matching.is_instance.Statement.{statement}
-use Rattle.instances.proofs.matching.is_instance.Tie as tie
+use Rattle.matching.proofs.Matches.{Passed, passed-none, passed-itself, passed-argument, passed-all, instance-no}
+use Rattle.matching.proofs.matching.is_instance.Statement.{statement}
+use Rattle.matching.proofs.matching.is_instance.Tie as tie
 
 abbrev Inv-loop : tie.InvT-loop
 Inv-loop table s from stop w base count starts f at n i₀ j₀ i j = Passed table s from stop w base count starts f at i j
