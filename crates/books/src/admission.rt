@@ -1,6 +1,5 @@
 // Admission: a whole book under the limits that its caller gives. Calls on an accepted book begin with it.
 use crate::lines::check_lines;
-use cells::clear;
 use constants::BOOK_LIMIT;
 use constants::Cell;
 use constants::LARGEST_LIMIT;
@@ -10,6 +9,7 @@ use constants::OUT_OF_SPACE;
 use constants::SMALLEST_LIMIT;
 use constants::WORK_TOO_SMALL;
 use constants::WORK_UNITS;
+use copies::clear;
 ghost use mathlib.Core.Path.{_≡_};
 ghost use mathlib.Core.Logic.{_≢_};
 ghost use Prim.Native.Nat.{_+_, _-_, _<_};

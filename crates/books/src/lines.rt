@@ -2,12 +2,12 @@
 use categories::Checked;
 use categories::check_cells;
 use cells::READER_UNITS;
-use cells::clear;
-use cells::exchange;
 use cells::line_at;
 use constants::Cell;
 use constants::LAST_LINE;
 use constants::OUT_OF_SPACE;
+use copies::clear;
+use copies::exchange;
 use headings::line_end;
 use kinds::kinds_of_bytes;
 use names::identifier;

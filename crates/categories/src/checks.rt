@@ -5,11 +5,11 @@ ghost use Rattle.categories.specs.Posts.{CheckWrittenPost, CheckMiddlePo
 use crate::Checked;
 use crate::category;
 use cells::level_at;
-use cells::load;
 use cells::no_bindings;
 use constants::Cell;
 use constants::NOT_TYPE;
 use constants::TOO_LARGE;
+use copies::load;
 use levels::found_type;
 use typing::compare_units;
 

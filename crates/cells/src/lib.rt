@@ -1,15 +1,8 @@
-// Cells and rows: the layout of the working store, what a row says, runs of cells copied and compared, scopes.
-mod copies;
+// Cells and rows: the layout of the working store, what a row says, scopes.
 mod layout;
 mod rows;
 mod scope;
 
-pub use copies::clear;
-pub use copies::exchange;
-pub use copies::load;
-pub use copies::move_cells;
-pub use copies::same_cells;
-pub use copies::same_run;
 pub use layout::CONTEXT_UNIT;
 pub use layout::LEVELS;
 pub use layout::LINE_UNIT;

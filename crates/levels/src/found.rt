@@ -4,11 +4,11 @@ ghost use Prim.Native.Nat.{ℕ, _<_};
 ghost use Rattle.cells.specs.Layout.{levels};
 ghost use Rattle.levels.specs.FoundPosts.{MadePost, IsTypePost, FoundTypePost};
 use cells::level_at;
-use cells::move_cells;
 use cells::result_at;
 use constants::Cell;
 use constants::NOT_TYPE;
 use constants::TOO_LARGE;
+use copies::move_cells;
 
 // code 0: a category of `size` cells was found, of an expression of `extent` cells; else a refusal. The budget that is left.
 pub struct Found {

@@ -8,7 +8,6 @@ use crate::found::refused;
 use cells::Scope;
 use cells::field;
 use cells::level_at;
-use cells::load;
 use cells::result_at;
 use cells::scratch_at;
 use constants::CATEGORY_END;
@@ -17,6 +16,7 @@ use constants::Cell;
 use constants::NESTING;
 use constants::TOO_LARGE;
 use constants::UNKNOWN_NAME;
+use copies::load;
 use terms::raise;
 
 // The category on line v: that of its variable, or of its constant without arguments.

@@ -2,10 +2,10 @@
 ghost use Rattle.terms.specs.Made.{InstancePost};
 ghost use Rattle.terms.specs.Grafts.{RunPost};
 use cells::field;
-use cells::same_run;
 use constants::CELL_FACTOR;
 use constants::CONTEXT_LENGTH;
 use constants::Cell;
+use copies::same_run;
 use terms::PAST;
 use terms::start_at;
 

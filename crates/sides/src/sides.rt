@@ -4,11 +4,11 @@ ghost use Prim.Native.Nat.{ℕ, _+_};
 ghost use Rattle.sides.specs.Posts.{SaysIdentical, SaysSame, Chooses, Proceeds, Settles};
 use cells::extent;
 use cells::kids;
-use cells::move_cells;
-use cells::same_cells;
 use constants::Cell;
 use constants::OUT_OF_BUDGET;
 use constants::TOO_LARGE;
+use copies::move_cells;
+use copies::same_cells;
 use reduction::head_of;
 use reduction::step;
 

@@ -6,7 +6,6 @@ ghost use Rattle.typing.specs.ArgumentPosts.{KeptArgument, NextStart, Co
 use crate::comparisons::compare_units;
 use cells::field;
 use cells::level_at;
-use cells::load;
 use cells::result_at;
 use constants::CATEGORY_END;
 use constants::CATEGORY_START;
@@ -15,6 +14,7 @@ use constants::CELL_VALUES;
 use constants::CONTEXT_LENGTH;
 use constants::Cell;
 use constants::TOO_LARGE;
+use copies::load;
 use instances::instantiate;
 use levels::Argued;
 use levels::Checked;

@@ -5,7 +5,7 @@ use Rattle.reduction.proofs.StepLaws.{step-no-limit, step-no-place, ste
 use borrow.Author.Needs.{needs}
 use Rattle.reduction.proofs.steps.step.Statement.{statement}
 use Rattle.reduction.proofs.steps.step.Tie as tie
-use Rattle.cells.proofs.move_cells.Reads as move-cells-reads
+use Rattle.copies.proofs.move_cells.Reads as move-cells-reads
 use Rattle.cells.proofs.result_at.Reads as result-at-reads
 use Rattle.reduction.proofs.steps.unfolded_in_place.Reads as unfolded-in-place-reads
 

@@ -2,9 +2,9 @@ use mathlib.Core.Path.{_≡_, refl, sym}
 use Prim.Native.Nat.{_-_, _≤_}
 use native.Mathlib.Omega.{arith}
 use lib.ListN.{length, length-set}
 use Rattle.cells.specs.CopyLaws.{zeros, zeros-none, zeros-all, zeros-turn, cleared-not}
-use Rattle.cells.proofs.copies.clear.Statement.{statement}
-use Rattle.cells.proofs.copies.clear.Tie as tie
+use Rattle.copies.proofs.copies.clear.Statement.{statement}
+use Rattle.copies.proofs.copies.clear.Tie as tie
 
 abbrev Inv-loop : tie.InvT-loop
 Inv-loop w₀ n i₀ w i =

@@ -3,9 +3,9 @@ use Prim.Native.Nat.{_+_, _-_, _≤_}
 use native.Mathlib.Omega.{arith}
 use lib.ListN.{length, length-set}
 use borrow.Author.Tests.{leb-true, leb-false}
 use Rattle.cells.specs.CopyLaws.{copied, copied-none, copied-turn, copied-all, copy-no-source, copy-no-target}
-use Rattle.cells.proofs.copies.load.Statement.{statement}
-use Rattle.cells.proofs.copies.load.Tie as tie
+use Rattle.copies.proofs.copies.load.Statement.{statement}
+use Rattle.copies.proofs.copies.load.Tie as tie
 
 abbrev Inv-loop : tie.InvT-loop
 Inv-loop s from n w₀ to i₀ w i =

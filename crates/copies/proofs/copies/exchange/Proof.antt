@@ -3,9 +3,9 @@ use Prim.Native.Nat.{_+_, _-_, _≤_}
 use native.Mathlib.Omega.{arith}
 use lib.ListN.{length, length-set}
 use borrow.Author.Tests.{leb-true, leb-false}
 use Rattle.cells.specs.CopyLaws.{copied, copied-none, copied-turn, copied-next, copied-all, copy-no-source, copy-no-target}
-use Rattle.cells.proofs.copies.exchange.Statement.{statement}
-use Rattle.cells.proofs.copies.exchange.Tie as tie
+use Rattle.copies.proofs.copies.exchange.Statement.{statement}
+use Rattle.copies.proofs.copies.exchange.Tie as tie
 
 abbrev Inv-loop : tie.InvT-loop
 Inv-loop terms₀ from w₀ to n i₀ terms w i =

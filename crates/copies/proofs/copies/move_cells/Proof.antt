@@ -4,9 +4,9 @@ use Prim.Native.Nat.{_+_, _-_, _≤_}
 use native.Mathlib.Omega.{arith}
 use lib.ListN.{length, length-set}
 use borrow.Author.Tests.{leb-true, leb-false}
 use Rattle.cells.specs.CopyLaws.{copied, copied-none, copied-turn, copied-all, move-inside, move-apart, move-no-source, move-no-target, moved-next}
-use Rattle.cells.proofs.copies.move_cells.Statement.{statement}
-use Rattle.cells.proofs.copies.move_cells.Tie as tie
+use Rattle.copies.proofs.copies.move_cells.Statement.{statement}
+use Rattle.copies.proofs.copies.move_cells.Tie as tie
 
 abbrev Inv-loop : tie.InvT-loop
 Inv-loop w₀ from to n i₀ w i =

@@ -4,8 +4,8 @@ use Prim.Native.Nat.{ℕ, _+_, _-_, _≤_, _<_}
 use native.Mathlib.Omega.{arith}
 use lib.Dec.{leb}
 use borrow.Author.Tests.{le-leb, lt-leb, leb-true, leb-false}
-use Rattle.cells.proofs.copies.whole.Statement.{statement}
-use Rattle.cells.proofs.copies.whole.Tie as tie
+use Rattle.copies.proofs.copies.whole.Statement.{statement}
+use Rattle.copies.proofs.copies.whole.Tie as tie
 
 moved-over : (from n len : ℕ) → from ≤ len → leb n (len - from) ≡ leb (from + n) len
 moved-over from n len h = go (leb n (len - from)) refl

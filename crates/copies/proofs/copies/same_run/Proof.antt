@@ -3,9 +3,9 @@ use Prim.Native.Nat.{_+_, _-_, _≤_}
 use native.Mathlib.Omega.{arith}
 use lib.ListN.{length, take, drop}
 use borrow.Author.Tests.{leb-true, leb-false}
 use Rattle.cells.specs.SameCells.{same-end, same-differ, same-no-first, same-no-second, equal-more}
-use Rattle.cells.proofs.copies.same_run.Statement.{statement}
-use Rattle.cells.proofs.copies.same_run.Tie as tie
+use Rattle.copies.proofs.copies.same_run.Statement.{statement}
+use Rattle.copies.proofs.copies.same_run.Tie as tie
 
 abbrev Inv-loop : tie.InvT-loop
 Inv-loop s from f at n i₀ i =
