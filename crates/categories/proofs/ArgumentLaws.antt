@@ -19,7 +19,8 @@ use Rattle.cells.specs.declared.scope.Scope.{Scope}
 use Rattle.reduction.specs.Book.{Book}
 use Rattle.levels.specs.Places.{Awaits}
 use Rattle.levels.specs.Spots.{frames, next-unit, awaits-kept}
-use Rattle.typing.specs.ArgumentPosts.{IsStoredPost, StoredFitsPost, ArgumentFitsPost, wantedFits}
+use Rattle.levels.specs.ArgumentPosts.{IsStoredPost}
+use Rattle.typing.specs.FittingPosts.{StoredFitsPost, ArgumentFitsPost, wantedFits}
 use Rattle.categories.specs.AnyDepth.{category68}
 use Rattle.categories.specs.Places.{Expression}
 use Rattle.categories.specs.Posts.{CategoryPost}

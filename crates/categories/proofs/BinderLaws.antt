@@ -22,7 +22,8 @@ use Rattle.reduction.specs.Book.{Book, known-wf}
 use Rattle.levels.specs.FoundPosts.{Finds, Passes, FunctionKnown, FoundTypePost}
 use Rattle.levels.specs.Spots.{frames, function-kept}
 use Rattle.levels.specs.Parts.{application-argument, abstraction-domain, abstraction-front}
-use Rattle.typing.specs.BinderPosts.{FunctionOfPost, AppliedPost, OverBindingPost}
+use Rattle.levels.specs.BinderPosts.{FunctionOfPost, OverBindingPost}
+use Rattle.typing.specs.ApplicationPosts.{AppliedPost}
 use Rattle.categories.specs.AnyDepth.{category68}
 use Rattle.categories.specs.Places.{Expression}
 use Rattle.categories.specs.Posts.{CategoryPost, ApplicationPost, AbstractionPost}

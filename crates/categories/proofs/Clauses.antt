@@ -19,8 +19,8 @@ use Rattle.aut68.specs.Procedure.CheckLine.{checkDomain, checkSupertype, checkW
 use Rattle.calculus.specs.Actions.{the-line, isType-true}
 use Rattle.cells.specs.Results.{Result, passed, refused, code-nonzero}
 use Rattle.instances.specs.Unchanged.{instantiate-empty}
-use Rattle.typing.specs.ArgumentPosts.{wantedFits}
-use Rattle.typing.specs.BinderPosts.{applying}
+use Rattle.typing.specs.FittingPosts.{wantedFits}
+use Rattle.typing.specs.ApplicationPosts.{applying}
 use Rattle.typing.specs.Answers.{at-line}
 use Rattle.categories.specs.AnyDepth.{category68, arguments68, ofApplication, ofAbstraction, ofArgument, application-at, abstraction-at, constant-at, argument-at}
 

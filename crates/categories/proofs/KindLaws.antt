@@ -22,7 +22,7 @@ use Rattle.levels.specs.FoundPosts.{Finds, FindsKnown}
 use Rattle.levels.specs.LeafPosts.{StoredPost, BoundPost}
 use Rattle.levels.specs.Spots.{frames}
 use Rattle.levels.specs.Parts.{domain-of}
-use Rattle.typing.specs.ArgumentPosts.{ConstantPost}
+use Rattle.levels.specs.ArgumentPosts.{ConstantPost}
 use Rattle.typing.specs.Answers.{result-and}
 use Rattle.categories.specs.AnyDepth.{category68}
 use Rattle.categories.specs.Places.{Expression}

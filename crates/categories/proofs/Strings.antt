@@ -21,7 +21,8 @@ use Rattle.terms.specs.Starts.{start-first, started-more, started-past}
 use Rattle.reduction.specs.Book.{Book}
 use Rattle.levels.specs.Places.{Awaits}
 use Rattle.levels.specs.FoundPosts.{Frame}
-use Rattle.typing.specs.ArgumentPosts.{wantedFits, NextStart}
+use Rattle.levels.specs.ArgumentPosts.{NextStart}
+use Rattle.typing.specs.FittingPosts.{wantedFits}
 use Rattle.categories.specs.AnyDepth.{category68}
 use Rattle.categories.specs.Nesting.{nestings}
 use Rattle.categories.specs.Places.{Expression, Arguments}

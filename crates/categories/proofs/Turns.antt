@@ -28,7 +28,8 @@ use Rattle.levels.specs.Places.{LieAll, Awaits}
 use Rattle.levels.specs.FoundPosts.{Frame}
 use Rattle.levels.specs.ContextPosts.{ContextOf, ContextVariable}
 use Rattle.levels.specs.Spots.{frames, level-inside, at-join, next-unit}
-use Rattle.typing.specs.ArgumentPosts.{wantedFits, KeptArgument, NextStart}
+use Rattle.levels.specs.ArgumentPosts.{KeptArgument, NextStart}
+use Rattle.typing.specs.FittingPosts.{wantedFits}
 use Rattle.categories.specs.AnyDepth.{category68, arguments68}
 use Rattle.categories.specs.Places.{Expression, Arguments}
 use Rattle.categories.specs.Posts.{ArgumentsPost}

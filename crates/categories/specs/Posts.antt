@@ -19,7 +19,7 @@ use Rattle.cells.specs.Results.{Result}
 use Rattle.cells.specs.declared.scope.Scope.{Scope}
 use Rattle.reduction.specs.Book.{Book}
 use Rattle.levels.specs.FoundPosts.{Frame, Finds, Passes}
-use Rattle.typing.specs.ArgumentPosts.{Kept}
+use Rattle.levels.specs.ArgumentPosts.{Kept}
 use Rattle.categories.specs.AnyDepth.{category68, arguments68}
 use Rattle.categories.specs.Nesting.{nesting}
 use Rattle.categories.specs.Places.{Expression, Arguments, LineCells}

@@ -7,7 +7,7 @@
 // expression, so levels stay below NESTING.
 //
 // The functions that call each other are category, arguments, application and abstraction, the remaining cells falling; what they
-// do between two categories is in crate `typing`.
+// do with what was found is in the crates `levels` and `typing`.
 ghost use mathlib.Core.Path.{_≡_};
 ghost use Prim.Native.Nat.{ℕ, _≤_, _<_};
 ghost use lib.ListN.{length, getD};
@@ -32,20 +32,20 @@ use levels::Argued;
 pub use levels::Checked;
 use levels::Found;
 use levels::bound;
+use levels::constant;
 use levels::context_of;
 use levels::context_variable;
+use levels::enter_start;
 use levels::found_type;
+use levels::function_of;
+use levels::is_stored;
+use levels::keep_argument;
+use levels::over_binding;
 use levels::refused;
 use levels::stored;
 use levels::unfit;
 use typing::applied;
 use typing::argument_fits;
-use typing::constant;
-use typing::enter_start;
-use typing::function_of;
-use typing::is_stored;
-use typing::keep_argument;
-use typing::over_binding;
 use typing::stored_fits;
 
 // code 0: an argument of `extent` cells passed; else a refusal. The budget that is left.

@@ -3,3 +3,6 @@ pub mod Making
 pub mod Types
 pub mod LeafLaws
 pub mod ContextWalk
+pub mod Instances
+pub mod Functions
+pub mod Bindings

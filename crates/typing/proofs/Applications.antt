@@ -1,4 +1,4 @@
--- The function that a category reaches, and the category of what is applied to an argument.
+-- The category of what is applied to an argument.
 use mathlib.Core.Path.{_≡_, sym, ap, _∙_}
 use mathlib.Core.Logic.{_≢_, inl}
 use mathlib.Core.List.{List}
@@ -19,25 +19,20 @@ use Rattle.calculus.specs.Resolved.{VariableLine, Known, KnownCategory}
 use Rattle.cells.specs.Cells.{At, Outside, copyCells}
 use Rattle.cells.specs.Layout.{levels, unitAt, levelUnit, sideUnit, scratchUnit, resultUnit, unit-below, result-ends}
 use Rattle.cells.specs.Forests.{size-is-length, at-inside}
-use Rattle.cells.specs.Results.{Result, then-refused, then-passed, result-map}
+use Rattle.cells.specs.Results.{Result, then-refused, then-passed}
 use Rattle.cells.specs.Stores.{outside-same, at-kept, at-before}
 use Rattle.cells.specs.CopyLaws.{copy-at, copy-outside}
 use Rattle.terms.specs.Made.{Made, SubstitutePost}
 use Rattle.reduction.specs.Book.{Book, known-wf, category-wf}
 use Rattle.reduction.specs.Depths.{substituted-below}
-use Rattle.reduction.specs.Posts.{FunctionAt, FunctionPost}
-use Rattle.reduction.specs.declared.functions.Function.{Function}
-use Rattle.reduction.specs.Frames.{frame-of, framed-frame}
+use Rattle.reduction.specs.Frames.{frame-of}
 use Rattle.comparison.specs.Posts.{Compares}
 use Rattle.levels.specs.Places.{FoundAt, Held}
 use Rattle.levels.specs.FoundPosts.{FunctionKnown, MadePost}
-use Rattle.levels.specs.Parts.{abstraction-domain, abstraction-body}
 use Rattle.levels.specs.Spots.{frames, level-below, level-scratch, level-result}
 use Rattle.levels.proofs.Making.{made-held, spans-none}
-use Rattle.typing.specs.BinderPosts.{FunctionOfPost, AppliedPost, applying}
+use Rattle.typing.specs.ApplicationPosts.{AppliedPost, applying}
 use Rattle.typing.proofs.Comparing.{found-side}
-
--- ---- the function
 
 -- an abstraction's parts are smaller
 domain-small : {limit : ℕ} (p q : Expr) → size (abs p q) ≤ limit → size p ≤ limit
@@ -47,38 +42,6 @@ domain-small p q h = omega arith
 body-small : {limit : ℕ} (p q : Expr) → size (abs p q) ≤ limit → size q ≤ limit
 unfolding size
 body-small p q h = omega arith
-
-module _ {ls : Lines} {limit k level at : ℕ} {w′ : List ℕ} {r : Function} where
-  function-known : at ≡ unitAt limit (levelUnit level) → (f : Category.Function) → FunctionAt ls limit k at w′ r f → FunctionKnown ls k w′ limit level (r .domain) (r .body) f
-  unfolding Expr.size
-  function-known e f x = (
-    record {
-      small = x .small;
-      domainIn = omega (arith, x .small, x .domainAt);
-      bodyIn = omega (arith, x .small, x .bodyAt);
-      behindDomain = _;
-      domainAt = rw (sym (x .domainAt)) at (abstraction-domain (f .domain) (f .body) (x .lies .at));
-      behindBody = _;
-      bodyAt = rw (sym (x .bodyAt ∙ ap (λ (i : ℕ). at + 1 + i) (size-is-length (f .domain)))) at (abstraction-body (f .domain) (f .body) (x .lies .at));
-    },
-    x .known,
-  )
-
-module _ {tb ts w : List ℕ} {limit found size budget level : ℕ} where
-  pub function-refused : {domain body : ℕ} → found ≢ 0 → FunctionOfPost tb ts w limit found size budget level w found domain body budget
-  function-refused n = record { frame = λ small. outside-same; means = λ B room kk x. then-refused _ n x }
-
-  pub function-found : {w′ : List ℕ} {at : ℕ} {r : Function} → level < levels → found ≡ 0 → (limit ≤ largestLimit → at ≡ unitAt limit (levelUnit level))
-      → FunctionPost tb ts w w′ limit budget at size r → FunctionOfPost tb ts w limit found size budget level w′ (r .code) (r .domain) (r .body) (r .budget)
-  function-found {w′} {at} {r} l z p F = record {
-    frame = λ small. framed-frame (F .framed) (omega (arith, p small)) (omega (arith, level-scratch limit l));
-    means = λ {ls} {k} B room kk x. then-passed _ z x (λ c f.
-        let e = p (B .limit) in
-        result-map (function-known e)
-        (F .is room B k c (f .1) (omega arith) (f .0 .lies .small) (f .0 .sized) (omega (arith, level-scratch limit l)) (rw (sym e) at (f .0 .lies .at))));
-  }
-
--- ---- the application
 
 module _ {tb ts w : List ℕ} {limit level domain body : ℕ} where
   pub applied-refused : {e : List ℕ} {b extent found size budget code n whole rest : ℕ} → found ≢ 0 → code ≡ found → whole ≡ 0 → rest ≡ budget

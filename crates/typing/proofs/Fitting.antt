@@ -35,10 +35,10 @@ use Rattle.levels.specs.FoundPosts.{Passes}
 use Rattle.levels.specs.LeafPosts.{StoredPost}
 use Rattle.levels.specs.Spots.{frames, level-below, level-inside, lies-kept, next-unit, awaits-kept}
 use Rattle.levels.proofs.Making.{made-passed, made-refused, made-found}
+use Rattle.levels.proofs.Instances.{arguments-lie, made-is, instance-made}
 use Rattle.typing.specs.ComparisonPosts.{ComparePost}
-use Rattle.typing.specs.ArgumentPosts.{WantedPost, StoredFitsPost, ArgumentFitsPost, wantedFits}
+use Rattle.typing.specs.FittingPosts.{WantedPost, StoredFitsPost, ArgumentFitsPost, wantedFits}
 use Rattle.typing.specs.Answers.{result-and, at-line}
-use Rattle.typing.proofs.Instances.{arguments-lie, made-is, instance-made}
 
 -- a frame of a deeper level
 frame-out : (limit level : ℕ) {w w′ : List ℕ} → Outside (unitAt limit (levelUnit (level + 2))) (length w) w w′ → Outside (unitAt limit (levelUnit (level + 1))) (length w) w w′

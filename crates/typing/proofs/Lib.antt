@@ -1,6 +1,4 @@
 -- Laws that the proofs of the code cite: what each function leaves.
 pub mod Comparing
-pub mod Instances
 pub mod Fitting
 pub mod Applications
-pub mod Bindings

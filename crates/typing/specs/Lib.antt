@@ -1,6 +1,6 @@
 -- What each function leaves.
 pub mod ComparisonPosts
-pub mod ArgumentPosts
-pub mod BinderPosts
+pub mod FittingPosts
+pub mod ApplicationPosts
 -- Laws for this crate and those above it.
 pub mod Answers

@@ -2,8 +2,8 @@
 use native.Mathlib.Omega.{arith}
 use Rattle.typing.proofs.Applications.{applied-refused, applied-differs, applied-made}
 use borrow.Author.Needs.{needs}
-use Rattle.typing.proofs.binders.applied.Statement.{statement}
-use Rattle.typing.proofs.binders.applied.Tie as tie
+use Rattle.typing.proofs.application.applied.Statement.{statement}
+use Rattle.typing.proofs.application.applied.Tie as tie
 
 returns : tie.Need-returns
 returns c = applied-refused (c .before .if1 .taken) (c .refused .ensures .0) (c .refused .ensures .1) (c .refused .ensures .2)

@@ -28,11 +28,11 @@ use Rattle.reduction.specs.Book.{Book, all-known-wf}
 use Rattle.reduction.specs.Depths.{instantiated-below}
 use Rattle.reduction.specs.Places.{category-numbered}
 use Rattle.reduction.specs.Frames.{frame-of}
 use Rattle.levels.specs.Places.{LieAll}
 use Rattle.levels.specs.FoundPosts.{MadePost}
 use Rattle.levels.specs.Spots.{frames, level-result}
 use Rattle.levels.proofs.Making.{made-held, spans-none}
-use Rattle.typing.specs.ArgumentPosts.{KeptArgument, ConstantPost, NextStart, IsStoredPost}
+use Rattle.levels.specs.ArgumentPosts.{KeptArgument, ConstantPost, NextStart, IsStoredPost}
 
 -- ---- an argument kept
 

@@ -1,8 +1,8 @@
 -- `function_of`: head steps of what was found, or its refusal. cN is c, N steps before.
-use Rattle.typing.proofs.Applications.{function-refused, function-found}
+use Rattle.levels.proofs.Functions.{function-refused, function-found}
 use borrow.Author.Needs.{needs}
-use Rattle.typing.proofs.binders.function_of.Statement.{statement}
-use Rattle.typing.proofs.binders.function_of.Tie as tie
+use Rattle.levels.proofs.binders.function_of.Statement.{statement}
+use Rattle.levels.proofs.binders.function_of.Tie as tie
 
 returns : tie.Need-returns
 returns c = function-refused (c .if1 .taken)

@@ -1,8 +1,8 @@
 -- `enter_start`: written where there is a place and the number fits.
-use Rattle.typing.proofs.Instances.{next-noted, next-large, next-past}
+use Rattle.levels.proofs.Instances.{next-noted, next-large, next-past}
 use borrow.Author.Needs.{needs}
-use Rattle.typing.proofs.arguments.enter_start.Statement.{statement}
-use Rattle.typing.proofs.arguments.enter_start.Tie as tie
+use Rattle.levels.proofs.arguments.enter_start.Statement.{statement}
+use Rattle.levels.proofs.arguments.enter_start.Tie as tie
 
 returns : tie.Need-returns
 returns c = next-noted (c .before .if1 .taken)

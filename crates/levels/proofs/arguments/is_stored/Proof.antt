@@ -1,9 +1,9 @@
 -- `is_stored`: by the cell's kind, and a constant's by the row of its line.
 use mathlib.Core.Path.{refl}
-use Rattle.typing.proofs.Instances.{of-variable, of-none, of-constant}
+use Rattle.levels.proofs.Instances.{of-variable, of-none, of-constant}
 use borrow.Author.Needs.{needs}
-use Rattle.typing.proofs.arguments.is_stored.Statement.{statement}
-use Rattle.typing.proofs.arguments.is_stored.Tie as tie
+use Rattle.levels.proofs.arguments.is_stored.Statement.{statement}
+use Rattle.levels.proofs.arguments.is_stored.Tie as tie
 
 returns : tie.Need-returns
 returns c = of-variable (c .if1 .taken)

@@ -1,8 +1,8 @@
 -- `constant`: the category on the line with all arguments put in. cN is c, N steps before.
 use borrow.Author.Needs.{needs}
-use Rattle.typing.proofs.arguments.constant.Tie as tie
-use Rattle.typing.proofs.Instances.{constant-refused, constant-made}
-use Rattle.typing.proofs.arguments.constant.Statement.{statement}
+use Rattle.levels.proofs.arguments.constant.Tie as tie
+use Rattle.levels.proofs.Instances.{constant-refused, constant-made}
+use Rattle.levels.proofs.arguments.constant.Statement.{statement}
 
 returns : tie.Need-returns
 returns c = constant-refused (c .before .if1 .taken) (c .refused .ensures .0) (c .refused .ensures .1) (c .refused .ensures .2)

@@ -1,8 +1,8 @@
 -- `keep_argument`: the cells are copied, unless the unit lies past the store.
-use Rattle.typing.proofs.Instances.{kept-not, kept-copied}
+use Rattle.levels.proofs.Instances.{kept-not, kept-copied}
 use borrow.Author.Needs.{needs}
-use Rattle.typing.proofs.arguments.keep_argument.Statement.{statement}
-use Rattle.typing.proofs.arguments.keep_argument.Tie as tie
+use Rattle.levels.proofs.arguments.keep_argument.Statement.{statement}
+use Rattle.levels.proofs.arguments.keep_argument.Tie as tie
 
 returns : tie.Need-returns
 returns c = kept-not (c .if1 .taken)

@@ -18,11 +18,11 @@ use Rattle.cells.specs.Results.{then-refused, then-passed}
 use Rattle.cells.specs.Stores.{outside-same, at-kept}
 use Rattle.cells.specs.CopyLaws.{copy-at, copy-outside, move-at, move-outside}
 use Rattle.reduction.specs.Frames.{frame-of}
 use Rattle.levels.specs.Places.{FoundAt, Held}
 use Rattle.levels.specs.FoundPosts.{MadePost, IsTypePost}
 use Rattle.levels.specs.Spots.{frames, level-inside, level-result, at-join}
 use Rattle.levels.proofs.Making.{made-passed, made-refused, spans-none, spans-all}
-use Rattle.typing.specs.BinderPosts.{OverBindingPost}
+use Rattle.levels.specs.BinderPosts.{OverBindingPost}
 
 over-type : (p c : Expr) → isType c ≡ true → overBinding aut68 p c ≡ c
 unfolding overBinding

@@ -1,10 +1,10 @@
 -- `over_binding`: `type` stays; before anything else `[x,P]` is put. cN is c, N steps before.
 use native.Mathlib.Omega.{arith}
 use Rattle.cells.specs.Layout.{unitAt}
-use Rattle.typing.proofs.Bindings.{over-refused, over-types, over-unlimited, over-large, over-made}
+use Rattle.levels.proofs.Bindings.{over-refused, over-types, over-unlimited, over-large, over-made}
 use borrow.Author.Needs.{needs}
-use Rattle.typing.proofs.binders.over_binding.Statement.{statement}
-use Rattle.typing.proofs.binders.over_binding.Tie as tie
+use Rattle.levels.proofs.binders.over_binding.Statement.{statement}
+use Rattle.levels.proofs.binders.over_binding.Tie as tie
 
 returns : tie.Need-returns
 returns c = over-refused (c .before .if1 .taken) (c .refused .ensures .0) (c .refused .ensures .1) (c .refused .ensures .2)

@@ -1,29 +1,21 @@
--- What is found for `<A>B` and for `[x,P]T`, from what was found for their parts.
+-- What is found for `<A>B`, from what was found for its parts.
 use mathlib.Core.Path.{_≡_}
-use mathlib.Core.List.{List, _∷_}
+use mathlib.Core.List.{List}
 use Prim.Native.Nat.{ℕ, _+_, _*_, _≤_}
 use lib.ListN.{length}
 use Rattle.aut68.specs.Expr as Expr
-use Rattle.aut68.specs.Sizes.{largestLimit, workUnits, nesting}
+use Rattle.aut68.specs.Sizes.{workUnits, nesting}
 use Rattle.aut68.specs.Language.{aut68}
 use Rattle.aut68.specs.Procedure.Answer.{Act, Answer, andThen, _>>=_}
-use Rattle.aut68.specs.Expr.{Expr, size, cells, overBinding}
+use Rattle.aut68.specs.Expr.{Expr, cells}
 use Rattle.aut68.specs.Substitution.{substitute}
 use Rattle.aut68.specs.Lines.{Lines}
 use Rattle.aut68.specs.Procedure.Compare.{compare}
-use Rattle.aut68.specs.Procedure.Category.{Function, made, toFunction}
+use Rattle.aut68.specs.Procedure.Category.{Function, made}
 use Rattle.calculus.specs.Resolved.{Known}
 use Rattle.cells.specs.Cells.{At}
-use Rattle.cells.specs.Results.{Result}
 use Rattle.reduction.specs.Book.{Book}
 use Rattle.levels.specs.FoundPosts.{Frame, Finds, FindsKnown, FunctionKnown, Spans}
-
--- the function that what was found reaches by head steps, with where its domain and its body lie
-pub record FunctionOfPost (tb ts w : List ℕ) (limit found size budget level : ℕ) (w′ : List ℕ) (code domain body rest : ℕ) : Type 0 where
-  pub frame : Frame limit level w w′
-  pub means : {ls : Lines} {k : ℕ} {m : Answer ℕ Expr} → Book ls limit tb ts → workUnits * limit ≤ length w → k ≤ nesting
-      → FindsKnown ls k w limit level found size budget m
-      → Result (FunctionKnown ls k w′ limit level domain body) code rest (andThen (toFunction ls limit) m)
 
 -- what is left to do for `<A>B`, once A's category was found: its comparison with the domain, and A put into the body
 unfoldable pub applying : Lines → ℕ → Expr → Function → Expr → Act ℕ Expr
@@ -38,10 +30,3 @@ pub record AppliedPost (tb ts e : List ℕ) (b extent : ℕ) (w : List ℕ) (lim
       → Known ls k a → Expr.size a ≤ limit → At e 1 (cells a) behind → b ≡ 1 + Expr.size a → FunctionKnown ls k w limit level domain body f
       → FindsKnown ls k w limit (level + 1) found size budget m
       → Finds w′ limit level code n rest (andThen (applying ls limit a f) m)
-
--- `[x,P]`, the first t cells of e, before what was found for a T of `extent` cells, unless that is `type`
-pub record OverBindingPost (e : List ℕ) (t : ℕ) (w : List ℕ) (limit level found size extent budget : ℕ) (w′ : List ℕ) (code n whole rest : ℕ) : Type 0 where
-  pub frame : Frame limit level w w′
-  pub spans : Spans code whole (t + extent)
-  pub means : (p : Expr) {m : Answer ℕ Expr} {behind : List ℕ} → limit ≤ largestLimit → workUnits * limit ≤ length w → At e 0 (5 ∷ cells p) behind → t ≡ 1 + Expr.size p
-      → Finds w limit level found size budget m → Finds w′ limit level code n rest (andThen (λ c. made limit (overBinding aut68 p c)) m)
