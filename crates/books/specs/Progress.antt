@@ -18,7 +18,7 @@ use Rattle.cells.specs.Layout.{lineUnit, readerUnits}
 use Rattle.cells.specs.Results.{Result}
 use Rattle.kinds.specs.Kinds.{KindsTable}
 use Rattle.names.specs.Hints.{Hinted, Noted, nameAt}
-use Rattle.reduction.specs.Book.{Book}
+use Rattle.heads.specs.Book.{Book}
 use Rattle.categories.specs.Places.{LineCells}
 use Rattle.records.specs.Reached.{Reached}
 

@@ -16,7 +16,7 @@ use Rattle.cells.specs.Forests.{at-first, at-inside, cells-long}
 use Rattle.cells.specs.Results.{Result, result-map}
 use Rattle.cells.specs.Stores.{outside-same}
 use Rattle.cells.specs.declared.scope.Scope.{Scope}
-use Rattle.reduction.specs.Book.{Book}
+use Rattle.heads.specs.Book.{Book}
 use Rattle.levels.specs.Places.{Awaits}
 use Rattle.levels.specs.Spots.{frames, next-unit, awaits-kept}
 use Rattle.levels.specs.ArgumentPosts.{IsStoredPost}

@@ -18,7 +18,7 @@ use Rattle.cells.specs.Forests.{size-is-length, at-inside}
 use Rattle.cells.specs.Posts.{Skipped, Bound}
 use Rattle.cells.specs.Results.{Result, then-refused, then-passed}
 use Rattle.cells.specs.declared.scope.Scope.{Scope}
-use Rattle.reduction.specs.Book.{Book, known-wf}
+use Rattle.heads.specs.Book.{Book, known-wf}
 use Rattle.levels.specs.FoundPosts.{Finds, Passes, FunctionKnown, FoundTypePost}
 use Rattle.levels.specs.Spots.{frames, function-kept}
 use Rattle.levels.specs.Parts.{application-argument, abstraction-domain, abstraction-front}

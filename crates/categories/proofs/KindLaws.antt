@@ -17,7 +17,7 @@ use Rattle.calculus.specs.FoundKnown.{found-known}
 use Rattle.cells.specs.Forests.{at-first, at-inside, cells-long}
 use Rattle.cells.specs.Stores.{outside-same}
 use Rattle.cells.specs.declared.scope.Scope.{Scope}
-use Rattle.reduction.specs.Book.{Book}
+use Rattle.heads.specs.Book.{Book}
 use Rattle.levels.specs.FoundPosts.{Finds, FindsKnown}
 use Rattle.levels.specs.LeafPosts.{StoredPost, BoundPost}
 use Rattle.levels.specs.Spots.{frames}

@@ -27,7 +27,7 @@ use Rattle.cells.specs.Results.{passed, then-refused, then-passed}
 use Rattle.cells.specs.Stores.{outside-same}
 use Rattle.cells.specs.CopyLaws.{copy-outside}
 use Rattle.cells.specs.declared.scope.Scope.{Scope}
-use Rattle.reduction.specs.Book.{Book}
+use Rattle.heads.specs.Book.{Book}
 use Rattle.reduction.specs.Frames.{frame-of}
 use Rattle.levels.specs.Places.{FoundAt, DomainCells, ScopeHolds}
 use Rattle.levels.specs.FoundPosts.{Passes, FindsKnown, FoundTypePost}

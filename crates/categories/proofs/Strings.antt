@@ -18,7 +18,7 @@ use Rattle.cells.specs.Results.{Result}
 use Rattle.cells.specs.declared.scope.Scope.{Scope}
 use Rattle.terms.specs.Made.{startOf, StartedTo, Started}
 use Rattle.terms.specs.Starts.{start-first, started-more, started-past}
-use Rattle.reduction.specs.Book.{Book}
+use Rattle.heads.specs.Book.{Book}
 use Rattle.levels.specs.Places.{Awaits}
 use Rattle.levels.specs.FoundPosts.{Frame}
 use Rattle.levels.specs.ArgumentPosts.{NextStart}

@@ -22,7 +22,7 @@ use Rattle.cells.specs.CopyLaws.{copy-at}
 use Rattle.cells.specs.declared.scope.Scope.{Scope}
 use Rattle.terms.specs.Made.{startOf, StartedTo}
 use Rattle.terms.specs.Starts.{start-join, started-none}
-use Rattle.reduction.specs.Book.{Book}
+use Rattle.heads.specs.Book.{Book}
 use Rattle.reduction.specs.Frames.{frame-of}
 use Rattle.levels.specs.Places.{LieAll, Awaits}
 use Rattle.levels.specs.FoundPosts.{Frame}

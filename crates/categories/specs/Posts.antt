@@ -17,7 +17,7 @@ use Rattle.calculus.specs.Resolved.{KnownCategory}
 use Rattle.cells.specs.Cells.{At}
 use Rattle.cells.specs.Results.{Result}
 use Rattle.cells.specs.declared.scope.Scope.{Scope}
-use Rattle.reduction.specs.Book.{Book}
+use Rattle.heads.specs.Book.{Book}
 use Rattle.levels.specs.FoundPosts.{Frame, Finds, Passes}
 use Rattle.levels.specs.ArgumentPosts.{Kept}
 use Rattle.categories.specs.AnyDepth.{category68, arguments68}

@@ -15,7 +15,7 @@ use Rattle.cells.specs.Forests.{size-is-length}
 use Rattle.cells.specs.Layout.{unitAt, sideUnit, scratchUnit, unit-next, unit-below, unit-small}
 use Rattle.cells.specs.Results.{Result, passed, refused}
 use Rattle.cells.specs.Stores.{outside-same, outside-then, outside-more, at-before}
-use Rattle.reduction.specs.Book.{Book}
+use Rattle.heads.specs.Book.{Book}
 use Rattle.sides.specs.Posts.{Side, Pair, Placed, Goes, identically, toParts, onward, tooFar, spent, Settles}
 use Rattle.comparison.specs.Posts.{Compares, ComparesParts}
 

@@ -19,7 +19,7 @@ use Rattle.cells.specs.Layout.{unitAt, sideUnit}
 use Rattle.cells.specs.Posts.{Skipped}
 use Rattle.cells.specs.Results.{Result, passed, refused, code-nonzero, then-refused}
 use Rattle.cells.specs.Stores.{outside-same, outside-then, outside-more, outside-below}
-use Rattle.reduction.specs.Book.{Book, category-wf}
+use Rattle.heads.specs.Book.{Book, category-wf}
 use Rattle.sides.specs.Posts.{Side, Pair}
 use Rattle.sides.proofs.Heads.{EachKnown, known-parts}
 use Rattle.sides.proofs.Places.{at-whole}

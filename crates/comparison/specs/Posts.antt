@@ -10,7 +10,7 @@ use Rattle.aut68.specs.Procedure.Compare.{compareParts, compareAt}
 use Rattle.cells.specs.Cells.{Outside}
 use Rattle.cells.specs.Layout.{unitAt, sideUnit}
 use Rattle.cells.specs.Results.{Result}
-use Rattle.reduction.specs.Book.{Book}
+use Rattle.heads.specs.Book.{Book}
 use Rattle.sides.specs.Posts.{Pair}
 
 -- Of a pair that may go `deeper` levels deeper, for w as it was and w′ as it is left: every cell below its own frame is as it was.

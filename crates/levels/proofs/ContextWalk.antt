@@ -10,7 +10,7 @@ use Rattle.aut68.specs.Sizes.{cellValues, atIndicator, atContext}
 use Rattle.aut68.specs.Lines.{Line, Lines, rowCell}
 use Rattle.aut68.specs.Rules.Names.{IsLine, Context, noContext, within}
 use Rattle.lookup.specs.LineNumbers.{line-within}
-use Rattle.reduction.specs.Book.{Book}
+use Rattle.heads.specs.Book.{Book}
 use Rattle.levels.specs.ContextPosts.{ContextOf, ContextVariable}
 
 -- c is the last of the first `behind` variables

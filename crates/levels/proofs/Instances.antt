@@ -24,7 +24,7 @@ use Rattle.cells.specs.Results.{then-refused, then-passed, passed}
 use Rattle.cells.specs.Stores.{outside-same, at-before}
 use Rattle.cells.specs.CopyLaws.{copy-outside}
 use Rattle.terms.specs.Made.{Numbered, ArgumentsLie, Made, InstantiatePost}
-use Rattle.reduction.specs.Book.{Book, all-known-wf}
+use Rattle.heads.specs.Book.{Book, all-known-wf}
 use Rattle.reduction.specs.Depths.{instantiated-below}
 use Rattle.reduction.specs.Places.{category-numbered}
 use Rattle.reduction.specs.Frames.{frame-of}

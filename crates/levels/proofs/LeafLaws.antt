@@ -22,7 +22,7 @@ use Rattle.cells.specs.Stores.{outside-same, at-before}
 use Rattle.cells.specs.CopyLaws.{copy-at, copy-outside}
 use Rattle.cells.specs.declared.scope.Scope.{Scope}
 use Rattle.terms.specs.Made.{Made, RaisePost}
-use Rattle.reduction.specs.Book.{Book, known-wf}
+use Rattle.heads.specs.Book.{Book, known-wf}
 use Rattle.reduction.specs.Depths.{lifted-below}
 use Rattle.reduction.specs.Frames.{frame-of}
 use Rattle.levels.specs.Places.{ScopeHolds}

@@ -15,7 +15,7 @@ use Rattle.aut68.specs.Procedure.Category.{made}
 use Rattle.calculus.specs.Resolved.{AllKnown}
 use Rattle.cells.specs.Cells.{Outside, copyCells}
 use Rattle.cells.specs.Results.{Result}
-use Rattle.reduction.specs.Book.{Book}
+use Rattle.heads.specs.Book.{Book}
 use Rattle.levels.specs.Places.{LieAll}
 use Rattle.levels.specs.FoundPosts.{Frame, Finds, Spans}
 

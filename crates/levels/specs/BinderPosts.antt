@@ -12,7 +12,7 @@ use Rattle.aut68.specs.Lines.{Lines}
 use Rattle.aut68.specs.Procedure.Category.{made, toFunction}
 use Rattle.cells.specs.Cells.{At}
 use Rattle.cells.specs.Results.{Result}
-use Rattle.reduction.specs.Book.{Book}
+use Rattle.heads.specs.Book.{Book}
 use Rattle.levels.specs.FoundPosts.{Frame, Finds, FindsKnown, FunctionKnown, Spans}
 
 -- the function that what was found reaches by head steps, with where its domain and its body lie

@@ -6,7 +6,7 @@ use lib.ListN.{length, getD}
 use Rattle.aut68.specs.Sizes.{atContext}
 use Rattle.aut68.specs.Lines.{Line, Lines, rowCell}
 use Rattle.aut68.specs.Rules.Names.{IsLine}
-use Rattle.reduction.specs.Book.{Book}
+use Rattle.heads.specs.Book.{Book}
 
 -- the lines of the first 64 variables of the context of line v, the outermost being 0
 pub record ContextLines (tb : List ℕ) (v : ℕ) (lines : List ℕ) : Type 0 where

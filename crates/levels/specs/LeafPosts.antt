@@ -11,7 +11,7 @@ use Rattle.aut68.specs.Rules.Categories.{DomainAt}
 use Rattle.aut68.specs.Substitution.{lift}
 use Rattle.calculus.specs.Resolved.{KnownScope}
 use Rattle.cells.specs.declared.scope.Scope.{Scope}
-use Rattle.reduction.specs.Book.{Book}
+use Rattle.heads.specs.Book.{Book}
 use Rattle.levels.specs.Places.{ScopeHolds}
 use Rattle.levels.specs.FoundPosts.{Frame, Finds, Spans}
 

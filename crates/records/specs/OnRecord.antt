@@ -19,7 +19,7 @@ use Rattle.inclusion.specs.Books.{built-right}
 use Rattle.inclusion.specs.Derivations.{derived-built}
 use Rattle.cells.specs.Forests.{size-is-length}
 use Rattle.names.specs.Known.{Known}
-use Rattle.reduction.specs.Book.{Book}
+use Rattle.heads.specs.Book.{Book}
 use Rattle.records.specs.Tables.{held-rows, held-stored, held-named}
 use Rattle.records.specs.Reached.{Reached, indicators-before, reached-holds}
 use Rattle.records.specs.Bounds.{reached-stores}

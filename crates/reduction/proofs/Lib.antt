@@ -1,5 +1,3 @@
-mod HeadLaws
 mod ArgumentLaws
 mod PutLaws
 mod StepLaws
-mod FormLaws

@@ -23,10 +23,10 @@ use Rattle.cells.specs.Layout.{unitAt, scratchUnit, resultUnit, unit-below, uni
 use Rattle.cells.specs.Posts.{Skipped}
 use Rattle.cells.specs.Stores.{outside-same, outside-more, at-sets, at-before}
 use Rattle.terms.specs.Made.{noRoom, Made, Confined, SubstitutePost, InstantiatePost}
-use Rattle.reduction.specs.Book.{Book, right-count, all-known-wf}
+use Rattle.heads.specs.Book.{Book, right-count, all-known-wf}
+use Rattle.heads.specs.Heads.{const-unfolds}
 use Rattle.reduction.specs.Depths.{instantiated-below}
 use Rattle.reduction.specs.Frames.{Quiet, Lies, framed-same, framed-then, outside-quiet}
-use Rattle.reduction.specs.Heads.{const-unfolds}
 use Rattle.reduction.specs.Places.{middle-numbered}
 use Rattle.reduction.specs.Posts.{MadeAt, Prepared, ArgumentsAtPost, ContractedPost, UnfoldedPost, InPlacePost}
 

@@ -22,12 +22,12 @@ use Rattle.cells.specs.Layout.{unitAt, scratchUnit, resultUnit}
 use Rattle.cells.specs.Stores.{at-kept, at-rest}
 use Rattle.terms.specs.Made.{noRoom}
 use Rattle.instances.specs.Unchanged.{instantiate-empty}
-use Rattle.reduction.specs.Book.{Book, known-wf}
+use Rattle.heads.specs.Book.{Book, known-wf}
+use Rattle.heads.specs.Heads.{HeadIs, no-head, contraction, unfolding-of, applied, front, cells-applied, size-applied, known-applied, stepped-known, app-contracts}
+use Rattle.heads.specs.declared.heads.Head.{Head}
 use Rattle.reduction.specs.Depths.{substituted-below}
 use Rattle.reduction.specs.Frames.{Lies, framed-same, framed-then, framed-more, quiet-framed, outside-framed, at-framed}
-use Rattle.reduction.specs.Heads.{HeadIs, no-head, contraction, unfolding-of, applied, front, cells-applied, size-applied, known-applied, stepped-known, app-contracts}
 use Rattle.reduction.specs.Posts.{ContractedPost, UnfoldedPost, InPlacePost, Redex, RedexPost, Stepped, StepPost}
-use Rattle.reduction.specs.declared.heads.Head.{Head}
 use Rattle.reduction.proofs.PutLaws.{scratch-below-result, result-inside}
 
 -- a run of cells, and another one right behind it

@@ -1,8 +1,5 @@
--- What the check relies on of the lines before the one at hand, and what a head step leaves.
-pub mod Book
+-- What a head step leaves: how large its cells are, where arguments lie, and what stays as it was.
 pub mod Depths
 pub mod Places
-pub mod Heads
 pub mod Frames
-pub mod Sides
 pub mod Posts

@@ -18,7 +18,7 @@ use Rattle.calculus.specs.Scoped.{category-map}
 use Rattle.calculus.specs.Resolved.{ResolvedCategory}
 use Rattle.cells.specs.Cells.{Formed, RightCount}
 use Rattle.terms.specs.Made.{argumentAt, Numbered}
-use Rattle.reduction.specs.Book.{Book, scoped-formed, category-formed, right-count}
+use Rattle.heads.specs.Book.{Book, scoped-formed, category-formed, right-count}
 
 -- u stands in vs behind the variables `before`, and not among them
 pub record Place (u : ℕ) (vs before : List ℕ) : Type 0 where

@@ -1,47 +1,24 @@
--- What the functions on head steps leave.
+-- What the functions that make a head step leave.
 use mathlib.Core.Path.{_≡_}
 use mathlib.Core.Logic.{_⊎_}
 use mathlib.Core.Option.{some}
 use mathlib.Core.List.{List}
-use Prim.Native.Nat.{ℕ, _+_, _-_, _*_, _/_, _%_, _≤_, _<_}
+use Prim.Native.Nat.{ℕ, _+_, _-_, _*_, _≤_, _<_}
 use lib.ListN.{length, getD}
-use Rattle.aut68.specs.Sizes.{cellFactor, cellValues, largestLimit, workUnits, atKind}
+use Rattle.aut68.specs.Sizes.{cellValues, largestLimit, workUnits}
 use Rattle.aut68.specs.Expr.{Expr, Exprs, const, app, abs, size, cells, cellss, countExprs}
 use Rattle.aut68.specs.Substitution.{substitute, instantiate}
-use Rattle.aut68.specs.Lines.{Line, Lines, abbreviation, rowCell}
+use Rattle.aut68.specs.Lines.{Line, Lines, abbreviation}
 use Rattle.aut68.specs.Rules.Names.{IsLine}
-use Rattle.aut68.specs.Procedure.Answer.{Refusal, done, stop, codeOf}
-use Rattle.aut68.specs.Procedure.HeadStep.{noStep, headStep, left}
-use Rattle.aut68.specs.Procedure.Category.{headForm, toFunction}
-use Rattle.aut68.specs.Procedure.Category
+use Rattle.aut68.specs.Procedure.HeadStep.{headStep, left}
 use Rattle.calculus.specs.Resolved.{Known, KnownCategory}
 use Rattle.cells.specs.Cells.{Wf, Wfs, At, Below, Outside}
 use Rattle.cells.specs.Layout.{unitAt, scratchUnit, resultUnit}
-use Rattle.cells.specs.Posts.{Skipped}
-use Rattle.cells.specs.Results.{Result}
 use Rattle.terms.specs.Made.{noRoom, Started}
-use Rattle.reduction.specs.Book.{Book}
+use Rattle.heads.specs.Book.{Book}
+use Rattle.heads.specs.Heads.{HeadIs, applied, front}
+use Rattle.heads.specs.declared.heads.Head.{Head}
 use Rattle.reduction.specs.Frames.{Framed, Quiet, Lies}
-use Rattle.reduction.specs.Heads.{HeadIs, applied, front}
-use Rattle.reduction.specs.declared.heads.Head.{Head}
-use Rattle.reduction.specs.declared.functions.Shape.{Shape}
-use Rattle.reduction.specs.declared.functions.Shape.the-variants.{Abstraction, Other}
-use Rattle.reduction.specs.declared.functions.Function.{Function}
-
--- ---- which head step
-
--- of an expression that is no application, with the first cell x at index i
-pub record HeadCell (tb : List ℕ) (x i kept : ℕ) (r : Head) : Type 0 where
-  pub placed : (r .at ≡ i) × (r .kept ≡ kept)
-  pub unfolds : x % cellFactor ≡ 3 → rowCell tb (x / cellFactor) atKind ≡ 2 → (r .kind ≡ 2) × (r .line ≡ x / cellFactor)
-  pub stays : (x % cellFactor ≡ 3 → rowCell tb (x / cellFactor) atKind ≡ 2 → ⊥) → r .kind ≡ 0
-
--- of the expression of n cells at index `at` of w
-pub record HeadPost (tb w : List ℕ) (at n : ℕ) (r : Head) : Type 0 where
-  -- whatever lies there
-  pub placed : r .at ≡ at + r .kept
-  pub is : {ls : Lines} {L : ℕ} {ts : List ℕ} → Book ls L tb ts → (k : ℕ) (e : Expr) {rest : List ℕ} → KnownCategory ls k e → At w at (cells e) rest
-      → n ≡ size e → HeadIs ls at (r .kind) (r .at) (r .kept) (r .line) e
 
 -- ---- what is made, in the result unit or in place
 
@@ -115,36 +92,3 @@ pub record StepPost (tb ts w w′ : List ℕ) (limit : ℕ) (h : Head) (r : ℕ)
   pub made : workUnits * limit ≤ length w → {ls : Lines} → Book ls limit tb ts → (k : ℕ) (e : Expr) {start : ℕ} {rest : List ℕ} → KnownCategory ls k e → k ≤ largestLimit
       → size e ≤ limit → At w start (cells e) rest → start + limit ≤ unitAt limit scratchUnit
       → HeadIs ls start (h .kind) (h .at) (h .kept) (h .line) e → (h .kind ≡ 0 → ⊥) → Stepped ls limit start e r w′
-
--- ---- head steps until an abstraction
-
-abbrev pub ShapePost : List ℕ → List ℕ → ℕ → Shape → Type 0
-ShapePost tb w at (Abstraction d b) = (getD w at 0 ≡ 5) × (d ≡ at + 1) × Skipped tb w (at + 1) 1 b
-ShapePost tb w at Other = at < length w → getD w at 0 ≡ 5 → ⊥
-
--- c has come to its head form g, which has no head step; or the procedure stops on the way
-pub data FormIs (ls : Lines) (limit k at : ℕ) (c : Expr) (budget : ℕ) (w′ : List ℕ) (code size′ budget′ : ℕ) : Type 0 where
-  normal : (g : Expr) → code ≡ 0 → headStep ls g ≡ noStep → KnownCategory ls k g → size g ≤ limit → size′ ≡ size g → Lies w′ at g
-      → headForm ls limit c budget ≡ done g budget′ → FormIs ls limit k at c budget w′ code size′ budget′
-  refused : (r : Refusal) → code ≡ codeOf r → headForm ls limit c budget ≡ stop r budget′ → FormIs ls limit k at c budget w′ code size′ budget′
-
-pub record FormPost (tb ts w w′ : List ℕ) (limit budget at n code size′ budget′ : ℕ) : Type 0 where
-  pub framed : Framed (unitAt limit scratchUnit) at (at + limit) w w′
-  pub is : workUnits * limit ≤ length w → {ls : Lines} → Book ls limit tb ts → (k : ℕ) (c : Expr) {rest : List ℕ} → KnownCategory ls k c → k ≤ largestLimit
-      → size c ≤ limit → n ≡ size c → at + limit ≤ unitAt limit scratchUnit → At w at (cells c) rest → FormIs ls limit k at c budget w′ code size′ budget′
-
--- the abstraction f lies at `at`, of r .size cells, its domain and its body where r says
-pub record FunctionAt (ls : Lines) (limit k at : ℕ) (w′ : List ℕ) (r : Function) (f : Category.Function) : Type 0 where
-  pub known : KnownCategory ls k (abs (f .domain) (f .body))
-  pub lies : Lies w′ at (abs (f .domain) (f .body))
-  pub small : size (abs (f .domain) (f .body)) ≤ limit
-  pub sizeIs : r .size ≡ size (abs (f .domain) (f .body))
-  pub domainAt : r .domain ≡ at + 1
-  pub bodyAt : r .body ≡ at + 1 + size (f .domain)
-
-pub record FunctionPost (tb ts w w′ : List ℕ) (limit budget at n : ℕ) (r : Function) : Type 0 where
-  -- below the scratch unit nothing outside the expression's unit is changed
-  pub framed : Framed (unitAt limit scratchUnit) at (at + limit) w w′
-  pub is : workUnits * limit ≤ length w → {ls : Lines} → Book ls limit tb ts → (k : ℕ) (c : Expr) {rest : List ℕ} → KnownCategory ls k c → k ≤ largestLimit
-      → size c ≤ limit → n ≡ size c → at + limit ≤ unitAt limit scratchUnit → At w at (cells c) rest
-      → Result (FunctionAt ls limit k at w′ r) (r .code) (r .budget) (toFunction ls limit c budget)

@@ -13,8 +13,8 @@ use Rattle.aut68.specs.Rules.Resolved.{Scoped, ConstantOf}
 use Rattle.calculus.specs.Scoped.{ScopedCategory, scoped-category, scoped-under}
 use Rattle.calculus.specs.Resolved.{VariableLine, Known, AllKnown, KnownCategory}
 use Rattle.terms.specs.Made.{noRoom}
+use Rattle.heads.specs.Heads.{HeadIs, no-head, contraction, unfolding-of}
 use Rattle.reduction.specs.Frames.{Lies}
-use Rattle.reduction.specs.Heads.{HeadIs, no-head, contraction, unfolding-of}
 use Rattle.reduction.specs.Posts.{Stepped}
 use Rattle.sides.proofs.Turns.{Numbered, none, contracts, unfolds}
 

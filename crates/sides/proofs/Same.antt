@@ -11,7 +11,7 @@ use Rattle.aut68.specs.Expr.{Expr, size, cells, identical}
 use Rattle.calculus.specs.Shapes.{identical-same}
 use Rattle.cells.specs.Cells.{At, Wf, AnyVariable, partsAfter, sameCells}
 use Rattle.cells.specs.Forests.{Pending, pending-one, pending-long, pending-ends, pass-cell, at-inside, cells-unique}
-use Rattle.reduction.specs.Sides.{identical-self, same-cells-identical}
+use Rattle.sides.specs.Sides.{identical-self, same-cells-identical}
 use Rattle.sides.specs.Posts.{SaysIdentical, SaysSame}
 use Rattle.sides.proofs.Places.{at-cell}
 

@@ -17,7 +17,7 @@ use Rattle.cells.specs.Posts.{Extent}
 use Rattle.cells.specs.Stores.{outside-same, outside-then, outside-more, at-kept}
 use Rattle.cells.specs.CopyLaws.{move-outside, move-at}
 use Rattle.cells.specs.Layout.{unit-inside, scratchUnit}
-use Rattle.reduction.specs.Book.{Book, category-wf}
+use Rattle.heads.specs.Book.{Book, category-wf}
 use Rattle.reduction.specs.Frames.{frame-of}
 use Rattle.sides.specs.Posts.{Pair, Placed, Goes, identically, toParts, onward, tooFar, spent, Proceeds, Settles, SaysSame}
 use Rattle.sides.proofs.Places.{at-whole, at-under}

@@ -17,11 +17,12 @@ use Rattle.cells.specs.Cells.{Outside}
 use Rattle.cells.specs.Forests.{size-is-length}
 use Rattle.cells.specs.Layout.{unitAt, scratchUnit}
 use Rattle.cells.specs.Stores.{outside-same}
-use Rattle.reduction.specs.Book.{Book, category-wf}
+use Rattle.heads.specs.Book.{Book, category-wf}
+use Rattle.heads.specs.Heads.{HeadIs}
+use Rattle.heads.specs.Posts.{HeadPost}
+use Rattle.heads.specs.declared.heads.Head.{Head}
 use Rattle.reduction.specs.Frames.{Framed, at-framed, framed-frame}
-use Rattle.reduction.specs.Heads.{HeadIs}
-use Rattle.reduction.specs.Posts.{HeadPost, StepPost}
-use Rattle.reduction.specs.declared.heads.Head.{Head}
+use Rattle.reduction.specs.Posts.{StepPost}
 use Rattle.sides.specs.Posts.{Side, Pair, Placed, SaysIdentical, Chooses, Goes, identically, toParts, onward, tooFar, spent, Proceeds}
 use Rattle.sides.proofs.Turns.{Which, theLeft, theRight, number, pick, stepIn}
 use Rattle.sides.proofs.Turns.{sides-same, sides-parts, sides-spent, sides-step, sides-large, next-same, next-choice, Choice, neither, chosen, choice}

@@ -1,2 +1,3 @@
 -- What is said of a pair of sides.
 pub mod Posts
+pub mod Sides

@@ -13,7 +13,7 @@ use Rattle.aut68.specs.Procedure.Compare.{Comparison, compareParts, sides}
 use Rattle.calculus.specs.Resolved.{KnownCategory}
 use Rattle.cells.specs.Cells.{Wf, At, Outside}
 use Rattle.cells.specs.Layout.{unitAt, scratchUnit}
-use Rattle.reduction.specs.Book.{Book}
+use Rattle.heads.specs.Book.{Book}
 
 -- ---- two expressions in one store
 

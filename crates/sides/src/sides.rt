@@ -9,7 +9,7 @@ use constants::OUT_OF_BUDGET;
 use constants::TOO_LARGE;
 use copies::move_cells;
 use copies::same_cells;
-use reduction::head_of;
+use heads::head_of;
 use reduction::step;
 
 // Where the head steps of two sides ended: 0 they are identical, 1 no side has a head step, 2 a step was taken and there may be

@@ -23,7 +23,7 @@ use Rattle.cells.specs.Results.{Result, then-refused, then-passed}
 use Rattle.cells.specs.Stores.{outside-same, at-kept, at-before}
 use Rattle.cells.specs.CopyLaws.{copy-at, copy-outside}
 use Rattle.terms.specs.Made.{Made, SubstitutePost}
-use Rattle.reduction.specs.Book.{Book, known-wf, category-wf}
+use Rattle.heads.specs.Book.{Book, known-wf, category-wf}
 use Rattle.reduction.specs.Depths.{substituted-below}
 use Rattle.reduction.specs.Frames.{frame-of}
 use Rattle.comparison.specs.Posts.{Compares}

@@ -26,10 +26,10 @@ use Rattle.cells.specs.Stores.{outside-same, at-taken}
 use Rattle.terms.specs.Made.{Made, InstantiatePost, InstancePost}
 use Rattle.terms.specs.MadeLaws.{made-large}
 use Rattle.instances.specs.Unchanged.{instantiate-none}
-use Rattle.reduction.specs.Book.{Book, all-known-wf, category-wf}
+use Rattle.heads.specs.Book.{Book, all-known-wf, category-wf}
 use Rattle.reduction.specs.Places.{wanted-numbered}
-use Rattle.reduction.specs.Sides.{identical-self}
 use Rattle.reduction.specs.Frames.{frame-of}
+use Rattle.sides.specs.Sides.{identical-self}
 use Rattle.levels.specs.Places.{FoundAt, Awaits}
 use Rattle.levels.specs.FoundPosts.{Passes}
 use Rattle.levels.specs.LeafPosts.{StoredPost}

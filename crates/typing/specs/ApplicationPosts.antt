@@ -14,7 +14,7 @@ use Rattle.aut68.specs.Procedure.Compare.{compare}
 use Rattle.aut68.specs.Procedure.Category.{Function, made}
 use Rattle.calculus.specs.Resolved.{Known}
 use Rattle.cells.specs.Cells.{At}
-use Rattle.reduction.specs.Book.{Book}
+use Rattle.heads.specs.Book.{Book}
 use Rattle.levels.specs.FoundPosts.{Frame, Finds, FindsKnown, FunctionKnown, Spans}
 
 -- what is left to do for `<A>B`, once A's category was found: its comparison with the domain, and A put into the body

@@ -10,7 +10,7 @@ use Rattle.aut68.specs.Procedure.Compare.{compare}
 use Rattle.calculus.specs.Resolved.{KnownCategory}
 use Rattle.cells.specs.Cells.{Outside}
 use Rattle.cells.specs.Layout.{unitAt, sideUnit}
-use Rattle.reduction.specs.Book.{Book}
+use Rattle.heads.specs.Book.{Book}
 use Rattle.levels.specs.Places.{Lies}
 use Rattle.levels.specs.FoundPosts.{Passes}
 

@@ -12,7 +12,7 @@ use Rattle.aut68.specs.Rules.Names.{IsLine}
 use Rattle.aut68.specs.Procedure.Compare.{compare}
 use Rattle.aut68.specs.Procedure.Category.{theLine, made}
 use Rattle.calculus.specs.Resolved.{KnownCategory}
-use Rattle.reduction.specs.Book.{Book}
+use Rattle.heads.specs.Book.{Book}
 use Rattle.levels.specs.Places.{Lies, Awaits}
 use Rattle.levels.specs.FoundPosts.{Frame, Passes, FindsKnown}
 

@@ -1,8 +1,8 @@
 -- `head_of_cell`: an abbreviation is unfolded; nothing else has a head step.
 use mathlib.Core.Path.{refl, sym, _∙_}
 use borrow.Author.Needs.{needs}
-use Rattle.reduction.proofs.heads.head_of_cell.Statement.{statement}
-use Rattle.reduction.proofs.heads.head_of_cell.Tie as tie
+use Rattle.heads.proofs.heads.head_of_cell.Statement.{statement}
+use Rattle.heads.proofs.heads.head_of_cell.Tie as tie
 
 returns : tie.Need-returns
 returns c = record { placed = (refl, refl); unfolds = λ a b. (refl, refl); stays = λ n. absurd (n (c .before .before .if1 .taken) (sym (c .before .field .ensures .0) ∙ c .if2 .taken)) }

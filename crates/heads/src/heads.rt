@@ -1,7 +1,7 @@
 // Which head step an expression has.
 ghost use mathlib.Core.Path.{_≡_};
 ghost use Prim.Native.Nat.{ℕ, _+_};
-ghost use Rattle.reduction.specs.Posts.{HeadCell, HeadPost};
+ghost use Rattle.heads.specs.Posts.{HeadCell, HeadPost};
 use cells::field;
 use cells::skip;
 use constants::CELL_FACTOR;

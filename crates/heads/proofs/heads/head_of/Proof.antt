@@ -4,9 +4,9 @@ use Prim.Native.Nat.{_+_, _-_, _≤_}
 use native.Mathlib.Omega.{arith}
 use lib.ListN.{length}
 use Rattle.cells.specs.Forests.{at-inside, size-is-length}
-use Rattle.reduction.proofs.HeadLaws.{Search, search-starts, search-inside, search-ends, search-application, applying-inside, search-contracts, search-passes}
-use Rattle.reduction.proofs.heads.head_of.Statement.{statement}
-use Rattle.reduction.proofs.heads.head_of.Tie as tie
+use Rattle.heads.proofs.HeadLaws.{Search, search-starts, search-inside, search-ends, search-application, applying-inside, search-contracts, search-passes}
+use Rattle.heads.proofs.heads.head_of.Statement.{statement}
+use Rattle.heads.proofs.heads.head_of.Tie as tie
 
 abbrev Inv-loop : tie.InvT-loop
 Inv-loop table w at n end i₀ i =

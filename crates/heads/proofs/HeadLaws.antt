@@ -17,11 +17,11 @@ use Rattle.calculus.specs.Resolved.{VariableLine, Known, KnownCategory}
 use Rattle.cells.specs.Cells.{AllFormed, At}
 use Rattle.cells.specs.Forests.{at-first, at-front, at-second, at-one, at-tail, cells-one, size-is-length, size-positive, number-of, kind-of}
 use Rattle.cells.specs.Posts.{Skipped}
-use Rattle.reduction.specs.declared.heads.Head as struct
-use Rattle.reduction.specs.Book.{Book, known-wf}
-use Rattle.reduction.specs.Heads.{applied, front, wrapped, applied-snoc, front-snoc, wrapped-snoc, wrapped-none, wrapped-beta, wrapped-delta}
-use Rattle.reduction.specs.Heads.{app-contracts, app-passes, const-unfolds, const-stays, HeadIs, no-head, contraction, unfolding-of}
-use Rattle.reduction.specs.Posts.{HeadCell}
+use Rattle.heads.specs.declared.heads.Head as struct
+use Rattle.heads.specs.Book.{Book, known-wf}
+use Rattle.heads.specs.Heads.{applied, front, wrapped, applied-snoc, front-snoc, wrapped-snoc, wrapped-none, wrapped-beta, wrapped-delta}
+use Rattle.heads.specs.Heads.{app-contracts, app-passes, const-unfolds, const-stays, HeadIs, no-head, contraction, unfolding-of}
+use Rattle.heads.specs.Posts.{HeadCell}
 
 -- the A's fs of e, which has n cells from index `start` on, are passed; at index i stands the rest of it, `head`
 pub record Searching (ls : Lines) (k : ℕ) (w : List ℕ) (start i n : ℕ) (e : Expr) : Type 0 where

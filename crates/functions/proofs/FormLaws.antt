@@ -23,14 +23,16 @@ use Rattle.cells.specs.Layout.{unitAt, scratchUnit}
 use Rattle.cells.specs.Posts.{Skipped}
 use Rattle.cells.specs.Results.{Result, passed, refused, code-nonzero}
 use Rattle.terms.specs.Made.{noRoom}
-use Rattle.reduction.specs.Book.{Book, known-wf}
+use Rattle.heads.specs.Book.{Book, known-wf}
+use Rattle.heads.specs.Heads.{HeadIs, no-head, contraction, unfolding-of}
+use Rattle.heads.specs.Posts.{HeadPost}
+use Rattle.heads.specs.declared.heads.Head as struct
+use Rattle.heads.proofs.HeadLaws.{not-abs}
 use Rattle.reduction.specs.Frames.{Framed, Lies, framed-then, framed-more}
-use Rattle.reduction.specs.Heads.{HeadIs, no-head, contraction, unfolding-of}
-use Rattle.reduction.specs.Posts.{HeadPost, Stepped, StepPost, FormIs, normal, FormPost, FunctionAt, FunctionPost}
-use Rattle.reduction.specs.Posts
-use Rattle.reduction.specs.declared.heads.Head as struct
-use Rattle.reduction.specs.declared.functions.Function.{Function}
-use Rattle.reduction.proofs.HeadLaws.{not-abs}
+use Rattle.reduction.specs.Posts.{Stepped, StepPost}
+use Rattle.functions.specs.Posts.{FormIs, normal, FormPost, FunctionAt, FunctionPost}
+use Rattle.functions.specs.Posts
+use Rattle.functions.specs.declared.functions.Function.{Function}
 
 -- ---- the procedure, step by step
 

@@ -1,0 +1,2 @@
+-- What head steps until an abstraction leave.
+pub mod Posts
