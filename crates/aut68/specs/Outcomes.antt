@@ -125,12 +125,13 @@ procedureOrder =
     ∷ usual aut68 (deep ++ bytesOf "*p:=PN:is(d)\n*q:=p:is(e)\n") 0 14 6
     ∷ usual aut68 (deep ++ bytesOf "*p:=PN:is(suc(d))\n*q:=p:is(suc(e))\n") 10 14 4
     -- the indicator before the identifier, this before the sizes; a count before what stands inside, the middle's names before the
-    -- category's; the written category before the middle
+    -- category's; the written category before the middle; the head steps of B's category before A's category
     ∷ usual aut68 (bytesOf "*nat:=PN:type\nq*nat:=PN:type\n") 5 2 0
     ∷ within aut68 100000 16 (bytesOf "*nat:=PN:type\n*nat:=a(b,b,b,b,b,b,b,b,b,b,b,b,b,b,b,b):type\n") 4 2 0
     ∷ usual aut68 (sample ++ bytesOf "*u:=suc(b,b):nat\n") 6 9 2
     ∷ usual aut68 (sample ++ bytesOf "*u:=suc:b\n") 6 9 2
     ∷ usual aut68 (sample ++ bytesOf "*u:=<one>one:one\n") 8 9 2
+    ∷ usual aut68 (sample ++ bytesOf "*u:=<[x,one]x>one:nat\n") 7 9 2
     -- a variable outside its context; the innermost binding; a name of 33 bytes
     ∷ usual aut68 (sample ++ bytesOf "*u:=n:nat\n") 5 9 2
     ∷ usual aut68 (sample ++ bytesOf "*u:=[x,F][x,nat]x:[x,F]F\n") 0 9 3

@@ -13,8 +13,8 @@ use Rattle.cells.specs.Forests.{size-is-length}
 use Rattle.cells.specs.Results.{then-refused, then-passed, result-map}
 use Rattle.cells.specs.Stores.{outside-same}
 use Rattle.reduction.specs.Frames.{framed-frame}
-use Rattle.functions.specs.Posts.{FunctionAt, FunctionPost}
-use Rattle.functions.specs.declared.functions.Function.{Function}
+use Rattle.reduction.specs.FunctionPosts.{FunctionAt, FunctionPost}
+use Rattle.reduction.specs.declared.functions.Function.{Function}
 use Rattle.levels.specs.FoundPosts.{FunctionKnown}
 use Rattle.levels.specs.Parts.{abstraction-domain, abstraction-body}
 use Rattle.levels.specs.Spots.{level-scratch}

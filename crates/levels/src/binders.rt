@@ -14,8 +14,8 @@ use constants::LARGEST_LIMIT;
 use constants::TOO_LARGE;
 use copies::load;
 use copies::move_cells;
-use functions::Function;
-use functions::to_function;
+use reduction::Function;
+use reduction::to_function;
 
 // Head steps of the category that was found at a level until it is an abstraction (else 7); or the refusal of that category.
 pub fn function_of(

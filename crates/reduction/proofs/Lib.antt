@@ -1,3 +1,4 @@
 mod ArgumentLaws
 mod PutLaws
 mod StepLaws
+mod FormLaws

@@ -28,11 +28,11 @@ use Rattle.heads.specs.Heads.{HeadIs, no-head, contraction, unfolding-of}
 use Rattle.heads.specs.Posts.{HeadPost}
 use Rattle.heads.specs.declared.heads.Head as struct
 use Rattle.heads.proofs.HeadLaws.{not-abs}
 use Rattle.reduction.specs.Frames.{Framed, Lies, framed-then, framed-more}
 use Rattle.reduction.specs.Posts.{Stepped, StepPost}
-use Rattle.functions.specs.Posts.{FormIs, normal, FormPost, FunctionAt, FunctionPost}
-use Rattle.functions.specs.Posts
-use Rattle.functions.specs.declared.functions.Function.{Function}
+use Rattle.reduction.specs.FunctionPosts.{FormIs, normal, FormPost, FunctionAt, FunctionPost}
+use Rattle.reduction.specs.FunctionPosts
+use Rattle.reduction.specs.declared.functions.Function.{Function}
 
 -- ---- the procedure, step by step
 
@@ -140,7 +140,7 @@ module _ {tb ts w₀ w : List ℕ} {limit budget at n₀ n budget′ : ℕ} {h :
     is = λ l {ls} B k c K y s q u a.
         let r = R .of l B k c K y s q u a in
         let (x, i) = head-some-of (H .is B k (r .g) (r .known) (r .lies .at) (r .sized)) z in
-        Posts.refused outOfBudget refl
+        FunctionPosts.refused outOfBudget refl
         (r .same ∙ ap (headForm ls limit (r .g)) e ∙ form-spent-at ls limit (r .g) x i ∙ ap (λ (b : ℕ). stop outOfBudget b) (sym e));
   }
 
@@ -162,7 +162,7 @@ module _ {tb ts w₀ w : List ℕ} {limit budget at n₀ n budget′ : ℕ} {h :
           let y = R .of l B k c K z s q u a in
           let X = step-of l B k z u y in
           let e : budget′ ≡ suc (budget′ - 1) = omega arith in
-          Posts.refused tooLarge refl
+          FunctionPosts.refused tooLarge refl
           (y .same
           ∙ ap (headForm ls limit (y .g)) e
           ∙ form-large-at ls limit (y .g) (X .next) (budget′ - 1) (X .is) (too-large X)
@@ -230,7 +230,7 @@ module _ {tb ts w w′ : List ℕ} {limit budget at n code size′ budget′ : �
     where
       go : {ls : Lines} {k : ℕ} {c : Expr} → FormIs ls limit k at c budget w′ code size′ budget′ → Result (FunctionAt ls limit k at w′ f) (f .code) (f .budget) (toFunction ls limit c budget)
       go (normal g z q K s o a e) = absurd (nz z)
-      go {ls} {c = c} (Posts.refused r z e) = subst (Result _ (f .code) (f .budget)) (sym (function-stops ls limit c budget budget′ e ∙ ap (stop r) (sym b))) (refused (x ∙ z))
+      go {ls} {c = c} (FunctionPosts.refused r z e) = subst (Result _ (f .code) (f .budget)) (sym (function-stops ls limit c budget budget′ e ∙ ap (stop r) (sym b))) (refused (x ∙ z))
 
   -- there is no head step, and no abstraction
   pub function-other : code ≡ 0 → (at < length w′ → getD w′ at 0 ≡ 5 → ⊥) → (f : Function) → f .code ≡ 7 → f .budget ≡ budget′ → FunctionPost tb ts w w′ limit budget at n f
@@ -238,7 +238,7 @@ module _ {tb ts w w′ : List ℕ} {limit budget at n code size′ budget′ : �
   function-other zero-code never f x b = record { framed = P .framed; is = λ l B k c K z s q u a. go (P .is l B k c K z s q u a) }
     where
       go : {ls : Lines} {k : ℕ} {c : Expr} → FormIs ls limit k at c budget w′ code size′ budget′ → Result (FunctionAt ls limit k at w′ f) (f .code) (f .budget) (toFunction ls limit c budget)
-      go (Posts.refused r z e) = absurd (code-nonzero r (sym z ∙ zero-code))
+      go (FunctionPosts.refused r z e) = absurd (code-nonzero r (sym z ∙ zero-code))
       go {ls} {c = c} (normal g z q K s o a e) =
           let sh : shape g ≡ other = not-abs g (λ i. never (omega (arith, at-inside g (a .at), cells-long g)) (at-first g (a .at) ∙ i)) in
           subst (Result _ (f .code) (f .budget)) (sym (function-none ls limit c g budget budget′ e sh ∙ ap (stop notFunction) (sym b))) (refused x)
@@ -249,6 +249,6 @@ module _ {tb ts w w′ : List ℕ} {limit budget at n code size′ budget′ : �
     where
       go : {ls : Lines} {k : ℕ} {c : Expr} → Book ls limit tb ts → FormIs ls limit k at c budget w′ code size′ budget′
           → Result (FunctionAt ls limit k at w′ f) (f .code) (f .budget) (toFunction ls limit c budget)
-      go B (Posts.refused r z e) = absurd (code-nonzero r (sym z ∙ zero-code))
+      go B (FunctionPosts.refused r z e) = absurd (code-nonzero r (sym z ∙ zero-code))
       go {ls} {k} {c} B (normal g z q K s o a e) =
           function-cells ls limit k at f c budget g z K s o a e (sym (at-first g (a .at)) ∙ five) S (λ p y. known-wf (B .rows) k p y) d i x b

@@ -1,9 +1,9 @@
 -- `to_function`: the head form, by its shape. cN is c, N steps before.
 use mathlib.Core.Path.{refl}
-use Rattle.functions.proofs.FormLaws.{function-refused, function-other, function-abstraction}
+use Rattle.reduction.proofs.FormLaws.{function-refused, function-other, function-abstraction}
 use borrow.Author.Needs.{needs}
-use Rattle.functions.proofs.functions.to_function.Statement.{statement}
-use Rattle.functions.proofs.functions.to_function.Tie as tie
+use Rattle.reduction.proofs.functions.to_function.Statement.{statement}
+use Rattle.reduction.proofs.functions.to_function.Tie as tie
 
 returns : tie.Need-returns
 returns c = function-refused (c .before .before .before .head-form .ensures) (c .if1 .taken) _ refl refl

@@ -1,14 +1,14 @@
 // Head steps until an expression is an abstraction.
 ghost use mathlib.Core.Path.{_≡_};
 ghost use Prim.Native.Nat.{ℕ};
-ghost use Rattle.functions.specs.Posts.{ShapePost, FormPost, FunctionPost};
+ghost use Rattle.reduction.specs.FunctionPosts.{ShapePost, FormPost, FunctionPost};
+use crate::steps::step;
 use cells::skip;
 use constants::Cell;
 use constants::NOT_FUNCTION;
 use constants::OUT_OF_BUDGET;
 use constants::TOO_LARGE;
 use heads::head_of;
-use reduction::step;
 
 // An abstraction's domain and body, by where they start; or something else.
 enum Shape {

@@ -16,10 +16,10 @@ use Rattle.cells.specs.Layout.{unitAt, scratchUnit}
 use Rattle.cells.specs.Posts.{Skipped}
 use Rattle.cells.specs.Results.{Result}
 use Rattle.heads.specs.Book.{Book}
 use Rattle.reduction.specs.Frames.{Framed, Lies}
-use Rattle.functions.specs.declared.functions.Shape.{Shape}
-use Rattle.functions.specs.declared.functions.Shape.the-variants.{Abstraction, Other}
-use Rattle.functions.specs.declared.functions.Function.{Function}
+use Rattle.reduction.specs.declared.functions.Shape.{Shape}
+use Rattle.reduction.specs.declared.functions.Shape.the-variants.{Abstraction, Other}
+use Rattle.reduction.specs.declared.functions.Function.{Function}
 
 -- the shape of the expression at index `at`
 abbrev pub ShapePost : List ℕ → List ℕ → ℕ → Shape → Type 0

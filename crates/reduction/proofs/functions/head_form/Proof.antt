@@ -2,10 +2,10 @@
 use Prim.Native.Nat.{_+_}
 use native.Mathlib.Omega.{arith}
 use Rattle.cells.specs.Layout.{unitAt, scratchUnit}
 use Rattle.reduction.specs.Frames.{Framed, framed-same}
-use Rattle.functions.proofs.FormLaws.{Reducing, reducing-starts, form-normal, form-spent, form-framed, form-large, form-steps}
-use Rattle.functions.proofs.functions.head_form.Statement.{statement}
-use Rattle.functions.proofs.functions.head_form.Tie as tie
+use Rattle.reduction.proofs.FormLaws.{Reducing, reducing-starts, form-normal, form-spent, form-framed, form-large, form-steps}
+use Rattle.reduction.proofs.functions.head_form.Statement.{statement}
+use Rattle.reduction.proofs.functions.head_form.Tie as tie
 
 abbrev Inv-loop : tie.InvT-loop
 Inv-loop table terms w₀ limit budget at size n₀ rest₀ w n rest =

@@ -1,2 +1,0 @@
--- What head steps until an abstraction leave.
-pub mod Posts
