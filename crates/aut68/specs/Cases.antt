@@ -7,7 +7,8 @@ use mathlib.Core.List.{List, [], _∷_}
 use lib.Dec.{eqb}
 use Rattle.aut68.specs.Language.{Language}
 use Rattle.aut68.specs.Stores.{Limits}
-use Rattle.aut68.specs.Procedure.Run.{run, codeAt, lineAt, stepsAt}
+use Rattle.aut68.specs.Lines.{tableOf, termsOf}
+use Rattle.aut68.specs.Procedure.Run.{run, codeAt, lineAt, stepsAt, recordedAt}
 
 -- the bytes of a text
 unfoldable pub bytesOf : String → List ℕ
@@ -31,6 +32,25 @@ holds c =
 unfoldable pub allHold : List Case → Bool
 allHold [] = true
 allHold (c ∷ cs) = elim (holds c) [ true ↦ allHold cs | false ↦ false ]
+
+-- a call and its outcome, with the cells of table and term store that it records
+pub data Kept : Type 0 where
+  kept : Case → List ℕ → List ℕ → Kept
+
+unfoldable pub sameNumbers : List ℕ → List ℕ → Bool
+sameNumbers [] [] = true
+sameNumbers [] (y ∷ ys) = false
+sameNumbers (x ∷ xs) [] = false
+sameNumbers (x ∷ xs) (y ∷ ys) = elim (eqb x y) [ true ↦ sameNumbers xs ys | false ↦ false ]
+
+unfoldable pub keeps : Kept → Bool
+keeps (kept c rows cells) =
+    let r = recordedAt (run (c .language) (c .book) (c .limits)) in
+    holds c && sameNumbers (tableOf (r .firsts) (r .recorded)) rows && sameNumbers (termsOf (r .recorded)) cells
+
+unfoldable pub allKeep : List Kept → Bool
+allKeep [] = true
+allKeep (c ∷ cs) = elim (keeps c) [ true ↦ allKeep cs | false ↦ false ]
 
 unfoldable pub under : Language → Limits → List ℕ → ℕ → ℕ → ℕ → Case
 under language m book code line steps = record { language = language; book = book; limits = m; endCode = code; endLine = line; endSteps = steps }

@@ -1,5 +1,6 @@
 -- The sixteen outcomes that document 01 calls the proved ones, as one table under one theorem; books that tell its misreadings apart,
--- under another; the example books in AUT-QE, under a third; and the lines that a book of three records.
+-- under another; the example books in AUT-QE, under a third; those with omitted arguments, under a fourth; and the lines that a book
+-- of three records.
 use mathlib.Core.Path.{_≡_, refl}
 use Prim.Native.Nat.{ℕ, zero, suc}
 use mathlib.Core.Bool.{true}
@@ -19,7 +20,8 @@ use Rattle.aut68.specs.Procedure.Compare
 use Rattle.aut68.specs.Procedure.Category
 use Rattle.aut68.specs.Procedure.CheckLine
 use Rattle.aut68.specs.Procedure.Run
-use Rattle.aut68.specs.Cases.{Case, bytesOf, holds, allHold, under, within, usual}
+use Rattle.aut68.specs.Cases.{Case, bytesOf, holds, allHold, sameNumbers, keeps, allKeep, under, within, usual}
+use Rattle.aut68.specs.Omitted.{sums, sumRows, sumCells, omittedArguments}
 use Rattle.aut68.specs.ExamplesQE.{naturals, families, examplesQE}
 
 unfoldable pub sample : List ℕ
@@ -39,7 +41,7 @@ tableRows =
     ∷ usual aut68 (sample ++ bytesOf "*u:=<one>one:nat\n") 7 9 2
     ∷ usual aut68 (sample ++ bytesOf "*u:=PN:one\n") 8 9 2
     ∷ usual aut68 (sample ++ bytesOf "*u:=one:F\n") 9 9 3
-    ∷ within aut68 100000 16 (bytesOf "*u:=a(b,b,b,b,b,b,b,b,b,b,b,b,b,b,b,b):type\n") 10 1 0
+    ∷ within aut68 100000 16 (bytesOf "*a:=PN:type\n*u:=[x,a][x,a][x,a][x,a][x,a][x,a][x,a][x,a]a:type\n") 10 2 0
     ∷ within aut68 1 256 sample 11 8 1
     ∷ under aut68 (record { budget = 100000; limit = 256; table = 56; terms = 32768; work = 32768 }) sample 12 8 1
     ∷ []
@@ -127,7 +129,7 @@ procedureOrder =
     -- the indicator before the identifier, this before the sizes; a count before what stands inside, the middle's names before the
     -- category's; the written category before the middle; the head steps of B's category before A's category
     ∷ usual aut68 (bytesOf "*nat:=PN:type\nq*nat:=PN:type\n") 5 2 0
-    ∷ within aut68 100000 16 (bytesOf "*nat:=PN:type\n*nat:=a(b,b,b,b,b,b,b,b,b,b,b,b,b,b,b,b):type\n") 4 2 0
+    ∷ within aut68 100000 16 (bytesOf "*nat:=PN:type\n*nat:=[x,nat][x,nat][x,nat][x,nat][x,nat][x,nat][x,nat][x,nat]nat:type\n") 4 2 0
     ∷ usual aut68 (sample ++ bytesOf "*u:=suc(b,b):nat\n") 6 9 2
     ∷ usual aut68 (sample ++ bytesOf "*u:=suc:b\n") 6 9 2
     ∷ usual aut68 (sample ++ bytesOf "*u:=<one>one:one\n") 8 9 2
@@ -156,22 +158,22 @@ numberLines =
 
 -- ---- the tables, computed
 
-computed : (allHold (tableRows ++ fourOutcomes) ≡ true) × (allHold (misreadings ++ procedureOrder) ≡ true) × (allHold examplesQE ≡ true) × (Run.recordedAt (Run.run aut68 numbers (record { budget = 0; limit = 16; table = 24; terms = 8; work = 2048 })) .recorded ≡ numberLines)
-unfolding numbers numberLines allHold holds under within usual naturals families examplesQE sample longer tableRows fourOutcomes selfNamed swapped renumbered stepsRemain misreadings equality pairs repeated nested deep procedureOrder bytesOf
+computed : (allHold (tableRows ++ fourOutcomes) ≡ true) × (allHold (misreadings ++ procedureOrder) ≡ true) × (allHold examplesQE ≡ true) × (allKeep omittedArguments ≡ true) × (Run.recordedAt (Run.run aut68 numbers (record { budget = 0; limit = 16; table = 24; terms = 8; work = 2048 })) .recorded ≡ numberLines)
+unfolding numbers numberLines allHold holds sameNumbers keeps allKeep under within usual sums sumRows sumCells omittedArguments naturals families examplesQE sample longer tableRows fourOutcomes selfNamed swapped renumbered stepsRemain misreadings equality pairs repeated nested deep procedureOrder bytesOf
     Answer.codeOf Answer.andThen Answer.when Answer.ensure Answer.aside
     Bytes.nameByte Bytes.opensExpression Bytes.sameBytes Bytes.wordType Bytes.wordPN Bytes.wordEB Bytes.wordProp Bytes.reserved Bytes.onto Bytes.lines
-    Source.cellsOfSrc Source.countSrcs Source.middleCells
+    Source.countSrcs
     Parse.spaces Parse.byte Parse.symbol Parse.starts Parse.wordOf Parse.afterWord Parse.wordAhead Parse.pastWord Parse.nameFits Parse.aName Parse.commaOrClose Parse.arguments Parse.argumentsIfAny Parse.named Parse.application Parse.abstraction Parse.anExpression Parse.anIndicator Parse.aMiddle Parse.propOrName Parse.wordAt Grammar.below Parse.bytesLeft Parse.lineEnd Parse.aLine
-    Expr.size Expr.firstCell Expr.parts Expr.cells Expr.snoc Expr.countExprs Expr.shape Expr.isType Expr.isSort Expr.endsInType Expr.endsInProp Expr.overBinding Expr.firstPart Expr.secondPart Expr.identical
+    Expr.size Expr.levels Expr.inFront Expr.firstCell Expr.parts Expr.cells Expr.snoc Expr.countExprs Expr.shape Expr.isType Expr.isSort Expr.endsInType Expr.endsInProp Expr.overBinding Expr.firstPart Expr.secondPart Expr.identical
     Substitution.liftIndex Substitution.lift Substitution.substituteBound Substitution.substitute Substitution.argumentFor Substitution.instantiateVariable Substitution.instantiate
     Lines.noLine Lines.lineOf Lines.numberFrom Lines.numberOf Lines.kindCells Lines.lineCells Lines.termsOf Lines.kindNumber Lines.rowOf Lines.rowsFrom Lines.tableOf
-    Resolve.member Resolve.placeFrom Resolve.answered Resolve.lookUp Resolve.sought Resolve.wanted Resolve.build Resolve.resolve Resolve.resolveMiddle Resolve.indicatorLine Resolve.contextAt Resolve.unused
+    Resolve.leftOut Resolve.member Resolve.placeFrom Resolve.answered Resolve.lookUp Resolve.sought Resolve.wanted Resolve.build Resolve.resolve Resolve.resolveMiddle Resolve.indicatorLine Resolve.contextAt Resolve.unused
     HeadStep.under HeadStep.headStep HeadStep.left
     Compare.choose Compare.next Compare.each Compare.endsAs Compare.hasSurplus Compare.compareParts Compare.sides Compare.compareAt Compare.compare
     Category.nth Category.theLine Category.made Category.headForm Category.parts Category.toFunction Category.servesAsType Category.opens Category.secondChance Category.categoryAt Category.searches Category.category
-    CheckLine.readLine CheckLine.room CheckLine.store CheckLine.checkDomain CheckLine.checkSupertype CheckLine.checkWritten CheckLine.checkMiddle CheckLine.checkCategories CheckLine.checkLine
+    CheckLine.withinLimits CheckLine.middleWithinLimits CheckLine.readLine CheckLine.room CheckLine.store CheckLine.checkDomain CheckLine.checkSupertype CheckLine.checkWritten CheckLine.checkMiddle CheckLine.checkCategories CheckLine.checkLine
     Run.codeAt Run.lineAt Run.stepsAt Run.recordedAt Run.over Run.tableEnd Run.termsEnd Run.workEnd Run.oneMore Run.checkLines Run.nothing Run.run
-computed = (refl, refl, refl, refl)
+computed = (refl, refl, refl, refl, refl)
 
 pub outcomes : allHold (tableRows ++ fourOutcomes) ≡ true
 outcomes = computed .0
@@ -182,5 +184,9 @@ misreadings-excluded = computed .1
 pub examples-hold : allHold examplesQE ≡ true
 examples-hold = computed .2
 
+-- `suc` in the block of n is `suc(n)`, and so on
+pub omitted-arguments : allKeep omittedArguments ≡ true
+omitted-arguments = computed .3
+
 pub numbers-recorded : Run.recordedAt (Run.run aut68 numbers (record { budget = 0; limit = 16; table = 24; terms = 8; work = 2048 })) .recorded ≡ numberLines
-numbers-recorded = computed .3
+numbers-recorded = computed .4

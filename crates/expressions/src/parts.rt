@@ -1,5 +1,10 @@
-// The parts of a walk over an expression that call no other: how far it came, a cell and a name's cell written, counts tested.
+// The parts of a walk over an expression that call no other: how far it came, a cell written, a name looked up, its arguments
+// completed.
+use completion::last_left_out;
+use completion::put_in;
+use constants::CELL_FACTOR;
 use constants::Cell;
+use constants::NESTING;
 use meanings::Meaning;
 use meanings::meaning_of;
 ghost use mathlib.Core.Path.{_≡_};
@@ -7,11 +12,11 @@ ghost use Prim.Native.Nat.{_+_, _≤_};
 ghost use lib.ListN.{length};
 ghost use Rattle.kinds.specs.Kinds.{opensKind};
 ghost use Rattle.expressions.specs.Walk.{CellPut};
-ghost use Rattle.expressions.specs.Posts.{Refusing, NamePut, CountTested};
+ghost use Rattle.expressions.specs.Posts.{Refusing, NameSought, Completed};
 
 // How far a walk came. code: 0, or the refusal of the form (3 or 10), which ends the walk. at: the next byte. to: the next
-// cell, which counts on where the lent store has no room. fault: the first refusal of a name (5 or 6), or 0; it says
-// something only if code is 0 and the cells had room. count: the arguments read, for an argument string.
+// cell; one past the store's end, and staying there, where the store had no room or something was put in too deep. fault: the
+// first refusal of a name (5 or 6), or 0; it says something only if code is 0. count: the arguments read, for an argument string.
 pub struct Reading {
     pub code: u32,
     pub at: usize,
@@ -45,32 +50,33 @@ pub fn opens(k: u8) -> bool
     true
 }
 
-// Writes the cell x at index `to` if there is room.
-pub fn put(w: &mut [Cell], to: usize, x: Cell)
-    ensures { λ _. ⌜ CellPut (now (w .entry)) (now (w .exit)) to x ⌝ }
+// Writes the cell x at index `to`, and gives the next index; one past the store's end where there is no room.
+pub fn put(w: &mut [Cell], to: usize, x: Cell) -> usize
+    ensures { λ r. ⌜ CellPut (now (w .entry)) (now (w .exit)) to x r ⌝ }
 {
     if to < w.len() {
         w[to] = x;
+        return to + 1;
     }
+    w.len() + 1
 }
 
-// The meaning of the name of `len` bytes at `start` whose binding is b, by the hints and the context noted in w, with its cell at index `to` of w.
-// It is not looked up where a fault came before or there is no room, since it is not asked for then.
-pub fn put_name(
+// The meaning of the name of `len` bytes at `start` whose binding is b, by the hints and the context noted in w. It is not looked up
+// where a fault came before, since it is not asked for then.
+pub fn name_meaning(
     line: &[u8],
     book: &[u8],
     table: &[u32],
     lines: usize,
     indicator: usize,
-    w: &mut [Cell],
-    to: usize,
+    w: &[Cell],
     fault: u32,
     b: usize,
     start: usize,
     len: usize,
 ) -> Meaning
     requires { ⌜ start + len ≤ length (now line) ⌝ }
-    ensures { λ m. ⌜ NamePut (now (line .entry)) b (now (book .entry)) (now (table .entry)) lines indicator (now (w .entry)) (now (w .exit)) to fault start len m ⌝ }
+    ensures { λ m. ⌜ NameSought (now (line .entry)) b (now (book .entry)) (now (table .entry)) lines indicator (now (w .entry)) fault start len m ⌝ }
 {
     if fault != 0 {
         return Meaning {
@@ -79,24 +85,36 @@ pub fn put_name(
             wanted: 0,
         };
     }
-    if to >= w.len() {
-        return Meaning {
-            fault: constants::TOO_LARGE,
-            cell: 0,
-            wanted: 0,
-        };
-    }
     let end = start + len;
-    let m = meaning_of(b, book, table, lines, indicator, w, &line[start..end]);
-    let cell = m.cell;
-    w[to] = cell;
-    m
+    meaning_of(b, book, table, lines, indicator, w, &line[start..end])
 }
 
-// The arguments a of a name that means m, with 6 as the fault where their count is not the wanted one. A wrong count stands at
-// its name, so it goes before a fault in the arguments.
-pub fn counted(a: Reading, m: Meaning) -> Reading
-    ensures { λ r. ⌜ CountTested a m r ⌝ }
+// The arguments a with this fault and this next cell.
+fn with(a: Reading, to: usize, fault: u32) -> Reading
+    ensures { λ r. ⌜ (r .code ≡ a .code) × (r .at ≡ a .at) × (r .to ≡ to) × (r .fault ≡ fault) ⌝ }
+{
+    Reading {
+        code: a.code,
+        at: a.at,
+        to: to,
+        fault: fault,
+        count: 0,
+    }
+}
+
+// The arguments a of a name that means m, at nesting depth `depth`, their cells from `first` on: those left out put in front, with 6
+// as the fault where that cannot be (leftOut). A wrong count stands at its name, so it goes before a fault in the arguments.
+pub fn completed(
+    table: &[u32],
+    indicator: usize,
+    w: &mut [Cell],
+    first: usize,
+    depth: usize,
+    a: Reading,
+    m: Meaning,
+) -> Reading
+    requires { ⌜ depth < nesting ⌝ }
+    ensures { λ r. ⌜ Completed (now (table .entry)) indicator (now (w .entry)) (now (w .exit)) first depth a m r ⌝ }
 {
     if a.code != 0 {
         return a;
@@ -104,14 +122,21 @@ pub fn counted(a: Reading, m: Meaning) -> Reading
     if m.fault != 0 {
         return a;
     }
-    if a.count == m.wanted {
+    let count = a.count;
+    if count == m.wanted {
         return a;
     }
-    Reading {
-        code: 0,
-        at: a.at,
-        to: a.to,
-        fault: constants::WRONG_ARITY,
-        count: 0,
+    if count > m.wanted {
+        return with(a, a.to, constants::WRONG_ARITY);
     }
+    let v = (m.cell / CELL_FACTOR) as usize;
+    let last = last_left_out(table, w, indicator, v, count);
+    if last == 0 {
+        return with(a, a.to, constants::WRONG_ARITY);
+    }
+    if depth + 1 >= NESTING {
+        return with(a, w.len() + 1, a.fault);
+    }
+    let to = put_in(table, w, first, a.to, last);
+    with(a, to, a.fault)
 }

@@ -1,9 +1,9 @@
 // The walk over an expression: functions that call each other, one for each form. specs/Posts has the contracts.
 use crate::parts::Reading;
-use crate::parts::counted;
+use crate::parts::completed;
+use crate::parts::name_meaning;
 use crate::parts::opens;
 use crate::parts::put;
-use crate::parts::put_name;
 use crate::parts::refused;
 use cells::Scope;
 use cells::bind;
@@ -36,7 +36,7 @@ pub fn expression(
     fault: u32,
     scope: Scope,
 ) -> Reading
-    requires { ⌜ (to ≤ length (now w) + from) × (from ≤ length (now line)) ⌝ }
+    requires { ⌜ (to ≤ length (now w) + 1) × (from ≤ length (now line)) ⌝ }
     ensures { λ r′. ⌜ ExpressionRead (expressionIn scope) (now (kinds .entry)) (now (line .entry)) scope
         (now (book .entry)) (now (table .entry)) lines indicator (now (w .entry)) (now (w .exit)) (goOn from to fault) r′ ⌝ }
 {
@@ -91,7 +91,7 @@ pub fn expression(
     }
 }
 
-// A name with its arguments, if any (named): the name's meaning, its cell, the arguments, their count.
+// A name with its arguments, if any (named): the name's meaning, its cell, the arguments, those left out.
 fn named(
     line: &[u8],
     kinds: &[u8; 256],
@@ -105,7 +105,7 @@ fn named(
     fault: u32,
     scope: Scope,
 ) -> Reading
-    requires { ⌜ (to ≤ length (now w) + from) × (from ≤ length (now line)) × (scope .depth < nesting) ⌝ }
+    requires { ⌜ (to ≤ length (now w) + 1) × (from ≤ length (now line)) × (scope .depth < nesting) ⌝ }
     ensures { λ r′. ⌜ ExpressionRead (namedIn scope) (now (kinds .entry)) (now (line .entry)) scope
         (now (book .entry)) (now (table .entry)) lines indicator (now (w .entry)) (now (w .exit)) (goOn from to fault) r′ ⌝ }
 {
@@ -121,21 +121,20 @@ fn named(
     if scope.bound > 0 {
         b = binding(line, scope, &line[start..next]);
     }
-    let m = put_name(
+    let m = name_meaning(
         line,
         book,
         table,
         lines,
         indicator,
         w,
-        to,
         fault,
         b,
         start,
         len,
     );
     let found = m.fault;
-    let cell = to + 1;
+    let cell = put(w, to, m.cell);
     let open = symbol(line, kinds, next, kinds::OPEN);
     if open > line.len() {
         let alone = Reading {
@@ -145,7 +144,7 @@ fn named(
             fault: found,
             count: 0,
         };
-        return counted(alone, m);
+        return completed(table, indicator, w, cell, scope.depth, alone, m);
     }
     let inner = nest(scope);
     let a = arguments(
@@ -161,7 +160,7 @@ fn named(
         found,
         inner,
     );
-    counted(a, m)
+    completed(table, indicator, w, cell, scope.depth, a, m)
 }
 
 // One argument or more, up to the `)` (arguments); the scope is theirs.
@@ -179,7 +178,7 @@ fn arguments(
     fault: u32,
     inner: Scope,
 ) -> Reading
-    requires { ⌜ (to ≤ length (now w) + from) × (from ≤ length (now line)) ⌝ }
+    requires { ⌜ (to ≤ length (now w) + 1) × (from ≤ length (now line)) ⌝ }
     ensures { λ r′. ⌜ ArgumentsRead (now (kinds .entry)) (now (line .entry)) inner (now (book .entry)) (now (table .entry)) lines indicator (now (w .entry)) (now (w .exit)) (goOn from to fault) r′ ⌝ }
 {
     let mut at = from;
@@ -239,7 +238,7 @@ fn application(
     fault: u32,
     scope: Scope,
 ) -> Reading
-    requires { ⌜ (to ≤ length (now w) + from) × (from ≤ length (now line)) × (scope .depth < nesting) ⌝ }
+    requires { ⌜ (to ≤ length (now w) + 1) × (from ≤ length (now line)) × (scope .depth < nesting) ⌝ }
     ensures { λ r′. ⌜ ExpressionRead (applicationIn scope) (now (kinds .entry)) (now (line .entry)) scope
         (now (book .entry)) (now (table .entry)) lines indicator (now (w .entry)) (now (w .exit)) (goOn from to fault) r′ ⌝ }
 {
@@ -247,7 +246,7 @@ fn application(
     if open > line.len() {
         return refused(constants::MALFORMED, from, to);
     }
-    put(w, to, 4);
+    let cell = put(w, to, 4);
     let inner = nest(scope);
     let a = expression(
         line,
@@ -258,7 +257,7 @@ fn application(
         indicator,
         w,
         open,
-        to + 1,
+        cell,
         fault,
         inner,
     );
@@ -298,7 +297,7 @@ fn abstraction(
     fault: u32,
     scope: Scope,
 ) -> Reading
-    requires { ⌜ (to ≤ length (now w) + from) × (from ≤ length (now line)) × (scope .depth < nesting) ⌝ }
+    requires { ⌜ (to ≤ length (now w) + 1) × (from ≤ length (now line)) × (scope .depth < nesting) ⌝ }
     ensures { λ r′. ⌜ ExpressionRead (abstractionIn scope) (now (kinds .entry)) (now (line .entry)) scope
         (now (book .entry)) (now (table .entry)) lines indicator (now (w .entry)) (now (w .exit)) (goOn from to fault) r′ ⌝ }
 {
@@ -316,7 +315,7 @@ fn abstraction(
     if comma > line.len() {
         return refused(constants::MALFORMED, open, to);
     }
-    put(w, to, 5);
+    let cell = put(w, to, 5);
     let level = nest(scope);
     let a = expression(
         line,
@@ -327,7 +326,7 @@ fn abstraction(
         indicator,
         w,
         comma,
-        to + 1,
+        cell,
         fault,
         level,
     );

@@ -2,6 +2,7 @@
 mod contexts;
 mod meanings;
 
+pub use contexts::in_context;
 pub use contexts::note_context;
 pub use meanings::Meaning;
 pub use meanings::Sought;

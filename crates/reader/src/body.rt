@@ -82,17 +82,17 @@ fn category(
     w: &mut [Cell],
     r: Reading,
 ) -> Reading
-    requires { ⌜ (r .to ≤ length (now w) + r .at) × (r .at ≤ length (now line)) ⌝ }
+    requires { ⌜ (r .to ≤ length (now w) + 1) × (r .at ≤ length (now line)) ⌝ }
     ensures { λ c. ⌜ CategoryRead (now (kinds .entry)) (now (line .entry)) (now (book .entry)) (now (table .entry)) lines indicator (now (w .entry)) (now (w .exit)) r c ⌝ }
 {
     let start = spaces(line, r.at);
     let end = word_end(line, kinds, start);
     if same_word(&line[start..end], b"type") {
-        put(w, r.to, 0);
+        let to = put(w, r.to, 0);
         return Reading {
             code: 0,
             at: end,
-            to: r.to + 1,
+            to: to,
             fault: r.fault,
             count: 0,
         };

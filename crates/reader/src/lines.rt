@@ -1,4 +1,4 @@
-// A whole line: form, indicator, identifier, sizes, names, in that order of refusals.
+// A whole line: form, indicator, identifier, names, sizes, in that order of refusals.
 use crate::body::body;
 use crate::body::middle_kind;
 use cells::LINE_UNIT;
@@ -80,7 +80,7 @@ fn bad_line(code: u32) -> Line
     }
 }
 
-// The line: form, indicator, identifier, sizes, names, in that order of refusals (readLine). Of the units of w, the last two
+// The line: form, indicator, identifier, names, sizes, in that order of refusals (readLine). Of the units of w, the last two
 // get the cells of middle and category, the one before them the line's context; hints lie below.
 fn read_into(
     line: &[u8],
@@ -118,6 +118,9 @@ fn read_into(
     if taken != 0 {
         return bad_line(constants::DUPLICATE);
     }
+    if b.fault != 0 {
+        return bad_line(b.fault);
+    }
     let cells = b.count - to;
     let all = b.to - to;
     if cells > limit {
@@ -125,9 +128,6 @@ fn read_into(
     }
     if all - cells > limit {
         return bad_line(constants::TOO_LARGE);
-    }
-    if b.fault != 0 {
-        return bad_line(b.fault);
     }
     let context = context_length(table, indicator);
     Line {

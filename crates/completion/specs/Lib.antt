@@ -1,0 +1,2 @@
+-- Arguments left out, put in: the contracts.
+pub mod Posts
