@@ -16,8 +16,8 @@ use Rattle.aut68.specs.Procedure.Parse.{Read, spaces, starts, byte, aName, anIn
 use Rattle.kinds.specs.Kinds.{KindsTable, kindOf, placeOr0, kind-of-name, name-of-kind, one-of-kind}
 use Rattle.symbols.specs.Symbols.{firstKind, PastSpaces, KindAt, PastSymbol, NameAt}
 use Rattle.symbols.proofs.SymbolLaws.{step, byte-here, byte-missing, byte-end}
-use Rattle.headings.specs.declared.heads.Prefix.{Prefix}
-use Rattle.headings.specs.declared.heads.Head.{Head}
+use Rattle.headings.specs.declared.before_middle.Prefix.{Prefix}
+use Rattle.headings.specs.declared.before_middle.Head.{Head}
 use Rattle.headings.specs.ReadLine.{afterHeading, nameOr}
 use Rattle.headings.specs.Posts.{PrefixRead, HeadRead}
 

@@ -10,8 +10,8 @@ use Rattle.aut68.specs.Bytes.{Bytes, lines}
 use Rattle.aut68.specs.Procedure.Answer.{done, stop, malformed}
 use Rattle.aut68.specs.Procedure.Parse.{aLine, anIndicator}
 use Rattle.kinds.specs.Kinds.{KindsTable}
-use Rattle.headings.specs.declared.heads.Prefix.{Prefix}
-use Rattle.headings.specs.declared.heads.Head.{Head}
+use Rattle.headings.specs.declared.before_middle.Prefix.{Prefix}
+use Rattle.headings.specs.declared.before_middle.Head.{Head}
 use Rattle.headings.specs.ReadLine.{afterHeading, nameOr}
 
 -- the indicator was read, if there is one

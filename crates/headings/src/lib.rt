@@ -1,7 +1,7 @@
 // Lines of a book: where each ends, and its heading. specs/Posts has the contracts, specs/ReadLine what stands behind a heading.
+mod before_middle;
 mod ends;
-mod heads;
 
+pub use before_middle::Head;
+pub use before_middle::heading;
 pub use ends::line_end;
-pub use heads::Head;
-pub use heads::heading;

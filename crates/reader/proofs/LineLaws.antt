@@ -24,7 +24,7 @@ use Rattle.cells.specs.Cells.{At, Outside}
 use Rattle.cells.specs.Stores.{outside-below}
 use Rattle.cells.specs.Results.{Result}
 use Rattle.cells.specs.Results as Results
-use Rattle.headings.specs.declared.heads.Head.{Head}
+use Rattle.headings.specs.declared.before_middle.Head.{Head}
 use Rattle.headings.specs.ReadLine.{nameOr}
 use Rattle.headings.specs.Posts.{HeadRead}
 use Rattle.names.specs.Known.{Known}

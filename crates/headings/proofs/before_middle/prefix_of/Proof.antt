@@ -1,8 +1,8 @@
 use native.Mathlib.Omega.{arith}
 use borrow.Author.Needs.{needs}
 use Rattle.headings.proofs.HeadLaws.{prefix-empty, prefix-malformed, prefix-named}
-use Rattle.headings.proofs.heads.prefix_of.Statement.{statement}
-use Rattle.headings.proofs.heads.prefix_of.Tie as tie
+use Rattle.headings.proofs.before_middle.prefix_of.Statement.{statement}
+use Rattle.headings.proofs.before_middle.prefix_of.Tie as tie
 
 returns : tie.Need-returns
 returns c = prefix-empty (c .before .before .spaces .ensures) (c .before .kind-at .ensures) (c .if1 .taken)

@@ -1,8 +1,8 @@
 use native.Mathlib.Omega.{arith}
 use borrow.Author.Needs.{needs}
 use Rattle.headings.proofs.HeadLaws.{heading-no-indicator, heading-no-star, heading-no-name, heading-no-colon, heading-no-equals, heading-read}
-use Rattle.headings.proofs.heads.heading.Statement.{statement}
-use Rattle.headings.proofs.heads.heading.Tie as tie
+use Rattle.headings.proofs.before_middle.heading.Statement.{statement}
+use Rattle.headings.proofs.before_middle.heading.Tie as tie
 
 returns : tie.Need-returns
 returns c = heading-no-indicator (c .before .before .before .prefix-of .ensures) (c .before .if1 .taken) (c .bad-head .ensures)
