@@ -11,6 +11,7 @@ use Rattle.aut68.specs.Lines.{Lines}
 use Rattle.aut68.specs.Procedure.Answer.{andThen, when}
 use Rattle.aut68.specs.Procedure.Parse.{arguments}
 use Rattle.aut68.specs.Procedure.Resolve.{contextAt}
+use Rattle.aut68.specs.Sizes.{nesting}
 use Rattle.symbols.specs.Symbols.{PastSymbol}
 use Rattle.cells.specs.declared.scope.Scope.{Scope}
 use Rattle.meanings.specs.Bindings.{boundNames}
@@ -28,14 +29,14 @@ pub record ArgumentsSoFar (ks s : Bytes) (scope : Scope) (book tb : List ℕ) (l
   pub up : r .to ≤ to
   pub from : r .at ≤ at
   pub inside : at ≤ length s
-  pub fewer : to ≤ length w₀ + at
+  pub small : to ≤ length w₀ + 1
   pub few : count ≤ at
   pub rest : (ls : Lines) → Ready ls ks s book tb lines indicator scope w₀ (r .to) → (n : ℕ) → length s - r .at < n
-      → (m : ℕ) × (length s - at < m) × ((w′ : List ℕ) (r′ : Reading) → SameBelow to w w′
+      → (m : ℕ) × (length s - at < m) × ((w′ : List ℕ) (r′ : Reading) → SameBelow to w w′ → to ≤ r′ .to
       → ReadTo s (Counted ls s indicator scope w w′ to fault count r′) (r′ .code) (r′ .at) (arguments (expressionIn scope) m (drop at s))
       → ReadTo s (Counted ls s indicator scope w₀ w′ (r .to) (r .fault) 0 r′) (r′ .code) (r′ .at) (arguments (expressionIn scope) n (drop (r .at) s)))
 
-pub arguments-start : {ks s : Bytes} {scope : Scope} {book tb : List ℕ} {lines indicator : ℕ} {w : List ℕ} {r : Reading} → r .to ≤ length w + r .at → r .at ≤ length s
+pub arguments-start : {ks s : Bytes} {scope : Scope} {book tb : List ℕ} {lines indicator : ℕ} {w : List ℕ} {r : Reading} → r .to ≤ length w + 1 → r .at ≤ length s
     → ArgumentsSoFar ks s scope book tb lines indicator w w r (r .at) (r .to) (r .fault) 0
 arguments-start {w = w} {r} f i =
     record {
@@ -43,9 +44,9 @@ arguments-start {w = w} {r} f i =
       up = omega arith;
       from = omega arith;
       inside = i;
-      fewer = f;
+      small = f;
       few = omega arith;
-      rest = λ ls ready n l. (n, l, λ w′ r′ b h. h);
+      rest = λ ls ready n l. (n, l, λ w′ r′ b u h. h);
     }
 
 module _ {ks s : Bytes} {scope : Scope} {book tb : List ℕ} {lines indicator : ℕ} {w₀ w wA : List ℕ} {r a : Reading} {at to fault count : ℕ}
@@ -61,12 +62,12 @@ module _ {ks s : Bytes} {scope : Scope} {book tb : List ℕ} {lines indicator : 
               up = omega (arith, h .up, A .onward .up);
               from = omega (arith, h .from, A .onward .from);
               inside = A .onward .inside;
-              fewer = omega (arith, A .onward .fewer, h .below .long);
+              small = omega (arith, A .onward .small, h .below .long);
             };
         read = λ ls ready k l.
             let (m, b, f) = h .rest ls ready k l in
             let e : m ≡ suc (m - 1) = omega arith in
-            f wA a (A .onward .below)
+            f wA a (A .onward .below) (A .onward .up)
             (read-is (ap (λ i. arguments (expressionIn scope) i (drop at s)) e) (then-refused _ n (A .read ls (ready-on (h .below) (h .up) ready))));
       }
 
@@ -80,22 +81,22 @@ module _ {ks s : Bytes} {scope : Scope} {book tb : List ℕ} {lines indicator : 
           up = omega (arith, h .up, A .onward .up);
           from = omega (arith, h .from, A .onward .from);
           inside = i;
-          fewer = omega (arith, A .onward .fewer, h .below .long);
+          small = omega (arith, A .onward .small, h .below .long);
           few = omega (arith, h .few, A .onward .from);
           rest = λ ls ready k l.
               let (m, b, f) = h .rest ls ready k l in
               let e : m ≡ suc (m - 1) = omega arith in (
                 m - 1,
                 omega (arith, A .onward .from),
-                λ w′ r′ below rest.
-                    f w′ r′ (below-then (A .onward .below) (A .onward .up) below)
+                λ w′ r′ below up rest.
+                    f w′ r′ (below-then (A .onward .below) (A .onward .up) below) (omega (arith, A .onward .up))
                     (read-is (ap (λ i. arguments (expressionIn scope) i (drop at s)) e)
                     (then-passed _ z (A .read ls (ready-on (h .below) (h .up) ready)) (λ x X.
                     then-done _ (comma-read (drop (a .at) s) (symbol-read 44 p (symbol-kinds .2) (omega arith) i (ready .table)))
                     (then-give (cons x) rest (λ xs Y.
                     record {
                       number = Y .number ∙ omega arith;
-                      written = argument-written ls (contextAt ls indicator) (boundNames s scope) (A .onward .below) below X (Y .written);
+                      written = argument-written ls (contextAt ls indicator) (boundNames s scope) below (A .onward .up) up X (Y .written);
                     }))))),
               );
         }
@@ -106,12 +107,12 @@ module _ {ks s : Bytes} {scope : Scope} {book tb : List ℕ} {lines indicator : 
       arguments-unclosed {r′} v g =
           record {
             onward =
-                onward-refused (below-then (h .below) (h .up) (A .onward .below)) g (omega (arith, h .up, A .onward .up)) (omega (arith, A .onward .fewer, h .below .long))
+                onward-refused (below-then (h .below) (h .up) (A .onward .below)) g (omega (arith, h .up, A .onward .up)) (omega (arith, A .onward .small, h .below .long))
                 (omega (arith, h .from, A .onward .from)) (A .onward .inside);
             read = λ ls ready k l.
                 let (m, b, f) = h .rest ls ready k l in
                 let e : m ≡ suc (m - 1) = omega arith in
-                f wA r′ (A .onward .below)
+                f wA r′ (A .onward .below) (omega (arith, A .onward .up, g .toIs))
                 (read-is (ap (λ i. arguments (expressionIn scope) i (drop at s)) e)
                 (then-passed _ z (A .read ls (ready-on (h .below) (h .up) ready)) (λ x X.
                 then-stop _
@@ -132,12 +133,12 @@ module _ {ks s : Bytes} {scope : Scope} {book tb : List ℕ} {lines indicator : 
                   up = omega (arith, h .up, A .onward .up);
                   from = omega (arith, h .from, A .onward .from);
                   inside = v;
-                  fewer = omega (arith, A .onward .fewer, h .below .long);
+                  small = omega (arith, A .onward .small, h .below .long);
                 };
             read = λ ls ready k l.
                 let (m, b, f) = h .rest ls ready k l in
                 let e : m ≡ suc (m - 1) = omega arith in
-                f wA (record { code = 0; at = close; to = a .to; fault = a .fault; count = count + 1 }) (A .onward .below)
+                f wA (record { code = 0; at = close; to = a .to; fault = a .fault; count = count + 1 }) (A .onward .below) (A .onward .up)
                 (read-is (ap (λ i. arguments (expressionIn scope) i (drop at s)) e)
                 (then-passed _ z (A .read ls (ready-on (h .below) (h .up) ready)) (λ x X.
                 then-done _
@@ -147,7 +148,7 @@ module _ {ks s : Bytes} {scope : Scope} {book tb : List ℕ} {lines indicator : 
                 (record {
                   number = omega arith;
                   written =
-                      argument-written ls (contextAt ls indicator) (boundNames s scope) (A .onward .below) (below-same (a .to) wA) X
-                      (no-arguments-written ls (contextAt ls indicator) (boundNames s scope) wA (a .to) (a .fault));
+                      argument-written ls (contextAt ls indicator) (boundNames s scope) (below-same (a .to) wA) (A .onward .up) (omega arith) X
+                      (no-arguments-written ls (contextAt ls indicator) (boundNames s scope) wA (a .to) (nesting - scope .depth) (a .fault));
                 })))));
           }

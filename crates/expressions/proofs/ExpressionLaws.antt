@@ -10,12 +10,12 @@ use lib.Seq.{slice}
 use Rattle.aut68.specs.Language.{aut68}
 use Rattle.aut68.specs.Rules.Grammar.{inner}
 use Rattle.aut68.specs.Bytes.{Bytes, nameByte}
-use Rattle.aut68.specs.Source.{Src, cellsOfSrc}
-use Rattle.aut68.specs.Expr.{cells}
+use Rattle.aut68.specs.Source.{Src}
+use Rattle.aut68.specs.Expr.{Expr, cells, levels}
 use Rattle.aut68.specs.Lines.{Lines}
 use Rattle.aut68.specs.Procedure.Answer.{done, stop, codeOf, malformed, tooLarge}
 use Rattle.aut68.specs.Procedure.Parse.{Read, spaces, symbol, named, application, abstraction, anExpression}
-use Rattle.aut68.specs.Procedure.Resolve.{resolve, contextAt}
+use Rattle.aut68.specs.Procedure.Resolve.{Naming, resolve, contextAt}
 use Rattle.aut68.specs.Sizes.{nesting}
 use Rattle.kinds.specs.Kinds.{KindsTable, kindOf, placeOr0, opensKind}
 use Rattle.symbols.specs.Symbols.{firstKind, PastSpaces, KindAt, PastSymbol}
@@ -29,7 +29,7 @@ use Rattle.meanings.specs.NotedContext.{context-noted-same}
 use Rattle.meanings.proofs.BindingLaws.{nested-names, bound-names}
 use Rattle.expressions.specs.declared.parts.Reading.{Reading}
 use Rattle.expressions.specs.Walk.{ReadTo, SameBelow, Written}
-use Rattle.expressions.specs.Posts.{expressionIn, namedIn, applicationIn, abstractionIn, Sized, Ready, Refusing, Onward, WrittenOne, ExpressionRead}
+use Rattle.expressions.specs.Posts.{expressionIn, namedIn, applicationIn, abstractionIn, Sized, Ready, Refusing, Onward, ExpressionRead}
 use Rattle.expressions.proofs.StoreLaws.{below-same}
 use Rattle.expressions.proofs.ReadLaws.{read-is, read-stop, choose-application, choose-abstraction, choose-named, too-deep, opens-nothing}
 
@@ -49,6 +49,14 @@ ready-on {to = to} b l h =
       short = h .short;
       sized = h .sized;
     }
+
+-- ---- levels that are left
+
+no-level : (d : ℕ) → nesting ≤ d → nesting - d ≡ 0
+no-level d l = omega arith
+
+some-level : (d : ℕ) → d < nesting → nesting - d ≡ suc (nesting - 1 - d)
+some-level d l = omega arith
 
 -- ---- one level deeper
 
@@ -94,28 +102,36 @@ module _ {ks s book tb : List ℕ} {lines indicator : ℕ} {next : Scope} {w w�
     (h : ExpressionRead (anExpression aut68 (nesting - next .depth) inner) ks s next book tb lines indicator w w′ r r′) where
   -- the part one level deeper than d, under the names that are bound there
   deeper-read : (d : ℕ) → next .depth ≡ d + 1 → (ls : Lines) → Ready ls ks s book tb lines indicator next w (r .to) → (bs : List Bytes) → boundNames s next ≡ bs
-      → ReadTo s (Written cellsOfSrc cells (resolve ls (contextAt ls indicator) bs) w w′ (r .to) (r′ .to) (r .fault) (r′ .fault)) (r′ .code) (r′ .at)
+      → ReadTo s (Written cells levels (resolve ls (contextAt ls indicator) bs) w w′ (r .to) (r′ .to) (nesting - 1 - d) (r .fault) (r′ .fault)) (r′ .code) (r′ .at)
       (anExpression aut68 (nesting - 1 - d) inner (drop (r .at) s))
   deeper-read d q ls ready bs names =
-      let level : nesting - 1 - d ≡ nesting - next .depth = omega arith in
-      read-is (ap (λ d. anExpression aut68 d inner (drop (r .at) s)) level)
-      (subst (λ bs. ReadTo s (Written cellsOfSrc cells (resolve ls (contextAt ls indicator) bs) w w′ (r .to) (r′ .to) (r .fault) (r′ .fault)) (r′ .code) (r′ .at)
+      let level : nesting - next .depth ≡ nesting - 1 - d = omega arith in
+      subst (λ n. ReadTo s (Written cells levels (resolve ls (contextAt ls indicator) bs) w w′ (r .to) (r′ .to) n (r .fault) (r′ .fault)) (r′ .code) (r′ .at)
+      (anExpression aut68 n inner (drop (r .at) s))) level
+      (subst (λ bs. ReadTo s (Written cells levels (resolve ls (contextAt ls indicator) bs) w w′ (r .to) (r′ .to) (nesting - next .depth) (r .fault) (r′ .fault)) (r′ .code) (r′ .at)
       (anExpression aut68 (nesting - next .depth) inner (drop (r .at) s))) names
       (h .read ls ready))
 
   -- a level that binds nothing
   pub level-read : {scope : Scope} → Nested scope next → scope .depth < nesting → (ls : Lines) → Ready ls ks s book tb lines indicator scope w (r .to)
-      → ReadTo s (WrittenOne ls s indicator scope w w′ (r .to) (r′ .to) (r .fault) (r′ .fault)) (r′ .code) (r′ .at) (anExpression aut68 (nesting - 1 - scope .depth) inner (drop (r .at) s))
+      → ReadTo s (Written cells levels (resolve ls (contextAt ls indicator) (boundNames s scope)) w w′ (r .to) (r′ .to) (nesting - 1 - scope .depth) (r .fault) (r′ .fault)) (r′ .code) (r′ .at)
+      (anExpression aut68 (nesting - 1 - scope .depth) inner (drop (r .at) s))
   level-read {scope} b l ls ready = deeper-read (scope .depth) (b .deeper l) ls (ready-inner (sized-nested b l (ready .sized)) ready) (boundNames s scope) (nested-names s b)
 
   -- a level that binds a name of the line
   pub body-read : {scope : Scope} {start len : ℕ} → Bound scope start len next → scope .depth < nesting → start + len ≤ length s → (ls : Lines) → Ready ls ks s book tb lines indicator scope w (r .to)
-      → ReadTo s (Written cellsOfSrc cells (resolve ls (contextAt ls indicator) (slice start (start + len) s ∷ boundNames s scope)) w w′ (r .to) (r′ .to) (r .fault) (r′ .fault)) (r′ .code) (r′ .at)
-      (anExpression aut68 (nesting - 1 - scope .depth) inner (drop (r .at) s))
+      → ReadTo s (Written cells levels (resolve ls (contextAt ls indicator) (slice start (start + len) s ∷ boundNames s scope)) w w′ (r .to) (r′ .to) (nesting - 1 - scope .depth) (r .fault) (r′ .fault))
+      (r′ .code) (r′ .at) (anExpression aut68 (nesting - 1 - scope .depth) inner (drop (r .at) s))
   body-read {scope} {start} {len} b l e ls ready =
       let f : Bindable scope start len = bindable ready l e in
       deeper-read (scope .depth) (b .deeper l) ls (ready-inner (sized-bound b f (ready .sized)) ready) (slice start (start + len) s ∷ boundNames s scope)
       (bound-names s b f (ready .sized .starts) (ready .sized .lens) ∙ ap (λ x. x ∷ boundNames s scope) (part-whole s start len e))
+
+-- what is written of a whole, one level above its parts
+pub whole-written : {resolveIt : Src → Naming Expr} {w w′ : List ℕ} {to end fault fault′ : ℕ} {x : Src} (depth : ℕ) → depth < nesting
+    → Written cells levels resolveIt w w′ to end (suc (nesting - 1 - depth)) fault fault′ x → Written cells levels resolveIt w w′ to end (nesting - depth) fault fault′ x
+whole-written {resolveIt} {w} {w′} {to} {end} {fault} {fault′} {x} depth l h =
+    subst (λ n. Written cells levels resolveIt w w′ to end n fault fault′ x) (sym (some-level depth l)) h
 
 -- ---- kinds of symbols
 
@@ -141,29 +157,23 @@ code-tooLarge = refl
 -- ---- refusals
 
 pub onward-refused : {s : Bytes} {w w′ : List ℕ} {r r′ : Reading} {code at to : ℕ} → SameBelow (r .to) w w′ → Refusing code at to r′
-    → r .to ≤ to → to ≤ length w + at → r .at ≤ at → at ≤ length s → Onward s w w′ r r′
+    → r .to ≤ to → to ≤ length w + 1 → r .at ≤ at → at ≤ length s → Onward s w w′ r r′
 onward-refused b h u f l m =
-    record { below = b; up = omega (arith, h .toIs); from = omega (arith, h .atIs); inside = omega (arith, h .atIs); fewer = omega (arith, h .toIs, h .atIs) }
+    record { below = b; up = omega (arith, h .toIs); from = omega (arith, h .atIs); inside = omega (arith, h .atIs); small = omega (arith, h .toIs) }
 
 -- ---- the choice of an expression
 
 kind-ahead : {ks s : Bytes} {from at k : ℕ} → PastSpaces s from at → KindAt ks s at k → KindsTable ks → k ≡ firstKind (spaces (drop from s))
 kind-ahead p q t = q .kind t ∙ ap firstKind (p .rest)
 
-no-level : (d : ℕ) → nesting ≤ d → nesting - d ≡ 0
-no-level d l = omega arith
-
-some-level : (d : ℕ) → d < nesting → nesting - d ≡ suc (nesting - 1 - d)
-some-level d l = omega arith
-
 module _ {ks s book tb : List ℕ} {lines indicator : ℕ} {scope : Scope} {w : List ℕ} {r r′ : Reading} {at k : ℕ}
-    (p : PastSpaces s (r .at) at) (q : KindAt ks s at k) (fewer : r .to ≤ length w + r .at) (inside : r .at ≤ length s) where
+    (p : PastSpaces s (r .at) at) (q : KindAt ks s at k) (small : r .to ≤ length w + 1) (inside : r .at ≤ length s) where
   module _ (deep : nesting ≤ scope .depth) where
     pub expression-too-deep : {t : Bool} → t ≡ opensKind k → t ≡ true → Refusing 10 at (r .to) r′
         → ExpressionRead (expressionIn scope) ks s scope book tb lines indicator w w r r′
     expression-too-deep e f h =
         record {
-          onward = onward-refused (below-same (r .to) w) h (omega arith) (omega (arith, p .from)) (p .from) (p .within inside);
+          onward = onward-refused (below-same (r .to) w) h (omega arith) small (p .from) (p .within inside);
           read = λ ls ready.
               read-is (ap (λ d. anExpression aut68 d inner (drop (r .at) s)) (no-level (scope .depth) deep))
               (read-stop (too-deep (drop (r .at) s) (ap opensKind (sym (kind-ahead p q (ready .table))) ∙ sym e ∙ f)) (h .codeIs ∙ sym code-tooLarge));
@@ -173,7 +183,7 @@ module _ {ks s book tb : List ℕ} {lines indicator : ℕ} {scope : Scope} {w : 
         → ExpressionRead (expressionIn scope) ks s scope book tb lines indicator w w r r′
     expression-malformed e f h =
         record {
-          onward = onward-refused (below-same (r .to) w) h (omega arith) (omega (arith, p .from)) (p .from) (p .within inside);
+          onward = onward-refused (below-same (r .to) w) h (omega arith) small (p .from) (p .within inside);
           read = λ ls ready.
               read-is (ap (λ d. anExpression aut68 d inner (drop (r .at) s)) (no-level (scope .depth) deep))
               (read-stop (opens-nothing (drop (r .at) s) (ap opensKind (sym (kind-ahead p q (ready .table))) ∙ sym e ∙ f)) (h .codeIs ∙ sym code-malformed));

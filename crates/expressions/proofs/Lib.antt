@@ -1,5 +1,6 @@
 -- Laws that the proofs of this crate share.
 pub mod StoreLaws
+pub mod LaidLaws
 pub mod ReadLaws
 pub mod WrittenLaws
 pub mod ExpressionLaws

@@ -9,8 +9,8 @@ use lib.Seq.{slice, length-slice}
 use Rattle.aut68.specs.Language.{aut68}
 use Rattle.aut68.specs.Rules.Grammar.{inner}
 use Rattle.aut68.specs.Bytes.{Bytes}
-use Rattle.aut68.specs.Source.{name, nil, cellsOfSrcs, countSrcs}
-use Rattle.aut68.specs.Expr.{cellss}
+use Rattle.aut68.specs.Source.{Srcs, name, nil, countSrcs}
+use Rattle.aut68.specs.Expr.{cellss, levelss}
 use Rattle.aut68.specs.Lines.{Lines}
 use Rattle.aut68.specs.Procedure.Parse.{named, anExpression, arguments}
 use Rattle.aut68.specs.Procedure.Resolve.{contextAt, resolves, meaning}
@@ -24,37 +24,25 @@ use Rattle.meanings.specs.Meanings.{Meant, MeaningFound}
 use Rattle.meanings.specs.declared.meanings.Meaning.{Meaning}
 use Rattle.meanings.proofs.BindingLaws.{nested-names, bound-start, bound-nowhere}
 use Rattle.expressions.specs.declared.parts.Reading.{Reading}
-use Rattle.expressions.specs.Walk.{ReadTo, passed, CellPut, Written}
-use Rattle.expressions.specs.Posts.{partIn, namedIn, goOn, Ready, Refusing, ExpressionRead, Counted, ArgumentsRead, NamePut, CountTested}
-use Rattle.expressions.proofs.StoreLaws.{below-same, below-then, below-put}
+use Rattle.expressions.specs.Walk.{ReadTo, passed, SameBelow, CellPut, Written}
+use Rattle.expressions.specs.Posts.{partIn, namedIn, goOn, Ready, Refusing, WrittenOne, ExpressionRead, ArgumentsRead, NameSought, Completed}
+use Rattle.expressions.proofs.StoreLaws.{below-same, below-then, below-put, put-next}
 use Rattle.expressions.proofs.ReadLaws.{then-done, then-stop, then-give-on, then-map, read-is, no-arguments, some-arguments}
 use Rattle.expressions.proofs.WrittenLaws.{no-arguments-written, name-written}
-use Rattle.expressions.proofs.ExpressionLaws.{ready-on, ready-inner, sized-nested, onward-refused, symbol-read, symbol-missing, symbol-kinds, code-malformed}
+use Rattle.expressions.proofs.ExpressionLaws.{ready-on, ready-inner, sized-nested, whole-written, onward-refused, symbol-read, symbol-missing, symbol-kinds, code-malformed}
 
--- ---- a name's cell
+-- ---- what a name means
 
-module _ {s : Bytes} {b : ℕ} {book tb : List ℕ} {lines indicator : ℕ} {w : List ℕ} {to fault start len : ℕ} where
-  pub put-after-fault : {cell wanted : ℕ} → fault ≢ 0 → NamePut s b book tb lines indicator w w to fault start len (record { fault = fault; cell = cell; wanted = wanted })
-  put-after-fault n =
-      record { below = below-same to w; kept = λ n. refl; stored = λ z. absurd (n z); meant = λ z. absurd (n z) }
+module _ {s : Bytes} {b : ℕ} {book tb : List ℕ} {lines indicator : ℕ} {w : List ℕ} {fault start len : ℕ} where
+  pub sought-after-fault : {cell wanted : ℕ} → fault ≢ 0 → NameSought s b book tb lines indicator w fault start len (record { fault = fault; cell = cell; wanted = wanted })
+  sought-after-fault n = record { kept = λ n. refl; meant = λ z. absurd (n z) }
 
-  pub put-no-room : {code cell wanted : ℕ} → fault ≡ 0 → length w ≤ to → NamePut s b book tb lines indicator w w to fault start len (record { fault = code; cell = cell; wanted = wanted })
-  put-no-room z l =
+  pub sought-meaning : {word : List ℕ} {m : Meaning} → fault ≡ 0 → word ≡ slice start (start + len) s → start + len ≤ length s
+      → MeaningFound b book tb lines indicator w word (m .fault) (m .cell) (m .wanted) → NameSought s b book tb lines indicator w fault start len m
+  sought-meaning {m = m} z e l h =
       record {
-        below = below-same to w;
         kept = λ n. absurd (n z);
-        stored = λ z m. absurd (omega arith);
-        meant = λ z m. absurd (omega arith);
-      }
-
-  pub put-meaning : {w′ word : List ℕ} {m : Meaning} → fault ≡ 0 → CellPut w w′ to (m .cell) → word ≡ slice start (start + len) s → start + len ≤ length s
-      → MeaningFound b book tb lines indicator w word (m .fault) (m .cell) (m .wanted) → NamePut s b book tb lines indicator w w′ to fault start len m
-  put-meaning {m = m} z put e l h =
-      record {
-        below = below-put put;
-        kept = λ n. absurd (n z);
-        stored = λ z m. put;
-        meant = λ z r p q ls k hinted context i scope f d.
+        meant = λ z p q ls k hinted context i scope f d.
             subst (λ x. Meant ls (contextAt ls indicator) (m .fault) (m .cell) (m .wanted) (meaning ls (contextAt ls indicator) x (boundNames s scope) tt)) e
             (h .is ls k hinted context i s scope (subst (λ x. BindingFound s scope x b) (sym e) f) d (omega (arith, ap length e, length-slice start (start + len) s l)));
       }
@@ -71,74 +59,92 @@ module _ {s : Bytes} {scope : Scope} {b : ℕ} where
 -- the argument string one level deeper, with the names that are bound around it
 level-arguments : {ks s book tb : List ℕ} {lines indicator : ℕ} {scope next : Scope} {w w′ : List ℕ} {r r′ : Reading} → Nested scope next → scope .depth < nesting
     → ArgumentsRead ks s next book tb lines indicator w w′ r r′ → (ls : Lines) → Ready ls ks s book tb lines indicator scope w (r .to) → (n : ℕ) → length s - r .at < n
-    → ReadTo s (Counted ls s indicator scope w w′ (r .to) (r .fault) 0 r′) (r′ .code) (r′ .at) (arguments (partIn scope) n (drop (r .at) s))
+    → ReadTo s (λ xs. (r′ .count ≡ countSrcs xs)
+    × Written cellss levelss (resolves ls (contextAt ls indicator) (boundNames s scope)) w w′ (r .to) (r′ .to) (nesting - 1 - scope .depth) (r .fault) (r′ .fault) xs)
+    (r′ .code) (r′ .at) (arguments (partIn scope) n (drop (r .at) s))
 level-arguments {s = s} {indicator = indicator} {scope} {next} {w} {w′} {r} {r′} b l h ls ready n m =
     let names : boundNames s next ≡ boundNames s scope = nested-names s b in
-    let level : nesting - 1 - scope .depth ≡ nesting - next .depth = omega (arith, b .deeper l) in
-    read-is (ap (λ d. arguments (anExpression aut68 d inner) n (drop (r .at) s)) level)
-    (then-map (h .read ls (ready-inner (sized-nested b l (ready .sized)) ready) n m) (λ xs X.
-    record {
-      number = X .number;
-      written = subst (λ bs. Written cellsOfSrcs cellss (resolves ls (contextAt ls indicator) bs) w w′ (r .to) (r′ .to) (r .fault) (r′ .fault) xs) names (X .written);
-    }))
+    let level : nesting - next .depth ≡ nesting - 1 - scope .depth = omega (arith, b .deeper l) in
+    read-is (ap (λ d. arguments (anExpression aut68 d inner) n (drop (r .at) s)) (sym level))
+    (then-map (h .read ls (ready-inner (sized-nested b l (ready .sized)) ready) n m) (λ xs X. (
+      X .number ∙ omega arith,
+      subst (λ d. Written cellss levelss (resolves ls (contextAt ls indicator) (boundNames s scope)) w w′ (r .to) (r′ .to) d (r .fault) (r′ .fault) xs) level
+      (subst (λ bs. Written cellss levelss (resolves ls (contextAt ls indicator) bs) w w′ (r .to) (r′ .to) (nesting - next .depth) (r .fault) (r′ .fault) xs) names (X .written)),
+    )))
+
+-- what is written of the arguments, those left out among them, is written of the name with its arguments
+name-read : {ks s book tb : List ℕ} {lines indicator : ℕ} {scope : Scope} {w w₁ wA w′ : List ℕ} {to fault start len b first : ℕ} {m : Meaning} {a r′ : Reading}
+    → scope .depth < nesting → to ≤ length w + 1 → len ≢ 0 → start + len ≤ length s → BindingFound s scope (slice start (start + len) s) b
+    → NameSought s b book tb lines indicator w fault start len m → CellPut w w₁ to (m .cell) first → SameBelow first w₁ wA → first ≤ a .to → a .to ≤ length wA + 1
+    → Completed tb indicator wA w′ first (scope .depth) a m r′ → (ls : Lines) → Ready ls ks s book tb lines indicator scope w to → (xs : Srcs) → a .code ≡ 0 → a .count ≡ countSrcs xs
+    → Written cellss levelss (resolves ls (contextAt ls indicator) (boundNames s scope)) w₁ wA first (a .to) (nesting - 1 - scope .depth) (m .fault) (a .fault) xs
+    → WrittenOne ls s indicator scope w w′ to (r′ .to) fault (r′ .fault) (name (slice start (start + len) s) xs)
+name-read {scope = scope} {to = to} l small e within found sought put below up few h ls ready xs z count X =
+    whole-written (scope .depth) l
+    (name-written ls sought put (ready .known) (ready .hinted) (ready .context)
+    (ready-on {to′ = to} (below-then (below-put put) (put-next put small .0) below) (omega arith) ready .context) (ready .earlier) found
+    (omega (arith, ready .sized .few)) (omega arith) within below xs h z up few count X)
 
 module _ {ks s book tb : List ℕ} {lines indicator : ℕ} {scope : Scope} {w : List ℕ} {r : Reading} {start len : ℕ}
-    (fewer : r .to ≤ length w + r .at) (inside : r .at ≤ length s) (l : scope .depth < nesting) (n : NameAt ks s (r .at) start len) where
+    (small : r .to ≤ length w + 1) (inside : r .at ≤ length s) (l : scope .depth < nesting) (n : NameAt ks s (r .at) start len) where
   pub named-unnamed : {r′ : Reading} → len ≡ 0 → Refusing 3 (r .at) (r .to) r′
       → ExpressionRead (namedIn scope) ks s scope book tb lines indicator w w r r′
   unfolding named
   named-unnamed e h =
       record {
-        onward = onward-refused (below-same (r .to) w) h (omega arith) fewer (omega arith) inside;
+        onward = onward-refused (below-same (r .to) w) h (omega arith) small (omega arith) inside;
         read = λ ls ready. then-stop _ (n .missing (ready .table) inside e) (h .codeIs ∙ sym code-malformed);
       }
 
   module _ (e : len ≢ 0) {b : ℕ} (found : BindingFound s scope (slice start (start + len) s) b) {w₁ : List ℕ} {m : Meaning}
-      (put : NamePut s b book tb lines indicator w w₁ (r .to) (r .fault) start len m)
+      (sought : NameSought s b book tb lines indicator w (r .fault) start len m) {first : ℕ} (put : CellPut w w₁ (r .to) (m .cell) first)
       {o : ℕ} (p : PastSymbol ks s (start + len) 8 o) where
-    pub named-alone : {r′ : Reading} → length s < o → CountTested (goOn (start + len) (r .to + 1) (m .fault)) m r′
-        → ExpressionRead (namedIn scope) ks s scope book tb lines indicator w w₁ r r′
+    pub named-alone : {w′ : List ℕ} {r′ : Reading} → length s < o → Completed tb indicator w₁ w′ first (scope .depth) (goOn (start + len) first (m .fault)) m r′
+        → ExpressionRead (namedIn scope) ks s scope book tb lines indicator w w′ r r′
     unfolding named countSrcs
-    named-alone {r′} i h =
+    named-alone {w′} {r′} i h =
+        let (up, few) = put-next put small in
+        let long = below-put put .long in
+        let few₁ : first ≤ length w₁ + 1 = omega arith in
         record {
           onward =
               record {
-                below = put .below;
-                up = omega (arith, h .to);
+                below = below-then (below-put put) up (h .below);
+                up = omega (arith, h .up few₁);
                 from = omega (arith, h .at, n .from);
                 inside = omega (arith, h .at, n .within inside);
-                fewer = omega (arith, h .at, h .to, n .from);
+                small = omega (arith, h .small few₁);
               };
           read = λ ls ready.
               then-done _ (n .read (ready .table) inside e)
               (then-done _ (no-arguments (partIn scope) (drop (start + len) s) (symbol-missing 40 p (symbol-kinds .3) (omega arith) i (ready .table)))
               (passed (h .code) (ap (λ i. drop i s) (h .at))
-              (name-written ls put (ready .known) (ready .hinted) (ready .context) (ready .earlier) found (omega (arith, ready .sized .few)) (omega arith)
-              (n .within inside) (below-same (r .to + 1) w₁) nil h refl refl
-              (no-arguments-written ls (contextAt ls indicator) (boundNames s scope) w₁ (r .to + 1) (m .fault)))));
+              (name-read l small e (n .within inside) found sought put (below-same first w₁) (omega arith) few₁ h ls ready nil refl refl
+              (no-arguments-written ls (contextAt ls indicator) (boundNames s scope) w₁ first (nesting - 1 - scope .depth) (m .fault)))));
         }
 
-    pub named-read : {wA : List ℕ} {next : Scope} {a r′ : Reading} → o ≤ length s → Nested scope next
-        → ArgumentsRead ks s next book tb lines indicator w₁ wA (goOn o (r .to + 1) (m .fault)) a → CountTested a m r′
-        → ExpressionRead (namedIn scope) ks s scope book tb lines indicator w wA r r′
+    pub named-read : {wA w′ : List ℕ} {next : Scope} {a r′ : Reading} → o ≤ length s → Nested scope next
+        → ArgumentsRead ks s next book tb lines indicator w₁ wA (goOn o first (m .fault)) a → Completed tb indicator wA w′ first (scope .depth) a m r′
+        → ExpressionRead (namedIn scope) ks s scope book tb lines indicator w w′ r r′
     unfolding named
-    named-read {a = a} i next A h =
+    named-read {wA} {a = a} i next A h =
         let from = p .from (n .within inside) in
+        let (up, few) = put-next put small in
+        let long = A .onward .below .long in
+        let few₁ : a .to ≤ length wA + 1 = omega (arith, A .onward .small) in
         record {
           onward =
               record {
-                below = below-then (put .below) (omega arith) (A .onward .below);
-                up = omega (arith, h .to, A .onward .up);
+                below = below-then (below-then (below-put put) up (A .onward .below)) up (h .below);
+                up = omega (arith, h .up few₁, A .onward .up);
                 from = omega (arith, h .at, n .from, A .onward .from, from);
                 inside = omega (arith, h .at, A .onward .inside);
-                fewer = omega (arith, h .at, h .to, A .onward .fewer, put .below .long);
+                small = omega (arith, h .small few₁, below-put put .long);
               };
           read = λ ls ready.
               then-done _ (n .read (ready .table) inside e)
               (then-give-on (name (slice start (start + len) s)) (h .code) (h .at)
               (read-is (some-arguments (partIn scope) (drop (start + len) s) (symbol-read 40 p (symbol-kinds .3) (omega arith) i (ready .table)))
-              (level-arguments next l A ls (ready-on (put .below) (omega arith) ready) (length (drop (start + len) s)) (omega (arith, length-drop (start + len) s, from))))
-              (λ xs z X.
-              name-written ls put (ready .known) (ready .hinted) (ready .context) (ready .earlier) found (omega (arith, ready .sized .few)) (omega arith) (n .within inside) (A .onward .below) xs h z
-              (X .number ∙ omega arith) (X .written)));
+              (level-arguments next l A ls (ready-on (below-put put) up ready) (length (drop (start + len) s)) (omega (arith, length-drop (start + len) s, from))))
+              (λ xs z X. name-read l small e (n .within inside) found sought put (A .onward .below) (A .onward .up) few₁ h ls ready xs z (X .0) (X .1)));
         }

@@ -21,10 +21,10 @@ use Rattle.meanings.specs.Bindings.{boundNames}
 use Rattle.expressions.specs.declared.parts.Reading.{Reading}
 use Rattle.expressions.specs.Walk.{CellPut}
 use Rattle.expressions.specs.Posts.{applicationIn, abstractionIn, goOn, Ready, Refusing, Onward, ExpressionRead}
-use Rattle.expressions.proofs.StoreLaws.{below-same, below-then, below-put}
+use Rattle.expressions.proofs.StoreLaws.{below-same, below-then, below-put, put-next}
 use Rattle.expressions.proofs.ReadLaws.{then-refused, then-passed, then-done, then-stop, then-give}
 use Rattle.expressions.proofs.WrittenLaws.{application-written, abstraction-written}
-use Rattle.expressions.proofs.ExpressionLaws.{ready-on, level-read, body-read, onward-refused, symbol-read, symbol-missing, symbol-kinds, code-malformed}
+use Rattle.expressions.proofs.ExpressionLaws.{ready-on, level-read, body-read, whole-written, onward-refused, symbol-read, symbol-missing, symbol-kinds, code-malformed}
 
 -- the steps of a walk, one after the other
 pub onward-then : {s : Bytes} {w w₁ w₂ : List ℕ} {r r₁ r₂ r₃ : Reading} → Onward s w w₁ r r₁ → r₁ .at ≤ r₂ .at → r .to ≤ r₂ .to → Onward s w₁ w₂ r₂ r₃ → Onward s w w₂ r r₃
@@ -34,49 +34,49 @@ onward-then h l m k =
       up = omega (arith, k .up);
       from = omega (arith, h .from, k .from);
       inside = k .inside;
-      fewer = omega (arith, k .fewer, h .below .long);
+      small = omega (arith, k .small, h .below .long);
     }
 
-pub onward-put : {s : Bytes} {w w₁ w₂ : List ℕ} {r r₂ r₃ : Reading} {x : ℕ} → CellPut w w₁ (r .to) x → r .at ≤ r₂ .at → r .to ≤ r₂ .to → Onward s w₁ w₂ r₂ r₃ → Onward s w w₂ r r₃
+pub onward-put : {s : Bytes} {w w₁ w₂ : List ℕ} {r r₂ r₃ : Reading} {x next : ℕ} → CellPut w w₁ (r .to) x next → r .at ≤ r₂ .at → r .to ≤ r₂ .to → Onward s w₁ w₂ r₂ r₃ → Onward s w w₂ r r₃
 onward-put put l m k =
     record {
       below = below-then (below-put put) m (k .below);
       up = omega (arith, k .up);
       from = omega (arith, k .from);
       inside = k .inside;
-      fewer = omega (arith, k .fewer, below-put put .long);
+      small = omega (arith, k .small, below-put put .long);
     }
 
 -- names are looked up behind the cell of a pair, and behind its first part
-module _ {ls : Lines} {ks s book tb : List ℕ} {lines indicator : ℕ} {scope : Scope} {w w₁ : List ℕ} {to x : ℕ} (put : CellPut w w₁ to x) where
-  ready-first : Ready ls ks s book tb lines indicator scope w to → Ready ls ks s book tb lines indicator scope w₁ (to + 1)
-  ready-first h = ready-on (below-put put) (omega arith) h
+module _ {ls : Lines} {ks s book tb : List ℕ} {lines indicator : ℕ} {scope : Scope} {w w₁ : List ℕ} {to x next : ℕ} (put : CellPut w w₁ to x next) (small : to ≤ length w + 1) where
+  ready-first : Ready ls ks s book tb lines indicator scope w to → Ready ls ks s book tb lines indicator scope w₁ next
+  ready-first h = ready-on (below-put put) (put-next put small .0) h
 
-  ready-second : {wA : List ℕ} {o fault : ℕ} {a : Reading} → Onward s w₁ wA (goOn o (to + 1) fault) a
+  ready-second : {wA : List ℕ} {o fault : ℕ} {a : Reading} → Onward s w₁ wA (goOn o next fault) a
       → Ready ls ks s book tb lines indicator scope w to → Ready ls ks s book tb lines indicator scope wA (a .to)
   ready-second A h = ready-on (A .below) (A .up) (ready-first h)
 
 module _ {ks s book tb : List ℕ} {lines indicator : ℕ} {scope : Scope} {w : List ℕ} {r : Reading} {o : ℕ}
-    (fewer : r .to ≤ length w + r .at) (inside : r .at ≤ length s) (l : scope .depth < nesting) where
+    (small : r .to ≤ length w + 1) (inside : r .at ≤ length s) (l : scope .depth < nesting) where
   module _ (p : PastSymbol ks s (r .at) 2 o) where
     pub application-unopened : {r′ : Reading} → length s < o → Refusing 3 (r .at) (r .to) r′
         → ExpressionRead (applicationIn scope) ks s scope book tb lines indicator w w r r′
     unfolding application
     application-unopened m h =
         record {
-          onward = onward-refused (below-same (r .to) w) h (omega arith) fewer (omega arith) inside;
+          onward = onward-refused (below-same (r .to) w) h (omega arith) small (omega arith) inside;
           read = λ ls ready. then-stop _ (symbol-missing 60 p (symbol-kinds .0) (omega arith) m (ready .table)) (h .codeIs ∙ sym code-malformed);
         }
 
-    module _ (i : o ≤ length s) {w₁ wA : List ℕ} {next : Scope} {a : Reading} (put : CellPut w w₁ (r .to) 4) (b : Nested scope next)
-        (A : ExpressionRead (anExpression aut68 (nesting - next .depth) inner) ks s next book tb lines indicator w₁ wA (goOn o (r .to + 1) (r .fault)) a) where
+    module _ (i : o ≤ length s) {w₁ wA : List ℕ} {next : Scope} {a : Reading} {first : ℕ} (put : CellPut w w₁ (r .to) 4 first) (b : Nested scope next)
+        (A : ExpressionRead (anExpression aut68 (nesting - next .depth) inner) ks s next book tb lines indicator w₁ wA (goOn o first (r .fault)) a) where
       pub application-first-refused : a .code ≢ 0 → ExpressionRead (applicationIn scope) ks s scope book tb lines indicator w wA r a
       unfolding application
       application-first-refused n =
           record {
-            onward = onward-put put (omega (arith, p .from inside)) (omega arith) (A .onward);
+            onward = onward-put put (omega (arith, p .from inside)) (put-next put small .0) (A .onward);
             read = λ ls ready.
-                then-done _ (symbol-read 60 p (symbol-kinds .0) (omega arith) i (ready .table)) (then-refused _ n (level-read A b l ls (ready-first put ready)));
+                then-done _ (symbol-read 60 p (symbol-kinds .0) (omega arith) i (ready .table)) (then-refused _ n (level-read A b l ls (ready-first put small ready)));
           }
 
       module _ (z : a .code ≡ 0) {close : ℕ} (q : PastSymbol ks s (a .at) 10 close) where
@@ -86,11 +86,11 @@ module _ {ks s book tb : List ℕ} {lines indicator : ℕ} {scope : Scope} {w : 
         application-unclosed m h =
             record {
               onward =
-                  onward-refused (below-then (below-put put) (omega arith) (A .onward .below)) h (omega arith)
-                  (omega (arith, p .from inside, A .onward .from)) (omega (arith, p .from inside, A .onward .from)) (A .onward .inside);
+                  onward-refused (below-then (below-put put) (put-next put small .0) (A .onward .below)) h (omega arith) small
+                  (omega (arith, p .from inside, A .onward .from)) (A .onward .inside);
               read = λ ls ready.
                   then-done _ (symbol-read 60 p (symbol-kinds .0) (omega arith) i (ready .table))
-                  (then-passed _ z (level-read A b l ls (ready-first put ready)) (λ x X.
+                  (then-passed _ z (level-read A b l ls (ready-first put small ready)) (λ x X.
                   then-stop _ (symbol-missing 62 q (symbol-kinds .5) (omega arith) m (ready .table)) (h .codeIs ∙ sym code-malformed)));
             }
 
@@ -101,14 +101,15 @@ module _ {ks s book tb : List ℕ} {lines indicator : ℕ} {scope : Scope} {w : 
         application-read c B =
             record {
               onward =
-                  onward-then (onward-put put (omega (arith, p .from inside)) (omega arith) (A .onward)) (omega (arith, q .from (A .onward .inside)))
-                  (omega (arith, A .onward .up)) (B .onward);
+                  onward-then (onward-put put (omega (arith, p .from inside)) (put-next put small .0) (A .onward)) (omega (arith, q .from (A .onward .inside)))
+                  (omega (arith, A .onward .up, put-next put small .0)) (B .onward);
               read = λ ls ready.
                   then-done _ (symbol-read 60 p (symbol-kinds .0) (omega arith) i (ready .table))
-                  (then-passed _ z (level-read A b l ls (ready-first put ready)) (λ x X.
+                  (then-passed _ z (level-read A b l ls (ready-first put small ready)) (λ x X.
                   then-done _ (symbol-read 62 q (symbol-kinds .5) (omega arith) c (ready .table))
-                  (then-give (Source.app x) (level-read B b l ls (ready-second put (A .onward) ready)) (λ y Y.
-                  application-written ls (contextAt ls indicator) (boundNames s scope) put (A .onward .below) (omega (arith, A .onward .up)) (B .onward .below) X Y))));
+                  (then-give (Source.app x) (level-read B b l ls (ready-second put small (A .onward) ready)) (λ y Y.
+                  whole-written (scope .depth) l
+                  (application-written ls (contextAt ls indicator) (boundNames s scope) put (A .onward .below) (A .onward .up) (B .onward .below) (B .onward .up) X Y)))));
             }
 
   module _ (p : PastSymbol ks s (r .at) 3 o) where
@@ -117,7 +118,7 @@ module _ {ks s book tb : List ℕ} {lines indicator : ℕ} {scope : Scope} {w : 
     unfolding abstraction
     abstraction-unopened m h =
         record {
-          onward = onward-refused (below-same (r .to) w) h (omega arith) fewer (omega arith) inside;
+          onward = onward-refused (below-same (r .to) w) h (omega arith) small (omega arith) inside;
           read = λ ls ready. then-stop _ (symbol-missing 91 p (symbol-kinds .1) (omega arith) m (ready .table)) (h .codeIs ∙ sym code-malformed);
         }
 
@@ -127,7 +128,7 @@ module _ {ks s book tb : List ℕ} {lines indicator : ℕ} {scope : Scope} {w : 
       unfolding abstraction
       abstraction-unnamed e h =
           record {
-            onward = onward-refused (below-same (r .to) w) h (omega arith) (omega (arith, p .from inside)) (omega (arith, p .from inside)) i;
+            onward = onward-refused (below-same (r .to) w) h (omega arith) small (omega (arith, p .from inside)) i;
             read = λ ls ready.
                 then-done _ (symbol-read 91 p (symbol-kinds .1) (omega arith) i (ready .table))
                 (then-stop _ (n .missing (ready .table) i e) (h .codeIs ∙ sym code-malformed));
@@ -139,25 +140,25 @@ module _ {ks s book tb : List ℕ} {lines indicator : ℕ} {scope : Scope} {w : 
         unfolding abstraction
         abstraction-no-comma m h =
             record {
-              onward = onward-refused (below-same (r .to) w) h (omega arith) (omega (arith, p .from inside)) (omega (arith, p .from inside)) i;
+              onward = onward-refused (below-same (r .to) w) h (omega arith) small (omega (arith, p .from inside)) i;
               read = λ ls ready.
                   then-done _ (symbol-read 91 p (symbol-kinds .1) (omega arith) i (ready .table))
                   (then-done _ (n .read (ready .table) i e)
                   (then-stop _ (symbol-missing 44 k (symbol-kinds .2) (omega arith) m (ready .table)) (h .codeIs ∙ sym code-malformed)));
             }
 
-        module _ (j : comma ≤ length s) {w₁ wA : List ℕ} {level : Scope} {a : Reading} (put : CellPut w w₁ (r .to) 5) (b : Nested scope level)
-            (A : ExpressionRead (anExpression aut68 (nesting - level .depth) inner) ks s level book tb lines indicator w₁ wA (goOn comma (r .to + 1) (r .fault)) a) where
+        module _ (j : comma ≤ length s) {w₁ wA : List ℕ} {level : Scope} {a : Reading} {first : ℕ} (put : CellPut w w₁ (r .to) 5 first) (b : Nested scope level)
+            (A : ExpressionRead (anExpression aut68 (nesting - level .depth) inner) ks s level book tb lines indicator w₁ wA (goOn comma first (r .fault)) a) where
           pub abstraction-first-refused : a .code ≢ 0 → ExpressionRead (abstractionIn scope) ks s scope book tb lines indicator w wA r a
           unfolding abstraction
           abstraction-first-refused x =
               record {
-                onward = onward-put put (omega (arith, p .from inside, n .from, k .from (n .within i))) (omega arith) (A .onward);
+                onward = onward-put put (omega (arith, p .from inside, n .from, k .from (n .within i))) (put-next put small .0) (A .onward);
                 read = λ ls ready.
                     then-done _ (symbol-read 91 p (symbol-kinds .1) (omega arith) i (ready .table))
                     (then-done _ (n .read (ready .table) i e)
                     (then-done _ (symbol-read 44 k (symbol-kinds .2) (omega arith) j (ready .table))
-                    (then-refused _ x (level-read A b l ls (ready-first put ready)))));
+                    (then-refused _ x (level-read A b l ls (ready-first put small ready)))));
               }
 
           module _ (z : a .code ≡ 0) {close : ℕ} (q : PastSymbol ks s (a .at) 11 close) where
@@ -167,14 +168,13 @@ module _ {ks s book tb : List ℕ} {lines indicator : ℕ} {scope : Scope} {w : 
             abstraction-unclosed m h =
                 record {
                   onward =
-                      onward-refused (below-then (below-put put) (omega arith) (A .onward .below)) h (omega arith)
-                      (omega (arith, p .from inside, n .from, k .from (n .within i), A .onward .from))
+                      onward-refused (below-then (below-put put) (put-next put small .0) (A .onward .below)) h (omega arith) small
                       (omega (arith, p .from inside, n .from, k .from (n .within i), A .onward .from)) (A .onward .inside);
                   read = λ ls ready.
                       then-done _ (symbol-read 91 p (symbol-kinds .1) (omega arith) i (ready .table))
                       (then-done _ (n .read (ready .table) i e)
                       (then-done _ (symbol-read 44 k (symbol-kinds .2) (omega arith) j (ready .table))
-                      (then-passed _ z (level-read A b l ls (ready-first put ready)) (λ x X.
+                      (then-passed _ z (level-read A b l ls (ready-first put small ready)) (λ x X.
                       then-stop _ (symbol-missing 93 q (symbol-kinds .6) (omega arith) m (ready .table)) (h .codeIs ∙ sym code-malformed)))));
                 }
 
@@ -185,15 +185,15 @@ module _ {ks s book tb : List ℕ} {lines indicator : ℕ} {scope : Scope} {w : 
             abstraction-read c b′ B =
                 record {
                   onward =
-                      onward-then (onward-put put (omega (arith, p .from inside, n .from, k .from (n .within i))) (omega arith) (A .onward))
-                      (omega (arith, q .from (A .onward .inside))) (omega (arith, A .onward .up)) (B .onward);
+                      onward-then (onward-put put (omega (arith, p .from inside, n .from, k .from (n .within i))) (put-next put small .0) (A .onward))
+                      (omega (arith, q .from (A .onward .inside))) (omega (arith, A .onward .up, put-next put small .0)) (B .onward);
                   read = λ ls ready.
                       then-done _ (symbol-read 91 p (symbol-kinds .1) (omega arith) i (ready .table))
                       (then-done _ (n .read (ready .table) i e)
                       (then-done _ (symbol-read 44 k (symbol-kinds .2) (omega arith) j (ready .table))
-                      (then-passed _ z (level-read A b l ls (ready-first put ready)) (λ x X.
+                      (then-passed _ z (level-read A b l ls (ready-first put small ready)) (λ x X.
                       then-done _ (symbol-read 93 q (symbol-kinds .6) (omega arith) c (ready .table))
-                      (then-give (Source.abs (slice start (start + len) s) x) (body-read B b′ l (n .within i) ls (ready-second put (A .onward) ready)) (λ y Y.
-                      abstraction-written ls (contextAt ls indicator) (boundNames s scope) put (A .onward .below) (omega (arith, A .onward .up))
-                      (B .onward .below) X Y))))));
+                      (then-give (Source.abs (slice start (start + len) s) x) (body-read B b′ l (n .within i) ls (ready-second put small (A .onward) ready)) (λ y Y.
+                      whole-written (scope .depth) l
+                      (abstraction-written ls (contextAt ls indicator) (boundNames s scope) put (A .onward .below) (A .onward .up) (B .onward .below) (B .onward .up) X Y)))))));
                 }

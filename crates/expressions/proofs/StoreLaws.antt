@@ -3,6 +3,7 @@ use mathlib.Core.Path.{_≡_, refl, sym, ap, ap₂, _∙_}
 use mathlib.Core.List.{List, [], _∷_, _++_}
 use Prim.Native.Nat.{ℕ, _+_, _-_, _≤_, _<_}
 use native.Mathlib.Omega.{arith}
+use native.Mathlib.Decide.{decLt}
 use native.Mathlib.Numerals.{add-one}
 use lib.ListN.{length, take, drop, set, length-set}
 use lib.Seq.{slice, slice-empty, slice-cons, take-add, take-take, drop-append-le, take-set-le, length-take-le, getD-set-same, drop-at}
@@ -24,9 +25,25 @@ pub below-same : (n : ℕ) (w : List ℕ) → SameBelow n w w
 below-same n w = record { long = refl; is = refl }
 
 -- one cell written
-pub below-put : {w w′ : List ℕ} {to x : ℕ} → CellPut w w′ to x → SameBelow to w w′
+pub below-put : {w w′ : List ℕ} {to x next : ℕ} → CellPut w w′ to x next → SameBelow to w w′
 below-put {w} {w′} {to} {x} h =
     record { long = ap length (h .is) ∙ length-set w to x; is = ap (take to) (h .is) ∙ take-set-le to w to x (omega arith) }
+
+-- the index behind it
+pub put-next : {w w′ : List ℕ} {to x next : ℕ} → CellPut w w′ to x next → to ≤ length w + 1 → (to ≤ next) × (next ≤ length w + 1)
+put-next {w} {to = to} {next = next} h l = at (decLt to (length w))
+  where
+    at : Dec (to < length w) → (to ≤ next) × (next ≤ length w + 1)
+    at (yes p) = let e = h .room p in (omega (arith, e), omega (arith, e))
+    at (no p) = let e = h .none (omega arith) in (omega (arith, e), omega (arith, e))
+
+-- a cell that was written inside the store
+pub put-inside : {w w′ : List ℕ} {to x next : ℕ} → CellPut w w′ to x next → next ≤ length w → (to < length w) × (next ≡ to + 1)
+put-inside {w} {to = to} {next = next} h l = at (decLt to (length w))
+  where
+    at : Dec (to < length w) → (to < length w) × (next ≡ to + 1)
+    at (yes p) = (p, h .room p)
+    at (no p) = let e = h .none (omega arith) in absurd (omega (arith, e))
 
 -- two parts that follow each other
 pub part-append : (w : List ℕ) (a b c : ℕ) → a ≤ b → b ≤ c → c ≤ length w → slice a c w ≡ slice a b w ++ slice b c w
@@ -38,7 +55,7 @@ part-append w a b c l m n =
     ap (drop a) t ∙ drop-append-le a (take b w) _ (omega (arith, lb)) ∙ ap (λ x. slice a b w ++ x) (sym right)
 
 -- the one cell that was written
-pub part-put : {w w′ : List ℕ} {to x : ℕ} → CellPut w w′ to x → to < length w → slice to (to + 1) w′ ≡ x ∷ []
+pub part-put : {w w′ : List ℕ} {to x next : ℕ} → CellPut w w′ to x next → to < length w → slice to (to + 1) w′ ≡ x ∷ []
 part-put {w} {w′} {to} {x} h l =
     ap (slice to (to + 1)) (h .is)
     ∙ slice-cons to (to + 1) (set w to x) 0 (omega arith) (omega (arith, length-set w to x))

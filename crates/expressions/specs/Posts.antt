@@ -1,18 +1,19 @@
 -- What the functions that read an expression leave.
 use mathlib.Core.Path.{_≡_}
-use mathlib.Core.Logic.{_≢_}
-use mathlib.Core.List.{List}
+use mathlib.Core.Logic.{_≢_, _⊎_}
+use mathlib.Core.List.{List, [], _++_}
 use Prim.Native.Nat.{ℕ, _+_, _-_, _*_, _/_, _≤_, _<_}
 use lib.ListN.{length, drop}
 use lib.Seq.{slice}
 use Rattle.aut68.specs.Language.{aut68}
 use Rattle.aut68.specs.Rules.Grammar.{inner}
 use Rattle.aut68.specs.Bytes.{Bytes}
-use Rattle.aut68.specs.Source.{Src, Srcs, cellsOfSrc, cellsOfSrcs, countSrcs}
-use Rattle.aut68.specs.Expr.{cells, cellss}
+use Rattle.aut68.specs.Source.{Src, Srcs, countSrcs}
+use Rattle.aut68.specs.Expr.{cells, cellss, levels, levelss}
 use Rattle.aut68.specs.Lines.{Lines}
 use Rattle.aut68.specs.Procedure.Parse.{Read, anExpression, named, application, abstraction, arguments}
-use Rattle.aut68.specs.Procedure.Resolve.{resolve, resolves, meaning, contextAt}
+use Rattle.aut68.specs.Procedure.Answer.{Answer, wrongArity}
+use Rattle.aut68.specs.Procedure.Resolve.{found, refused, Meaning, wanted, leftOut, resolve, resolves, meaning, contextAt}
 use Rattle.aut68.specs.Sizes.{nesting}
 use Rattle.cells.specs.Layout.{lineUnit, readerUnits}
 use Rattle.kinds.specs.Kinds.{KindsTable}
@@ -22,8 +23,9 @@ use Rattle.names.specs.Hints.{slots, Hinted, probes}
 use Rattle.meanings.specs.Bindings.{boundNames}
 use Rattle.meanings.specs.NotedContext.{ContextNoted}
 use Rattle.meanings.specs.Posts.{BindingFound}
-use Rattle.meanings.specs.Meanings.{Meant}
-use Rattle.meanings.specs.declared.meanings.Meaning.{Meaning}
+use Rattle.meanings.specs.Meanings.{cellOf, Meant}
+use Rattle.meanings.specs.declared.meanings.Meaning.{Meaning as NameMeaning}
+use Rattle.completion.specs.Posts.{variableCells}
 use Rattle.expressions.specs.declared.parts.Reading.{Reading}
 use Rattle.expressions.specs.Walk.{ReadTo, SameBelow, CellPut, Written}
 
@@ -74,22 +76,22 @@ pub record Refusing (code at to : ℕ) (r : Reading) : Type 0 where
   pub atIs : r .at ≡ at
   pub toIs : r .to ≡ to
 
--- Whatever was read: nothing is written below the first cell, the walk goes on from there, inside the line, and it counts no more
--- cells than the store has and bytes were read.
+-- Whatever was read: nothing is written below the first cell, the walk goes on from there, inside the line, and its next cell is at
+-- most one past the store's end.
 pub record Onward (s : Bytes) (w w′ : List ℕ) (r r′ : Reading) : Type 0 where
   pub below : SameBelow (r .to) w w′
   pub up : r .to ≤ r′ .to
   pub from : r .at ≤ r′ .at
   pub inside : r′ .at ≤ length s
-  pub fewer : r′ .to ≤ length w + r′ .at
+  pub small : r′ .to ≤ length w + 1
 
 module _ (ls : Lines) (s : Bytes) (indicator : ℕ) (scope : Scope) (w w′ : List ℕ) (to end fault fault′ : ℕ) where
   -- the cells of an expression, and of an argument string
   abbrev pub WrittenOne : Src → Type 0
-  WrittenOne = Written cellsOfSrc cells (resolve ls (contextAt ls indicator) (boundNames s scope)) w w′ to end fault fault′
+  WrittenOne = Written cells levels (resolve ls (contextAt ls indicator) (boundNames s scope)) w w′ to end (nesting - scope .depth) fault fault′
 
   abbrev pub WrittenAll : Srcs → Type 0
-  WrittenAll = Written cellsOfSrcs cellss (resolves ls (contextAt ls indicator) (boundNames s scope)) w w′ to end fault fault′
+  WrittenAll = Written cellss levelss (resolves ls (contextAt ls indicator) (boundNames s scope)) w w′ to end (nesting - scope .depth) fault fault′
 
 -- the reader m read an expression from r on, and came to r′
 pub record ExpressionRead (m : Read Src) (ks s : Bytes) (scope : Scope) (book tb : List ℕ) (lines indicator : ℕ) (w w′ : List ℕ) (r r′ : Reading) : Type 0 where
@@ -109,22 +111,35 @@ pub record ArgumentsRead (ks s : Bytes) (scope : Scope) (book tb : List ℕ) (li
       → ReadTo s (Counted ls s indicator scope w w′ (r .to) (r .fault) 0 r′) (r′ .code) (r′ .at)
       (arguments (expressionIn scope) n (drop (r .at) s))
 
--- the cell of a name, wherever b is its binding, was written at `to`, unless there was a fault before or no room
-pub record NamePut (s : Bytes) (b : ℕ) (book tb : List ℕ) (lines indicator : ℕ) (w w′ : List ℕ) (to fault start len : ℕ) (m : Meaning) : Type 0 where
-  pub below : SameBelow to w w′
+-- what a name means, wherever b is its binding; the fault from before, if there was one
+pub record NameSought (s : Bytes) (b : ℕ) (book tb : List ℕ) (lines indicator : ℕ) (w : List ℕ) (fault start len : ℕ) (m : NameMeaning) : Type 0 where
   pub kept : fault ≢ 0 → m .fault ≡ fault
-  pub stored : fault ≡ 0 → to < length w → CellPut w w′ to (m .cell)
-  pub meant : fault ≡ 0 → to < length w → 1 ≤ len → start + len ≤ length s
+  pub meant : fault ≡ 0 → 1 ≤ len → start + len ≤ length s
       → (ls : Lines) → Known ls book tb lines → Hinted book tb lines w → ContextNoted ls indicator w → indicator ≤ lines
       → (scope : Scope) → BindingFound s scope (slice start (start + len) s) b → scope .bound ≤ nesting
       → Meant ls (contextAt ls indicator) (m .fault) (m .cell) (m .wanted)
       (meaning ls (contextAt ls indicator) (slice start (start + len) s) (boundNames s scope) tt)
 
--- r is a with 6 as fault where the count of arguments is not the wanted one
-pub record CountTested (a : Reading) (m : Meaning) (r : Reading) : Type 0 where
+-- The variables us stand in front of the cells from `first` up to `end` of w, all of them in w′ up to end′; d nesting levels are left
+-- for them. Where they have no room, or there is no level, end′ is past the store's end.
+pub record Inserted (w w′ : List ℕ) (first end end′ d : ℕ) (us : List ℕ) : Type 0 where
+  pub fits : end′ ≤ length w → (slice first end′ w′ ≡ variableCells us ++ slice first end w) × ((us ≡ []) ⊎ (1 ≤ d))
+  pub over : length w < end′ → (length w < end + length us) ⊎ ((1 ≤ length us) × (d < 1))
+
+-- what was left out is put in; else the fault is 6
+pub data Filled (w w′ : List ℕ) (first end end′ d fault fault′ : ℕ) : Answer (Unit {0}) (List ℕ) → Type 0 where
+  putIn : {us : List ℕ} → fault′ ≡ fault → Inserted w w′ first end end′ d us → Filled w w′ first end end′ d fault fault′ (found us)
+  wrong : fault′ ≡ 6 → Filled w w′ first end end′ d fault fault′ (refused wrongArity)
+
+-- r is the argument string a of a name that means m, its cells from `first` on, with what was left out
+pub record Completed (tb : List ℕ) (indicator : ℕ) (w w′ : List ℕ) (first depth : ℕ) (a : Reading) (m : NameMeaning) (r : Reading) : Type 0 where
+  pub below : SameBelow first w w′
+  pub up : a .to ≤ length w + 1 → a .to ≤ r .to
+  pub small : a .to ≤ length w + 1 → r .to ≤ length w + 1
   pub code : r .code ≡ a .code
   pub at : r .at ≡ a .at
-  pub to : r .to ≡ a .to
   pub kept : m .fault ≢ 0 → r .fault ≡ a .fault
-  pub right : a .count ≡ m .wanted → r .fault ≡ a .fault
-  pub wrong : a .code ≡ 0 → m .fault ≡ 0 → a .count ≢ m .wanted → r .fault ≡ 6
+  pub filled : a .code ≡ 0 → m .fault ≡ 0 → first ≤ a .to → a .to ≤ length w + 1
+      → (ls : Lines) (book : Bytes) (lines : ℕ) → Known ls book tb lines → ContextNoted ls indicator w → indicator ≤ lines
+      → (x : Meaning) → m .cell ≡ cellOf x → m .wanted ≡ length (wanted ls (contextAt ls indicator) x)
+      → Filled w w′ first (a .to) (r .to) (nesting - 1 - depth) (a .fault) (r .fault) (leftOut (a .count) (wanted ls (contextAt ls indicator) x) (contextAt ls indicator) tt)

@@ -15,10 +15,10 @@ same-length : tie.Need-same-length
 same-length c = search needs
 
 returns : tie.Need-returns
-returns c = record { is = refl }
+returns c = record { is = refl; room = λ l. refl; none = λ l. absurd (omega arith) }
 
 returns-2 : tie.Need-returns-2
-returns-2 c = record { is = sym (set-out _ _ _ (omega arith)) }
+returns-2 c = record { is = sym (set-out _ _ _ (omega arith)); room = λ l. absurd (omega arith); none = λ l. refl }
 
 pub put-spec : {M : Type 1} → statement M
 put-spec = tie.close (tie.spec mul-w slice-write-w same-length returns returns-2)
