@@ -38,7 +38,7 @@ pub fn last_left_out(table: &[u32], w: &[Cell], indicator: usize, v: usize, coun
 
 // Moves the cells of w from `from` up to `end` n cells up, the highest first.
 fn shift_up(w: &mut [Cell], from: usize, end: usize, n: usize)
-    requires { ⌜ end + n ≤ length (now w) ⌝ }
+    requires { ⌜ (from ≤ end) × (end + n ≤ length (now w)) ⌝ }
     ensures { λ _. ⌜ ShiftedUp (now (w .entry)) (now (w .exit)) from end n ⌝ }
 {
     let mut i = end;

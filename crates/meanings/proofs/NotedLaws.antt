@@ -26,7 +26,7 @@ use Rattle.meanings.specs.NotedContext.{variableAt, notedVariables}
 
 -- ---- members by their numbers
 
-member-at : (v : ℕ) (xs : List ℕ) (j : ℕ) → j < length xs → getD xs j 0 ≡ v → member v xs ≡ true
+pub member-at : (v : ℕ) (xs : List ℕ) (j : ℕ) → j < length xs → getD xs j 0 ≡ v → member v xs ≡ true
 unfolding member
 member-at v [] j l e = absurd (omega arith)
 member-at v (x ∷ xs) zero l e = ap (λ t. t || member v xs) (eq-eqb v x (sym e))
@@ -52,8 +52,8 @@ stands v (x ∷ xs) e = split (eqb v x) refl e (stands v xs)
     split false q h again = let r = again h in record { place = suc (r .place); inside = omega (arith, r .inside); is = r .is }
 
 -- each line of the list has its place as its number
-record Numbers (tb vs : List ℕ) : Type 0 where
-  number : (j : ℕ) → j < length vs → rowCell tb (getD vs j 0) atContext ≡ j
+pub record Numbers (tb vs : List ℕ) : Type 0 where
+  pub number : (j : ℕ) → j < length vs → rowCell tb (getD vs j 0) atContext ≡ j
 
 numbers-more : (tb vs : List ℕ) (v : ℕ) → Numbers tb vs → rowCell tb v atContext ≡ length vs → Numbers tb (vs ++ (v ∷ []))
 numbers-more tb vs v ns e = record { number = λ j l. split j l (leb (suc j) (length vs)) refl }
@@ -69,7 +69,7 @@ numbers-more tb vs v ns e = record { number = λ j l. split j l (leb (suc j) (le
 
 module _ {tb : List ℕ} (v : ℕ) (vs : List ℕ) (ns : Numbers tb vs) where
   -- a line of the list stands at its number
-  at-number : member v vs ≡ true → (rowCell tb v atContext < length vs) × (getD vs (rowCell tb v atContext) 0 ≡ v)
+  pub at-number : member v vs ≡ true → (rowCell tb v atContext < length vs) × (getD vs (rowCell tb v atContext) 0 ≡ v)
   at-number m =
       let s = stands v vs m in
       let q : rowCell tb v atContext ≡ s .place = ap (λ u. rowCell tb u atContext) (sym (s .is)) ∙ ns .number (s .place) (s .inside) in
@@ -100,18 +100,18 @@ module _ {ls : Lines} {book tb : List ℕ} {lines : ℕ} (k : Known ls book tb l
       numbers-more tb vs v (context-numbers c) (k .rows .row h .contextIs ∙ ap length (context-unique (k .contexts h) c))
 
   -- the context that ends with line c: that of its indicator, and c
-  context-opens : {c : ℕ} {l : Line} → IsLine ls c l → contextAt ls c ≡ contextAt ls (l .indicator) ++ (c ∷ [])
+  pub context-opens : {c : ℕ} {l : Line} → IsLine ls c l → contextAt ls c ≡ contextAt ls (l .indicator) ++ (c ∷ [])
   context-opens {c} h = line-context h ∙ ap (λ xs. xs ++ (c ∷ [])) (sym (context-is k (k .contexts h)))
 
   number-is : {c : ℕ} {l : Line} → IsLine ls c l → rowCell tb c atContext ≡ length (contextAt ls (l .indicator))
   number-is h = k .rows .row h .contextIs ∙ ap length (sym (context-is k (k .contexts h)))
 
-  at-numbers : (c : ℕ) → 0 < c → c ≤ lines → Numbers tb (contextAt ls c)
+  pub at-numbers : (c : ℕ) → 0 < c → c ≤ lines → Numbers tb (contextAt ls c)
   at-numbers c p b =
       let (l, h) = lineAt k c p b in
       rw (context-opens h) (numbers-more tb (contextAt ls (l .indicator)) c (rw (context-is k (k .contexts h)) (context-numbers (k .contexts h))) (number-is h))
 
-  at-length : (c : ℕ) → 0 < c → c ≤ lines → length (contextAt ls c) ≡ suc (rowCell tb c atContext)
+  pub at-length : (c : ℕ) → 0 < c → c ≤ lines → length (contextAt ls c) ≡ suc (rowCell tb c atContext)
   at-length c p b =
       let (l, h) = lineAt k c p b in
       ap length (context-opens h) ∙ length-append (contextAt ls (l .indicator)) (c ∷ []) ∙ omega (arith, number-is h)
