@@ -5,5 +5,6 @@ pub mod ReadLaws
 pub mod WrittenLaws
 pub mod ExpressionLaws
 pub mod PairLaws
+pub mod CompletedLaws
 pub mod NamedLaws
 pub mod ArgumentLaws
