@@ -44,7 +44,7 @@ cellOf (aConstant v) = cellFactor * v + 3
 
 -- a name's cell and how many arguments it takes; or the refusal's code as fault
 pub data Meant (ls : Lines) (context : List ℕ) (fault cell count : ℕ) : Answer (Unit {0}) Meaning → Type 0 where
-  means : {m : Meaning} → fault ≡ 0 → cell ≡ cellOf m → count ≡ wanted ls context m → Meant ls context fault cell count (found m)
+  means : {m : Meaning} → fault ≡ 0 → cell ≡ cellOf m → count ≡ length (wanted ls context m) → Meant ls context fault cell count (found m)
   meansNothing : {r : Refusal} → fault ≡ codeOf r → Meant ls context fault cell count (refused r)
 
 -- the meaning of a word, with the indicator of its line, wherever b is its binding
