@@ -3,3 +3,4 @@ pub mod ShiftLaws
 pub mod UpLaws
 pub mod VariableLaws
 pub mod PutInLaws
+pub mod LeftOutLaws

@@ -5,15 +5,14 @@ use Prim.Native.Nat.{ℕ, zero, suc, _+_, _≤_, _<_}
 use native.Mathlib.Omega.{arith}
 use lib.ListN.{length, getD, length-append, List·getD-append}
 use lib.Seq.{getD-at}
-use Rattle.aut68.specs.Lines.{Line, Lines, rowCell}
+use Rattle.aut68.specs.Lines.{Lines, rowCell}
 use Rattle.aut68.specs.Procedure.Resolve.{contextAt}
-use Rattle.aut68.specs.Rules.Names.{IsLine, Context, noContext, within}
+use Rattle.aut68.specs.Rules.Names.{Context, noContext, within}
 use Rattle.aut68.specs.Sizes.{atIndicator}
+use Rattle.lookup.specs.Contexts.{line-context}
 use Rattle.cells.specs.RowLaws.{row-cell-of-none}
 use Rattle.names.specs.Known.{Known}
 use Rattle.names.proofs.FindLaws.{lineAt}
-use Rattle.meanings.proofs.ContextLaws.{context-is}
-use Rattle.meanings.proofs.NotedLaws.{context-opens}
 use Rattle.completion.specs.Posts.{lineUp, LineUp}
 
 pub up-none : {tb : List ℕ} {c n : ℕ} → n ≡ 0 → LineUp tb c n c
@@ -45,14 +44,15 @@ chain-more {tb} {c} {next} {vs} q h = record { up = λ i j e. go i j (omega (ari
     go i (suc j) e = List·getD-append vs (c ∷ []) 0 i (omega arith) ∙ h .up i j e ∙ ap (λ u. lineUp tb u j) q ∙ up-first tb c j
 
 module _ {ls : Lines} {book tb : List ℕ} {lines : ℕ} (k : Known ls book tb lines) where
-  context-chain : {c : ℕ} {vs : List ℕ} → Context ls c vs → Chain tb c vs
+  pub context-chain : {c : ℕ} {vs : List ℕ} → Context ls c vs → Chain tb c vs
   context-chain noContext = record { up = λ i j e. absurd (omega arith) }
   context-chain (within h e c) = chain-more (sym (k .rows .row h .indicatorIs)) (context-chain c)
 
+  -- also where the last line is no variable
   pub at-chain : (c : ℕ) → 0 < c → c ≤ lines → Chain tb c (contextAt ls c)
   at-chain c p b =
       let (l, h) = lineAt k c p b in
-      rw (context-opens k h) (chain-more {vs = contextAt ls (l .indicator)} (sym (k .rows .row h .indicatorIs)) (rw (context-is k (k .contexts h)) (context-chain (k .contexts h))))
+      rw (line-context h) (chain-more (sym (k .rows .row h .indicatorIs)) (context-chain (k .contexts h)))
 
   indicator-within : (c : ℕ) → c ≤ lines → rowCell tb c atIndicator ≤ lines
   indicator-within zero b = omega (arith, row-cell-of-none tb 0 atIndicator refl)

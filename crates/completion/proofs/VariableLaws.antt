@@ -1,7 +1,7 @@
 -- Cells of the lines up from a line, the last first.
-use mathlib.Core.Path.{_≡_, sym, ap, _∙_, subst}
+use mathlib.Core.Path.{_≡_, ap, _∙_}
 use mathlib.Core.List.{List, [], _∷_}
-use Prim.Native.Nat.{ℕ, zero, suc, _+_, _≤_, _<_}
+use Prim.Native.Nat.{ℕ, zero, suc, _+_, _≤_}
 use native.Mathlib.Omega.{arith}
 use lib.ListN.{length, getD, set}
 use lib.Seq.{getD-set-same, getD-set-other}
@@ -21,16 +21,17 @@ module _ {tb w₀ w : List ℕ} {from at n m last c x : ℕ} (h : VariablesPut t
   variables-more =
       record {
         kept = outside-then (outside-more (omega arith) (omega arith) (h .kept)) (outside-more (omega arith) (omega arith) (outside-sets w (x ∷ []) at));
-        put = λ i j z. go i j z;
+        put = go;
       }
     where
+      here : getD (set w at x) (at + 0) 0 ≡ x
+      here = ap (λ a. getD (set w at x) a 0) {y = at} (omega arith) ∙ getD-set-same w at x 0 (omega (arith, h .kept .long))
+
+      there : (i : ℕ) → getD (set w at x) (at + suc i) 0 ≡ getD w (from + i) 0
+      there i = getD-set-other w at (at + suc i) x 0 (λ b. omega arith) ∙ ap (λ a. getD w a 0) {y = from + i} (omega arith)
+
       go : (i j : ℕ) → i + suc j ≡ m → VariableCell (lineUp tb last j) (getD (set w at x) (at + i) 0)
       go zero j z =
           let r : j ≡ n = omega arith in
-          let here : getD (set w at x) (at + 0) 0 ≡ x =
-              ap (λ a. getD (set w at x) a 0) {y = at} (omega arith) ∙ getD-set-same w at x 0 (omega (arith, h .kept .long)) in
           rw (here, r, ← u .is) v
-      go (suc i) j z =
-          let there : getD (set w at x) (at + suc i) 0 ≡ getD w (from + i) 0 =
-              getD-set-other w at (at + suc i) x 0 (λ b. omega arith) ∙ ap (λ a. getD w a 0) {y = from + i} (omega arith) in
-          rw there (h .put i j (omega arith))
+      go (suc i) j z = rw (there i) (h .put i j (omega arith))

@@ -94,13 +94,13 @@ module _ {tb : List ℕ} (v : ℕ) (vs : List ℕ) (ns : Numbers tb vs) where
       split false q = other (member v vs) refl (eqb-false x v q)
 
 module _ {ls : Lines} {book tb : List ℕ} {lines : ℕ} (k : Known ls book tb lines) where
-  context-numbers : {c : ℕ} {vs : List ℕ} → Context ls c vs → Numbers tb vs
+  pub context-numbers : {c : ℕ} {vs : List ℕ} → Context ls c vs → Numbers tb vs
   context-numbers noContext = record { number = λ j l. absurd (omega arith) }
   context-numbers (within {v} {l} {vs} h e c) =
       numbers-more tb vs v (context-numbers c) (k .rows .row h .contextIs ∙ ap length (context-unique (k .contexts h) c))
 
   -- the context that ends with line c: that of its indicator, and c
-  pub context-opens : {c : ℕ} {l : Line} → IsLine ls c l → contextAt ls c ≡ contextAt ls (l .indicator) ++ (c ∷ [])
+  context-opens : {c : ℕ} {l : Line} → IsLine ls c l → contextAt ls c ≡ contextAt ls (l .indicator) ++ (c ∷ [])
   context-opens {c} h = line-context h ∙ ap (λ xs. xs ++ (c ∷ [])) (sym (context-is k (k .contexts h)))
 
   number-is : {c : ℕ} {l : Line} → IsLine ls c l → rowCell tb c atContext ≡ length (contextAt ls (l .indicator))
