@@ -1,46 +1,35 @@
+use Prim.Native.Nat.{_+_}
+use native.Mathlib.Omega.{arith}
 use borrow.Author.Needs.{needs}
+use Rattle.symbols.proofs.SymbolLaws.{part}
+use Rattle.expressions.proofs.NamedLaws.{sought-after-fault, sought-meaning}
 use Rattle.expressions.proofs.parts.name_meaning.Statement.{statement}
 use Rattle.expressions.proofs.parts.name_meaning.Tie as tie
-use Rattle.expressions.proofs.parts.name_meaning.Reads as reads
-use Rattle.expressions.proofs.parts.name_meaning.Lts as lts
-use Rattle.meanings.proofs.meaning_of.Reads as meaning-of-reads
 
--- src/parts.rt:83:9
 returns : tie.Need-returns
-returns c = ?
+returns c = sought-after-fault (c .if1 .taken)
 
--- src/parts.rt:89:15
 add-end : tie.Need-add-end
 add-end c = search needs
 
--- src/parts.rt:90:53
 sub-meaning-of : tie.Need-sub-meaning-of
 sub-meaning-of c = search needs
 
--- src/parts.rt:90:53
 part-meaning-of-start : tie.Need-part-meaning-of-start
 part-meaning-of-start c = search needs
 
--- src/parts.rt:90:53
 part-meaning-of-end : tie.Need-part-meaning-of-end
 part-meaning-of-end c = search needs
 
--- src/parts.rt:90:5
 meaning-of-requires : tie.Need-meaning-of-requires
-meaning-of-requires c κs = search needs
+meaning-of-requires c κs = tt
 
--- src/parts.rt:67:1
 returns-2 : tie.Need-returns-2
-returns-2 c = ?
+returns-2 c =
+    let entry = c .before .before .before .before .before .before .before in
+    sought-meaning (c .before .before .if1 .left) (part _ (entry .args .start) (entry .args .start + entry .args .len) (omega arith)) (entry .pre)
+    (c .meaning-of .ensures)
 
 pub name-meaning-spec : {M : Type 1} → statement M
 name-meaning-spec =
-    tie.close
-    (tie.spec
-    returns
-    add-end
-    sub-meaning-of
-    part-meaning-of-start
-    part-meaning-of-end
-    meaning-of-requires
-    returns-2)
+    tie.close (tie.spec returns add-end sub-meaning-of part-meaning-of-start part-meaning-of-end meaning-of-requires returns-2)

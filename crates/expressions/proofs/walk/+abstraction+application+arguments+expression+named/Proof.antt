@@ -2,7 +2,7 @@ use mathlib.Core.Path.{_∙_}
 use mathlib.Core.Logic.{⊎-elim}
 use Rattle.aut68.specs.Sizes.{nesting}
 use Rattle.symbols.proofs.SymbolLaws.{part}
-use Rattle.expressions.proofs.StoreLaws.{below-put}
+use Rattle.expressions.proofs.StoreLaws.{below-put, put-next}
 use borrow.Author.Needs.{needs}
 use Prim.Native.Nat.{_+_, _*_, _-_}
 use native.Mathlib.Omega.{arith}
@@ -33,11 +33,11 @@ use Rattle.expressions.proofs.walk.named.Kinds as named-kinds
 use Rattle.expressions.proofs.walk.+abstraction+application+arguments+expression+named.Lts-named as named-lts
 use Rattle.cells.proofs.bind.Reads as bind
 use Rattle.cells.proofs.nest.Reads as nest
-use Rattle.expressions.proofs.parts.counted.Reads as counted
+use Rattle.expressions.proofs.parts.completed.Reads as completed
 use Rattle.expressions.proofs.parts.opens.Reads as opens
 use Rattle.expressions.proofs.parts.put.Reads as put
 use Rattle.meanings.proofs.binding.Reads as binding
-use Rattle.expressions.proofs.parts.put_name.Reads as put-name
+use Rattle.expressions.proofs.parts.name_meaning.Reads as name-meaning
 use Rattle.expressions.proofs.parts.refused.Reads as refused
 use Rattle.symbols.proofs.kind_at.Reads as kind-at
 use Rattle.symbols.proofs.name_at.Reads as name-at
@@ -149,12 +149,14 @@ claims-named t = (
   refused.Learnt,
   binding.Asked,
   binding.Learnt,
-  put-name.Asked,
-  put-name.Learnt,
+  name-meaning.Asked,
+  name-meaning.Learnt,
+  put.Asked,
+  put.Learnt,
   symbol.Asked,
   symbol.Learnt,
-  counted.Asked,
-  counted.Learnt,
+  completed.Asked,
+  completed.Learnt,
   nest.Asked,
   nest.Learnt,
   arguments-below t,
@@ -184,19 +186,17 @@ abstraction-returns-3 t c =
     (at-name-at .name-at .ensures) (c .before .before .before .if2 .left) (c .before .before .symbol2 .ensures) (c .before .if3 .taken)
     (c .refused3 .ensures)
 
-abstraction-add-expression : (t : ℕ) → abstraction-lts.Need-add-expression (claims-abstraction t) (abstraction-at t) abstraction.Post
-abstraction-add-expression t c =
-    let entry = c .before .before .before .before .before .before .before .before .before .before .before .before .before .before .before .before in
-    omega (arith, entry .pre, entry)
-
 abstraction-expression-requires : (t : ℕ) → abstraction-lts.Need-expression-requires (claims-abstraction t) (abstraction-at t) abstraction.Post
 abstraction-expression-requires t c κs =
     let entry = c .before .before .before .before .before .before .before .before .before .before .before .before .before .before .before .before in
     let named = c .before .before .before .before .before .before .before .before .before in
     let inside = named .name-at .ensures .within (named .before .if1 .left) in
+    let put = c .before .before .before .before .put .ensures in
     omega (
       arith,
       entry .pre,
+      put-next put (entry .pre .1 .0),
+      below-put put .long,
       c .before .before .before .before .before .before .if3,
       c .before .nest .ensures .deeper (entry .pre .1 .2),
       c .before .before .before .before .before .before .before .symbol2 .ensures .from inside,
@@ -270,16 +270,20 @@ application-returns t c =
     application-unopened (entry .pre .1 .0) (entry .pre .1 .1) (entry .pre .1 .2) (c .before .before .symbol .ensures) (c .before .if1 .taken)
     (c .refused .ensures)
 
-application-add-expression : (t : ℕ) → application-lts.Need-add-expression (claims-application t) (application-at t) application.Post
-application-add-expression t c =
-    let entry = c .before .before .before .before .before .before .before .before .before .before .before .before in
-    omega (arith, entry .pre, entry)
-
 application-expression-requires : (t : ℕ) → application-lts.Need-expression-requires (claims-application t) (application-at t) application.Post
 application-expression-requires t c κs =
     let at-if1 = c .before .before .before .before .before .before in let at-symbol = at-if1 .before in
     let entry = at-symbol .before .before .before .before .before in
-    omega (arith, entry .pre, at-if1 .if1, c .before .nest .ensures .deeper (entry .pre .1 .2), at-symbol .symbol .ensures .from (entry .pre .1 .1))
+    let put = c .before .before .before .before .put .ensures in
+    omega (
+      arith,
+      entry .pre,
+      put-next put (entry .pre .1 .0),
+      below-put put .long,
+      at-if1 .if1,
+      c .before .nest .ensures .deeper (entry .pre .1 .2),
+      at-symbol .symbol .ensures .from (entry .pre .1 .1),
+    )
 
 application-same-length : (t : ℕ) → application-lts.Need-same-length (claims-application t) (application-at t) application.Post
 application-same-length t c = search needs
@@ -468,22 +472,25 @@ named-part-binding-start t c = omega arith
 named-part-binding-end : (t : ℕ) → named-lts.Need-part-binding-end (claims-named t) (named-at t) named.Post
 named-part-binding-end t c = omega (arith, c .before .before .before .name-at .ensures .within (c .before .before .before .before .before .before .before .before .pre .1 .1))
 
-named-put-name-requires : (t : ℕ) → named-lts.Need-put-name-requires (claims-named t) (named-at t) named.Post
-named-put-name-requires t c κs =
+named-name-meaning-requires : (t : ℕ) → named-lts.Need-name-meaning-requires (claims-named t) (named-at t) named.Post
+named-name-meaning-requires t c κs =
     let at-name-at = c .before .before .before .before in let entry = at-name-at .before .before .before .before .before in
     omega (arith, at-name-at .name-at .ensures .within (entry .pre .1 .1))
 
-named-add-cell : (t : ℕ) → named-lts.Need-add-cell (claims-named t) (named-at t) named.Post
-named-add-cell t c =
-    let entry = c .before .before .before .before .before .before .before .before .before .before .before .before in
-    omega (arith, entry .pre, entry)
+named-completed-requires : (t : ℕ) → named-lts.Need-completed-requires (claims-named t) (named-at t) named.Post
+named-completed-requires t c κs =
+    let at-name-at = c .before .before .before .before .before .before .before .before .before .before .before .before in
+    at-name-at .before .before .before .before .before .pre .1 .2
 
 named-same-length : (t : ℕ) → named-lts.Need-same-length (claims-named t) (named-at t) named.Post
-named-same-length t c = search needs
+named-same-length t c =
+    let at-put = c .before .before .before .before .before .before .before .before in
+    c .before .before .completed .ensures .below .long ∙ below-put (at-put .put .ensures) .long
 
 named-returns-2 : (t : ℕ) → named-lts.Need-returns-2 (claims-named t) (named-at t) named.Post
 named-returns-2 t c =
-    let at-put-name = c .before .before .before .before .before in let at-if2 = at-put-name .before .before in let at-if1 = at-if2 .before .before in
+    let at-if3 = c .before .before .before .before in let at-symbol = at-if3 .before in let at-put = at-symbol .before .before .before in
+    let at-meaning = at-put .before .before in let at-if2 = at-meaning .before .before in let at-if1 = at-if2 .before .before in
     let at-name-at = at-if1 .before in let entry = at-name-at .before .before .before .before .before in
     let n = at-name-at .name-at .result in
     named-alone (entry .pre .1 .0) (entry .pre .1 .1) (entry .pre .1 .2) (at-name-at .name-at .ensures) (at-if1 .if1 .left)
@@ -491,28 +498,41 @@ named-returns-2 t c =
     (λ w. binding-of (w .3) (part _ (n .start) (n .start + n .len) (omega arith)) (w .2 .ensures))
     (λ w. binding-none (w .1) (w .0 .left))
     (at-if2 .if2 .came))
-    (at-put-name .put-name .ensures) (c .before .before .symbol .ensures) (c .before .if3 .taken) (c .counted .ensures)
+    (at-meaning .name-meaning .ensures) (at-put .put .ensures) (at-symbol .symbol .ensures) (at-if3 .if3 .taken) (c .before .before .completed .ensures)
 
 named-arguments-requires : (t : ℕ) → named-lts.Need-arguments-requires (claims-named t) (named-at t) named.Post
 named-arguments-requires t c κs =
-    let at-name-at = c .before .before .before .before .before .before .before .before .before .before .before in
+    let at-put = c .before .before .before .before .before .before in
+    let at-name-at = at-put .before .before .before .before .before .before .before in
     let entry = at-name-at .before .before .before .before .before in
     omega (
       arith,
       entry .pre,
+      put-next (at-put .put .ensures) (entry .pre .1 .0),
+      below-put (at-put .put .ensures) .long,
       c .before .before .if3,
       c .before .nest .ensures .deeper (entry .pre .1 .2),
       c .before .before .before .symbol .ensures .from (at-name-at .name-at .ensures .within (entry .pre .1 .1)),
       at-name-at .name-at .ensures .from,
     )
 
+named-completed-requires-2 : (t : ℕ) → named-lts.Need-completed-requires-2 (claims-named t) (named-at t) named.Post
+named-completed-requires-2 t c κs =
+    let at-nest = c .before .before .before .before .before in
+    let at-name-at = at-nest .before .before .before .before .before .before .before .before .before .before .before .before in
+    at-name-at .before .before .before .before .before .pre .1 .2
+
 named-same-length-2 : (t : ℕ) → named-lts.Need-same-length-2 (claims-named t) (named-at t) named.Post
-named-same-length-2 t c = search needs
+named-same-length-2 t c =
+    let at-arguments = c .before .before .before .before .before .before in
+    let at-put = at-arguments .before .before .before .before .before .before .before in
+    c .before .before .completed2 .ensures .below .long ∙ at-arguments .arguments .ensures .onward .below .long ∙ below-put (at-put .put .ensures) .long
 
 named-returns-3 : (t : ℕ) → named-lts.Need-returns-3 (claims-named t) (named-at t) named.Post
 named-returns-3 t c =
-    let at-nest = c .before .before .before .before .before in let at-if3 = at-nest .before in let at-symbol = at-if3 .before in
-    let at-put-name = at-symbol .before .before .before in let at-if2 = at-put-name .before .before in let at-if1 = at-if2 .before .before in
+    let at-arguments = c .before .before .before .before .before .before in let at-nest = at-arguments .before .before in
+    let at-if3 = at-nest .before in let at-symbol = at-if3 .before in let at-put = at-symbol .before .before .before in
+    let at-meaning = at-put .before .before in let at-if2 = at-meaning .before .before in let at-if1 = at-if2 .before .before in
     let at-name-at = at-if1 .before in let entry = at-name-at .before .before .before .before .before in
     let n = at-name-at .name-at .result in
     named-read (entry .pre .1 .0) (entry .pre .1 .1) (entry .pre .1 .2) (at-name-at .name-at .ensures) (at-if1 .if1 .left)
@@ -520,19 +540,19 @@ named-returns-3 t c =
     (λ w. binding-of (w .3) (part _ (n .start) (n .start + n .len) (omega arith)) (w .2 .ensures))
     (λ w. binding-none (w .1) (w .0 .left))
     (at-if2 .if2 .came))
-    (at-put-name .put-name .ensures) (at-symbol .symbol .ensures) (at-if3 .if3 .left) (at-nest .nest .ensures)
-    (c .before .before .before .arguments .ensures) (c .counted2 .ensures)
+    (at-meaning .name-meaning .ensures) (at-put .put .ensures) (at-symbol .symbol .ensures) (at-if3 .if3 .left) (at-nest .nest .ensures)
+    (at-arguments .arguments .ensures) (c .before .before .completed2 .ensures)
 
 pub +abstraction+application+arguments+expression+named-spec : {M : Type 1} → statement M
 +abstraction+application+arguments+expression+named-spec =
     close μ-abstraction μ-application μ-arguments μ-expression μ-named (λ t. abstraction-lts.spec (claims-abstraction t) (abstraction-at t)
     abstraction.Post (λ c κs. tt) (λ c κs. tt) (abstraction-returns t) (λ c κs. tt) (λ c κs. tt) (abstraction-returns-2 t)
-    (abstraction-add-symbol t) (λ c κs. tt) (λ c κs. tt) (abstraction-returns-3 t) (λ c κs. tt) (λ c κs. tt) (abstraction-add-expression t)
+    (abstraction-add-symbol t) (λ c κs. tt) (λ c κs. tt) (abstraction-returns-3 t) (λ c κs. tt) (λ c κs. tt)
     (abstraction-expression-requires t) (abstraction-same-length t) (abstraction-returns-4 t) (λ c κs. tt) (λ c κs. tt)
     (abstraction-same-length-2 t) (abstraction-returns-5 t) (λ c κs. tt) (abstraction-expression-requires-2 t) (abstraction-same-length-3 t)
     (abstraction-returns-6 t))
     (λ t. application-lts.spec (claims-application t) (application-at t) application.Post (λ c κs. tt) (λ c κs. tt) (application-returns t)
-    (λ c κs. tt) (λ c κs. tt) (application-add-expression t) (application-expression-requires t) (application-same-length t)
+    (λ c κs. tt) (λ c κs. tt)  (application-expression-requires t) (application-same-length t)
     (application-returns-2 t) (λ c κs. tt) (λ c κs. tt) (application-same-length-2 t) (application-returns-3 t)
     (application-expression-requires-2 t) (application-same-length-3 t) (application-returns-4 t))
     (λ t. arguments-lts.spec (claims-arguments t) (arguments-at t) arguments.Post arguments-Inv-loop arguments-μ-loop
@@ -544,6 +564,6 @@ pub +abstraction+application+arguments+expression+named-spec : {M : Type 1} → 
     (expression-named-requires t) (expression-same-length t) (expression-returns-3 t) (expression-same-length-2 t) (expression-returns-4 t)
     (expression-same-length-3 t) (expression-returns-5 t))
     λ t. named-lts.spec (claims-named t) (named-at t) named.Post (λ c κs. tt) (λ c κs. tt) (named-returns t) (named-add-next t)
-    (named-sub-binding t) (named-part-binding-start t) (named-part-binding-end t) (λ c κs. tt) (named-put-name-requires t)
-    (named-add-cell t) (λ c κs. tt) (λ c κs. tt) (named-same-length t) (named-returns-2 t) (λ c κs. tt) (named-arguments-requires t)
-    (λ c κs. tt) (named-same-length-2 t) (named-returns-3 t)
+    (named-sub-binding t) (named-part-binding-start t) (named-part-binding-end t) (λ c κs. tt) (named-name-meaning-requires t)
+    (λ c κs. tt) (λ c κs. tt) (named-completed-requires t) (named-same-length t) (named-returns-2 t) (λ c κs. tt) (named-arguments-requires t)
+    (named-completed-requires-2 t) (named-same-length-2 t) (named-returns-3 t)
