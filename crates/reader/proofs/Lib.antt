@@ -4,4 +4,5 @@ pub mod EndingLaws
 pub mod MiddleLaws
 pub mod BodyLaws
 pub mod StepLaws
+pub mod LimitLaws
 pub mod LineLaws

@@ -7,16 +7,16 @@ use Prim.Native.Nat.{ℕ, zero, _+_, _-_, _*_, _/_, _≤_, _<_}
 use native.Mathlib.Omega.{arith}
 use lib.ListN.{length, getD, drop, take, List·getD-append, length-append, length-drop, take-append-drop}
 use lib.Seq.{slice, length-slice, length-take-le, take-take, drop-append-le, getD-append-add, getD-take, getD-drop}
-use borrow.Author.Tests.{le-leb, lt-leb}
 use Rattle.aut68.specs.Language.{aut68}
 use Rattle.aut68.specs.Bytes.{Bytes}
-use Rattle.aut68.specs.Source.{cellsOfSrc, middleCells}
-use Rattle.aut68.specs.Lines.{Lines, lineCells, rowCell}
-use Rattle.aut68.specs.Procedure.Answer.{aside, codeOf, duplicate, tooLarge}
+use Rattle.aut68.specs.Expr.{Expr, cells, levels}
+use Rattle.aut68.specs.Lines.{Lines, Kind, kindCells, lineCells, rowCell}
+use Rattle.aut68.specs.Procedure.Answer.{_>>=_, give, ensure, aside, codeOf, duplicate, tooLarge}
 use Rattle.aut68.specs.Procedure.Parse.{Placed, aLine}
-use Rattle.aut68.specs.Procedure.Resolve.{found, indicatorLine, unused, contextAt}
-use Rattle.aut68.specs.Procedure.CheckLine.{readLine}
-use Rattle.aut68.specs.Sizes.{lineLimit, smallestLimit, atContext}
+use Rattle.aut68.specs.Procedure.Resolve.{Naming, indicatorLine, unused, resolveMiddle, contextAt}
+use Rattle.aut68.specs.Procedure.Resolve as Resolve
+use Rattle.aut68.specs.Procedure.CheckLine.{Passed, withinLimits, middleWithinLimits, readLine}
+use Rattle.aut68.specs.Sizes.{lineLimit, smallestLimit, nesting, atContext}
 use Rattle.cells.specs.Layout.{contextUnit, lineUnit, readerUnits}
 use Rattle.symbols.proofs.SymbolLaws.{part}
 use Rattle.kinds.specs.Kinds.{KindsTable}
@@ -33,12 +33,13 @@ use Rattle.names.specs.HintLaws.{slots-fit, hinted-same}
 use Rattle.names.specs.Posts.{LineFound}
 use Rattle.meanings.specs.Posts.{ContextPost}
 use Rattle.expressions.specs.declared.parts.Reading.{Reading}
-use Rattle.expressions.specs.Walk.{ReadTo, passed, refused, SameBelow}
+use Rattle.expressions.specs.Walk.{ReadTo, passed, refused, Laid, SameBelow}
 use Rattle.expressions.proofs.StoreLaws.{below-same, below-then, part-append, part-stays}
 use Rattle.expressions.proofs.ReadLaws.{read-is}
 use Rattle.reader.specs.declared.lines.Line.{Line as LineOf}
-use Rattle.reader.specs.Posts.{MiddleKind, LineWritten, BodyRead, IndicatorFound, LineRead, LineReadInto, LineReadTo}
+use Rattle.reader.specs.Posts.{MiddleKind, kindLevels, LineWritten, BodyRead, IndicatorFound, LineRead, LineReadInto, LineReadTo}
 use Rattle.reader.proofs.StepLaws.{reading-result, step-stopped, step-names, step-fault, step-right, step-wrong, step-indicator, step-no-indicator}
+use Rattle.reader.proofs.LimitLaws.{laid-small, laid-large, within, not-within, middle-within, middle-not-within}
 use Rattle.reader.proofs.StepLaws.{name-unused, name-taken, kind-number, context-length, indicator-within, zero-or-not}
 
 -- ---- the cells of a line
@@ -157,89 +158,101 @@ module _ {ks s book tb : List ℕ} {lines : ℕ} (limit : ℕ) {w w₁ w′ : Li
           }
 
       module _ (free : taken ≡ 0) where
-        pub line-large-middle : {l : LineOf} → limit < r .count - lineUnit * limit → l .code ≡ 10 → LineReadInto ks s book tb lines limit w w′ l
-        unfolding readLine codeOf
-        line-large-middle g e =
+        pub line-fault : {l : LineOf} → r .fault ≢ 0 → l .code ≡ r .fault → LineReadInto ks s book tb lines limit w w′ l
+        unfolding readLine
+        line-fault n e =
             record {
               below = below-kept;
               read = λ ls t k short large hints.
                   Results.then-passed _ rz (reading-result (reading ls t k short large hints)) (λ p P.
                   let (q, m) = looked-up H hz P in
+                  let middle = P .middleWritten .names refl in
                   step-indicator _ (subst (λ o. IndicatorFound lines found (indicatorLine ls o tt)) (sym (P .indicatorIs)) (F ls k hints)) le (I .1 le)
                   (step-right _ duplicate (ap (λ x. unused x ls) (sym q) ∙ name-unused T k (hints-stay large hints) m free)
-                  (step-wrong _ tooLarge (lt-leb (middleCells (p .line .middle)) limit (omega (arith, P .middleWritten .size))) e)));
+                  (⊎-elim
+                  (λ z. step-names _ middle z (λ x ex sx. step-fault _ (P .categoryWritten .names z) n e))
+                  (λ y. step-fault _ middle y (e ∙ P .categoryWritten .kept y))
+                  (zero-or-not (P .faultBetween)))));
             }
 
-        pub line-large-category : {l : LineOf} → r .count - lineUnit * limit ≤ limit
-            → limit < r .to - lineUnit * limit - (r .count - lineUnit * limit) → l .code ≡ 10 → LineReadInto ks s book tb lines limit w w′ l
-        unfolding readLine codeOf
-        line-large-category f g e =
-            record {
-              below = below-kept;
-              read = λ ls t k short large hints.
-                  Results.then-passed _ rz (reading-result (reading ls t k short large hints)) (λ p P.
-                  let (q, m) = looked-up H hz P in
-                  step-indicator _ (subst (λ o. IndicatorFound lines found (indicatorLine ls o tt)) (sym (P .indicatorIs)) (F ls k hints)) le (I .1 le)
-                  (step-right _ duplicate (ap (λ x. unused x ls) (sym q) ∙ name-unused T k (hints-stay large hints) m free)
-                  (step-right _ tooLarge (le-leb (middleCells (p .line .middle)) limit (omega (arith, P .middleWritten .size)))
-                  (step-wrong _ tooLarge (lt-leb (cellsOfSrc (p .line .category)) limit (omega (arith, P .categoryWritten .size))) e))));
-            }
+        module _ (n : r .fault ≡ 0) where
+          -- what is left to be done where the names mean something: the middle's and the category's limits
+          left : Lines → Placed → Kind → Expr → Naming Passed
+          left ls p x d =
+              ensure (middleWithinLimits limit x) tooLarge >>= λ _.
+              ensure (withinLimits limit d) tooLarge >>= λ _.
+              give (record { before = p .before; line = record { identifier = p .line .identifier; indicator = indicator; context = contextAt ls indicator; kind = x; category = d } })
 
-        module _ (f : r .count - lineUnit * limit ≤ limit) (g : r .to - lineUnit * limit - (r .count - lineUnit * limit) ≤ limit) where
-          pub line-fault : {l : LineOf} → r .fault ≢ 0 → l .code ≡ r .fault → LineReadInto ks s book tb lines limit w w′ l
-          unfolding readLine
-          line-fault n e =
-              record {
-                below = below-kept;
-                read = λ ls t k short large hints.
-                    Results.then-passed _ rz (reading-result (reading ls t k short large hints)) (λ p P.
-                    let (q, m) = looked-up H hz P in
-                    let middle = P .middleWritten .names refl (omega arith) in
-                    step-indicator _ (subst (λ o. IndicatorFound lines found (indicatorLine ls o tt)) (sym (P .indicatorIs)) (F ls k hints)) le (I .1 le)
-                    (step-right _ duplicate (ap (λ x. unused x ls) (sym q) ∙ name-unused T k (hints-stay large hints) m free)
-                    (step-right _ tooLarge (le-leb (middleCells (p .line .middle)) limit (omega (arith, P .middleWritten .size)))
-                    (step-right _ tooLarge (le-leb (cellsOfSrc (p .line .category)) limit (omega (arith, P .categoryWritten .size)))
-                    (⊎-elim
-                    (λ z. step-names _ middle z (λ x ex sx. step-fault _ (P .categoryWritten .names z (omega (arith, P .long))) n e))
-                    (λ y. step-fault _ middle y (e ∙ P .categoryWritten .kept y))
-                    (zero-or-not (P .faultBetween)))))));
-              }
-
-          pub line-read : {context : ℕ} → r .fault ≡ 0 → (indicator ≡ 0 → context ≡ 0) × (1 ≤ indicator → context ≡ rowCell tb indicator atContext + 1)
-              → LineReadInto ks s book tb lines limit w w′
-              (record { code = 0; first = h .first; len = h .size; indicator = indicator; context = context; kind = kind; middle = r .count - lineUnit * limit; size = r .to - lineUnit * limit })
-          unfolding readLine lineCells
-          line-read {context} n c =
+          after-names : {l : LineOf}
+              → ((ls : Lines) → Known ls book tb lines → Hinted book tb lines w → (p : Placed)
+              → (P : LineWritten ls indicator w₁ w′ (lineUnit * limit) kind (r .count) (r .to) (r .fault) (h .first) (nameOr s (h .start) (h .len)) (slice (h .first) (h .first + h .size) s) p)
+              → (x : Kind) (d : Expr) → resolveMiddle ls (contextAt ls indicator) (p .line .middle) tt ≡ Resolve.found x
+              → Laid (P .between) (lineUnit * limit) (r .count) nesting (kindCells x) (kindLevels x) → Laid w′ (r .count) (r .to) nesting (cells d) (levels d)
+              → Result (LineRead s w′ (lineUnit * limit) l) (l .code) tt (left ls p x d tt))
+              → LineReadInto ks s book tb lines limit w w′ l
+          unfolding readLine left
+          after-names f =
               record {
                 below = below-kept;
                 read = λ ls t k short large hints.
                     Results.then-passed _ rz (reading-result (reading ls t k short large hints)) (λ p P.
                     let (q, m) = looked-up H hz P in
                     let z : P .faultBetween ≡ 0 = ⊎-elim (λ z. z) (λ y. absurd (y (sym (P .categoryWritten .kept y) ∙ n))) (zero-or-not (P .faultBetween)) in
-                    let lengths = P .long in
-                    let (start, more) = B .upward rz in
-                    let end : r .to ≤ length w′ = omega (arith, B .below .long) in
                     step-indicator _ (subst (λ o. IndicatorFound lines found (indicatorLine ls o tt)) (sym (P .indicatorIs)) (F ls k hints)) le (I .1 le)
                     (step-right _ duplicate (ap (λ x. unused x ls) (sym q) ∙ name-unused T k (hints-stay large hints) m free)
-                    (step-right _ tooLarge (le-leb (middleCells (p .line .middle)) limit (omega (arith, P .middleWritten .size)))
-                    (step-right _ tooLarge (le-leb (cellsOfSrc (p .line .category)) limit (omega (arith, P .categoryWritten .size)))
-                    (step-names _ (P .middleWritten .names refl (omega arith)) z (λ x ex sx.
-                    step-names _ (P .categoryWritten .names z (omega arith)) n (λ d ed sd.
-                    Results.passed refl
-                    (record {
-                      firstIs = sym (P .beforeIs);
-                      lenIs = omega (arith, ap length (P .identifierIs), length-slice (h .first) (h .first + h .size) s (H .named));
-                      within = H .named;
-                      identifierIs = sym (P .identifierIs);
-                      indicatorIs = refl;
-                      contextIs = context-length k (indicator-within (F ls k hints) (k .few) I) c;
-                      kindIs = sym (P .kindIs) ∙ sym (kind-number ls (contextAt ls indicator) (p .line .middle) ex);
-                      middleIs = omega (arith, ap length sx, length-slice (lineUnit * limit) (r .count) (P .between) (omega arith));
-                      sizeIs = omega (arith, ap length (cells-both (P .below) start more end sx sd), length-slice (lineUnit * limit) (r .to) w′ end);
-                      after = drop (r .to) w′;
-                      cellsAt = cells-lie (P .below) start more end sx sd;
-                    }))))))));
+                    (step-names _ (P .middleWritten .names refl) z (λ x ex sx.
+                    step-names _ (P .categoryWritten .names z) n (λ d ed sd.
+                    f ls k hints p P x d ex sx sd)))));
               }
+
+          pub line-large-middle : {l : LineOf} → limit < r .count - lineUnit * limit → l .code ≡ 10 → LineReadInto ks s book tb lines limit w w′ l
+          unfolding left codeOf
+          line-large-middle g e =
+              after-names (λ ls k hints p P x d ex sx sd.
+              step-wrong _ tooLarge (middle-not-within x (laid-large sx (B .upward rz .0) g (omega (arith, P .long, below-noted .long)))) e)
+
+          module _ (f : r .count - lineUnit * limit ≤ limit) where
+            middle-fits : (x : Kind) {between : List ℕ} → length between ≡ length w₁ → Laid between (lineUnit * limit) (r .count) nesting (kindCells x) (kindLevels x)
+                → (length (kindCells x) ≤ limit) × (kindLevels x ≤ nesting)
+            middle-fits x e A = laid-small A (B .upward rz .0) f (omega (arith, e, below-noted .long, B .upward rz .0))
+
+            pub line-large-category : {l : LineOf} → limit < r .to - lineUnit * limit - (r .count - lineUnit * limit) → l .code ≡ 10 → LineReadInto ks s book tb lines limit w w′ l
+            unfolding left codeOf
+            line-large-category g e =
+                let (start, more) = B .upward rz in
+                after-names (λ ls k hints p P x d ex sx sd.
+                step-right _ tooLarge (middle-within x (middle-fits x (P .long) sx))
+                (step-wrong _ tooLarge (not-within d (laid-large sd more (omega arith) (omega (arith, below-kept .long)))) e))
+
+            pub line-read : {context : ℕ} → r .to - lineUnit * limit - (r .count - lineUnit * limit) ≤ limit
+                → (indicator ≡ 0 → context ≡ 0) × (1 ≤ indicator → context ≡ rowCell tb indicator atContext + 1)
+                → LineReadInto ks s book tb lines limit w w′
+                (record { code = 0; first = h .first; len = h .size; indicator = indicator; context = context; kind = kind; middle = r .count - lineUnit * limit; size = r .to - lineUnit * limit })
+            unfolding left lineCells
+            line-read {context} g c =
+                let (start, more) = B .upward rz in
+                let room : length w′ ≡ readerUnits * limit = below-kept .long ∙ long in
+                let end : r .to ≤ length w′ = omega arith in
+                after-names (λ ls k hints p P x d ex sx sd.
+                let between : r .count ≤ length (P .between) = omega (arith, P .long, below-noted .long) in
+                let cx = sx .fits between .0 in
+                let cd = sd .fits end .0 in
+                step-right _ tooLarge (middle-within x (middle-fits x (P .long) sx))
+                (step-right _ tooLarge (within d (laid-small sd more (omega arith) end))
+                (Results.passed refl
+                (record {
+                  firstIs = sym (P .beforeIs);
+                  lenIs = omega (arith, ap length (P .identifierIs), length-slice (h .first) (h .first + h .size) s (H .named));
+                  within = H .named;
+                  identifierIs = sym (P .identifierIs);
+                  indicatorIs = refl;
+                  contextIs = context-length k (indicator-within (F ls k hints) (k .few) I) c;
+                  kindIs = sym (P .kindIs) ∙ sym (kind-number ls (contextAt ls indicator) (p .line .middle) ex);
+                  middleIs = omega (arith, ap length cx, length-slice (lineUnit * limit) (r .count) (P .between) between);
+                  sizeIs = omega (arith, ap length (cells-both (P .below) start more end cx cd), length-slice (lineUnit * limit) (r .to) w′ end);
+                  after = drop (r .to) w′;
+                  cellsAt = cells-lie (P .below) start more end cx cd;
+                }))))
 
 -- ---- a line in the first cells of a larger store
 

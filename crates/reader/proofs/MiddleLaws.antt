@@ -4,13 +4,12 @@ use mathlib.Core.Bool.{Bool, true, false}
 use mathlib.Core.List.{List, []}
 use Prim.Native.Nat.{ℕ, zero, suc, _+_, _-_, _≤_, _<_}
 use native.Mathlib.Omega.{arith}
-use lib.ListN.{length, drop, take, replicate, length-replicate, length-take}
-use lib.Seq.{slice-empty}
+use lib.ListN.{length, drop, take, replicate, length-replicate}
 use Rattle.aut68.specs.Language.{aut68}
 use Rattle.aut68.specs.Rules.Grammar.{inner}
 use Rattle.aut68.specs.Bytes.{Bytes, sameBytes, wordType, wordPN, wordEB}
-use Rattle.aut68.specs.Source.{Src, variable, primitive, meaning, type, cellsOfSrc, middleCells}
-use Rattle.aut68.specs.Expr.{Expr, cells}
+use Rattle.aut68.specs.Source.{Src, variable, primitive, meaning, type}
+use Rattle.aut68.specs.Expr.{Expr, cells, levels}
 use Rattle.aut68.specs.Lines.{Lines, kindCells}
 use Rattle.aut68.specs.Procedure.Answer.{done, andThen, Answer, give}
 use Rattle.aut68.specs.Procedure.Parse.{spaces, afterWord, wordAhead, pastWord, anExpression, aMiddle}
@@ -27,9 +26,10 @@ use Rattle.expressions.specs.declared.parts.Reading.{Reading}
 use Rattle.expressions.specs.Walk as Walk
 use Rattle.expressions.specs.Walk.{ReadTo, passed, Faulted, whole, faulty, CellPut}
 use Rattle.expressions.specs.Posts.{expressionIn, goOn, Ready, ExpressionRead}
-use Rattle.expressions.proofs.StoreLaws.{below-same, below-put, part-put}
+use Rattle.expressions.proofs.StoreLaws.{below-same, below-put, put-next}
+use Rattle.expressions.proofs.LaidLaws.{nothing-laid, laid-cell}
 use Rattle.expressions.proofs.ReadLaws.{then-give, read-is}
-use Rattle.reader.specs.Posts.{MiddleKind, middleNumber, Lookup, WrittenMiddle, WrittenCategory, MiddleRead, CategoryRead}
+use Rattle.reader.specs.Posts.{MiddleKind, middleNumber, kindLevels, Lookup, WrittenMiddle, WrittenCategory, MiddleRead, CategoryRead}
 use Rattle.reader.proofs.EndingLaws.{ending-type, ending-other}
 
 -- ---- words
@@ -78,7 +78,7 @@ module _ {ks s book tb : List ℕ} {lines indicator : ℕ} {scope : Scope} {w w�
     (n : NoEntry scope)
     (E : ExpressionRead (expressionIn scope) ks s scope book tb lines indicator w w′ r r′) where
   pub outer-read : (ls : Lines) → Lookup ls ks s book tb lines indicator w (r .to)
-      → ReadTo s (Walk.Written cellsOfSrc cells (resolve ls (contextAt ls indicator) []) w w′ (r .to) (r′ .to) (r .fault) (r′ .fault)) (r′ .code) (r′ .at)
+      → ReadTo s (Walk.Written cells levels (resolve ls (contextAt ls indicator) []) w w′ (r .to) (r′ .to) nesting (r .fault) (r′ .fault)) (r′ .code) (r′ .at)
       (anExpression aut68 nesting inner (drop (r .at) s))
   outer-read ls l =
       let ready : Ready ls ks s book tb lines indicator scope w (r .to) =
@@ -99,9 +99,10 @@ module _ {ks s book tb : List ℕ} {lines indicator : ℕ} {scope : Scope} {w w�
               few = omega (arith, n .0);
             };
       } in
-      let level : nesting ≡ nesting - scope .depth = omega (arith, n .1) in
-      read-is (ap (λ d. anExpression aut68 d inner (drop (r .at) s)) level)
-      (subst (λ bs. ReadTo s (Walk.Written cellsOfSrc cells (resolve ls (contextAt ls indicator) bs) w w′ (r .to) (r′ .to) (r .fault) (r′ .fault)) (r′ .code) (r′ .at)
+      let level : nesting - scope .depth ≡ nesting = omega (arith, n .1) in
+      subst (λ d. ReadTo s (Walk.Written cells levels (resolve ls (contextAt ls indicator) []) w w′ (r .to) (r′ .to) d (r .fault) (r′ .fault)) (r′ .code) (r′ .at)
+      (anExpression aut68 d inner (drop (r .at) s))) level
+      (subst (λ bs. ReadTo s (Walk.Written cells levels (resolve ls (contextAt ls indicator) bs) w w′ (r .to) (r′ .to) (nesting - scope .depth) (r .fault) (r′ .fault)) (r′ .code) (r′ .at)
       (anExpression aut68 (nesting - scope .depth) inner (drop (r .at) s))) (no-names s scope (n .0))
       (E .read ls ready))
 
@@ -120,25 +121,25 @@ middle-other : (bs : Bytes) → sameBytes (wordAhead bs) wordEB ≡ false → sa
 unfolding aMiddle
 middle-other bs e f = rw (e, f, aMiddle) refl
 
-meaning-found : {w : List ℕ} {to end fault : ℕ} {fe : Answer (Unit {0}) Expr} → Faulted cells w to end fault fe
-    → Faulted kindCells w to end fault (andThen (λ m. give (Rattle.aut68.specs.Lines.abbreviation m)) fe)
-unfolding andThen kindCells
+meaning-found : {w : List ℕ} {to end d fault : ℕ} {fe : Answer (Unit {0}) Expr} → Faulted cells levels w to end d fault fe
+    → Faulted kindCells kindLevels w to end d fault (andThen (λ m. give (Rattle.aut68.specs.Lines.abbreviation m)) fe)
+unfolding andThen kindCells kindLevels
 meaning-found (whole e p) = whole e p
 meaning-found (faulty e) = faulty e
 
 module _ (ls : Lines) (indicator : ℕ) {w w′ : List ℕ} {to end fault fault′ : ℕ} where
-  meaning-written : {e : Src} → Walk.Written cellsOfSrc cells (resolve ls (contextAt ls indicator) []) w w′ to end fault fault′ e
+  meaning-written : {e : Src} → Walk.Written cells levels (resolve ls (contextAt ls indicator) []) w w′ to end nesting fault fault′ e
       → WrittenMiddle ls indicator w w′ to end fault fault′ (meaning e)
-  unfolding middleCells resolveMiddle
-  meaning-written h = record { size = h .size; kept = h .kept; names = λ z r. meaning-found (h .names z r) }
+  unfolding resolveMiddle
+  meaning-written h = record { kept = h .kept; names = λ z. meaning-found (h .names z) }
 
 variable-written : (ls : Lines) (indicator : ℕ) (w : List ℕ) (to : ℕ) → WrittenMiddle ls indicator w w to to 0 0 variable
-unfolding middleCells kindCells resolveMiddle
-variable-written ls indicator w to = record { size = omega arith; kept = λ n. refl; names = λ z r. whole refl (slice-empty to w) }
+unfolding kindCells kindLevels resolveMiddle
+variable-written ls indicator w to = record { kept = λ n. refl; names = λ z. whole refl nothing-laid }
 
 primitive-written : (ls : Lines) (indicator : ℕ) (w : List ℕ) (to : ℕ) → WrittenMiddle ls indicator w w to to 0 0 primitive
-unfolding middleCells kindCells resolveMiddle
-primitive-written ls indicator w to = record { size = omega arith; kept = λ n. refl; names = λ z r. whole refl (slice-empty to w) }
+unfolding kindCells kindLevels resolveMiddle
+primitive-written ls indicator w to = record { kept = λ n. refl; names = λ z. whole refl nothing-laid }
 
 module _ {ks s book tb : List ℕ} {lines indicator : ℕ} {w : List ℕ} {at to kind : ℕ} (b : at ≤ length s) where
   pub middle-word : {start end : ℕ} → to ≤ length w → kind < 2 → PastSpaces s at start → WordEnd ks s start end
@@ -150,7 +151,7 @@ module _ {ks s book tb : List ℕ} {lines indicator : ℕ} {w : List ℕ} {at to
         up = omega arith;
         from = omega (arith, p .from, q .from);
         inside = q .within (p .within b);
-        fewer = omega arith;
+        small = omega arith;
         read = λ ls k m. by-kind ls k m kind refl;
       }
     where
@@ -172,7 +173,7 @@ module _ {ks s book tb : List ℕ} {lines indicator : ℕ} {w : List ℕ} {at to
         up = E .onward .up;
         from = E .onward .from;
         inside = E .onward .inside;
-        fewer = E .onward .fewer;
+        small = E .onward .small;
         read = λ ls k m.
             let e : kind ≡ 2 = omega (arith, m .small) in
             let (f, g) = m .isMeaning (k .table) e in
@@ -181,26 +182,18 @@ module _ {ks s book tb : List ℕ} {lines indicator : ℕ} {w : List ℕ} {at to
 
 -- ---- the category
 
-type-written : (ls : Lines) (indicator : ℕ) {w w′ : List ℕ} {to fault : ℕ} → CellPut w w′ to 0 → WrittenCategory ls indicator w w′ to (to + 1) fault fault type
-unfolding cellsOfSrc cells resolve
-type-written ls indicator put = record { size = refl; kept = λ n. refl; names = λ z r. whole z (part-put put (omega arith)) }
+type-written : (ls : Lines) (indicator : ℕ) {w w′ : List ℕ} {to next fault : ℕ} → CellPut w w′ to 0 next → WrittenCategory ls indicator w w′ to next fault fault type
+unfolding cells levels resolve
+type-written ls indicator {w′ = w′} {next = next} put =
+    record { kept = λ n. refl; names = λ z. whole z (laid-cell put (below-same next w′) (omega arith) (nothing-laid {d = nesting - 1})) }
 
-module _ {ks s book tb : List ℕ} {lines indicator : ℕ} {w w′ : List ℕ} {r : Reading} (fewer : r .to ≤ length w + r .at) (b : r .at ≤ length s)
+module _ {ks s book tb : List ℕ} {lines indicator : ℕ} {w w′ : List ℕ} {r : Reading} (small : r .to ≤ length w + 1) (b : r .at ≤ length s)
     {start end : ℕ} (p : PastSpaces s (r .at) start) (q : WordEnd ks s start end) {t : Bool} (e : t ≡ sameBytes (take (end - start) (drop start s)) wordType) where
-  pub category-type : t ≡ true → CellPut w w′ (r .to) 0 → CategoryRead ks s book tb lines indicator w w′ r (goOn end (r .to + 1) (r .fault))
-  unfolding wordType
+  pub category-type : {next : ℕ} → t ≡ true → CellPut w w′ (r .to) 0 next → CategoryRead ks s book tb lines indicator w w′ r (goOn end next (r .fault))
   category-type f put =
-      let four = ap length (same-true (take (end - start) (drop start s)) wordType (sym e ∙ f)) in
-      let l : r .to < length w + end = omega (arith, four, length-take (end - start) (drop start s), p .from) in
+      let (up, few) = put-next put small in
       record {
-        onward =
-            record {
-              below = below-put put;
-              up = omega arith;
-              from = omega (arith, p .from, q .from);
-              inside = q .within (p .within b);
-              fewer = omega arith;
-            };
+        onward = record { below = below-put put; up = up; from = omega (arith, p .from, q .from); inside = q .within (p .within b); small = few };
         read = λ ls k.
             read-is (ending-type aut68 (nesting - 1) (drop (r .at) s) (word-test b p q wordType e (k .table) ∙ f))
             (passed refl (sym (past-word p q (k .table) b)) (type-written ls indicator put));
@@ -216,7 +209,7 @@ module _ {ks s book tb : List ℕ} {lines indicator : ℕ} {w w′ : List ℕ} {
               up = E .onward .up;
               from = E .onward .from;
               inside = E .onward .inside;
-              fewer = E .onward .fewer;
+              small = E .onward .small;
             };
         read = λ ls k.
             read-is (ending-other nesting (drop (r .at) s) (word-test b p q wordType e (k .table) ∙ f)) (outer-read n E ls k);

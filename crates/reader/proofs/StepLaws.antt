@@ -7,7 +7,6 @@ use mathlib.Core.List.{List, [], _∷_}
 use Prim.Native.Nat.{ℕ, zero, suc, _+_, _-_, _≤_, _<_}
 use native.Mathlib.Omega.{arith}
 use lib.ListN.{length, length-append}
-use lib.Seq.{slice}
 use Rattle.aut68.specs.Bytes.{Bytes}
 use Rattle.aut68.specs.Source.{Middle, variable, primitive, meaning}
 use Rattle.aut68.specs.Expr.{Expr}
@@ -27,7 +26,7 @@ use Rattle.names.specs.Hints.{Hinted}
 use Rattle.names.specs.Posts.{LineFound}
 use Rattle.names.proofs.FindLaws.{lineAt}
 use Rattle.meanings.proofs.MeaningLaws.{option-none, option-some, number-positive}
-use Rattle.expressions.specs.Walk.{ReadTo, passed, refused, Faulted, whole, faulty}
+use Rattle.expressions.specs.Walk.{ReadTo, passed, refused, Laid, Faulted, whole, faulty}
 use Rattle.reader.specs.Posts.{middleNumber, IndicatorFound, isLine, noLine}
 
 -- ---- one step, and what comes after it
@@ -47,13 +46,13 @@ module _ {A B : Type 0} {Q : B → Type 0} {code : ℕ} (f : A → Naming B) whe
   step-stopped e c = subst (λ m. Result Q code tt (andThen f m)) (sym e) (Results.refused c)
 
   -- names that were looked up
-  pub step-names : {g : A → List ℕ} {w : List ℕ} {to end fault : ℕ} {fm : Answer (Unit {0}) A} → Faulted g w to end fault fm → fault ≡ 0
-      → ((a : A) → fm ≡ found a → slice to end w ≡ g a → Result Q code tt (f a tt)) → Result Q code tt (andThen f fm)
+  pub step-names : {g : A → List ℕ} {n : A → ℕ} {w : List ℕ} {to end d fault : ℕ} {fm : Answer (Unit {0}) A} → Faulted g n w to end d fault fm → fault ≡ 0
+      → ((a : A) → fm ≡ found a → Laid w to end d (g a) (n a) → Result Q code tt (f a tt)) → Result Q code tt (andThen f fm)
   unfolding andThen
   step-names (whole {a} e p) z h = h a refl p
   step-names (faulty {r} e) z h = absurd (code-nonzero r (sym e ∙ z))
 
-  pub step-fault : {g : A → List ℕ} {w : List ℕ} {to end fault : ℕ} {fm : Answer (Unit {0}) A} → Faulted g w to end fault fm → fault ≢ 0 → code ≡ fault
+  pub step-fault : {g : A → List ℕ} {n : A → ℕ} {w : List ℕ} {to end d fault : ℕ} {fm : Answer (Unit {0}) A} → Faulted g n w to end d fault fm → fault ≢ 0 → code ≡ fault
       → Result Q code tt (andThen f fm)
   unfolding andThen
   step-fault (whole e p) n c = absurd (n e)

@@ -9,9 +9,10 @@ use lib.Seq.{slice}
 use Rattle.aut68.specs.Language.{aut68}
 use Rattle.aut68.specs.Rules.Grammar.{ending}
 use Rattle.aut68.specs.Bytes.{Bytes, sameBytes, wordPN, wordEB}
-use Rattle.aut68.specs.Source.{Src, Middle, variable, primitive, meaning, cellsOfSrc, middleCells}
-use Rattle.aut68.specs.Expr.{cells}
-use Rattle.aut68.specs.Lines.{Lines, kindCells, kindNumber, lineCells}
+use Rattle.aut68.specs.Source.{Src, Middle, variable, primitive, meaning}
+use Rattle.aut68.specs.Expr.{cells, levels}
+use Rattle.aut68.specs.Lines.{Lines, Kind, kindCells, kindNumber, lineCells}
+use Rattle.aut68.specs.Lines as Lines
 use Rattle.aut68.specs.Procedure.Answer.{Answer, unknownName}
 use Rattle.aut68.specs.Procedure.Parse.{Placed, aMiddle, anExpression, wordAhead}
 use Rattle.aut68.specs.Procedure.Resolve.{found, refused, resolve, resolveMiddle, contextAt}
@@ -43,6 +44,12 @@ middleNumber variable = 0
 middleNumber primitive = 1
 middleNumber (meaning e) = 2
 
+-- how deep the middle of a line is nested
+unfoldable pub kindLevels : Kind → ℕ
+kindLevels Lines.variable = 0
+kindLevels Lines.primitive = 0
+kindLevels (Lines.abbreviation m) = levels m
+
 -- what the names of the line s are looked up in, outside every binding: hints and the line's context lie below the cell `to`
 pub record Lookup (ls : Lines) (ks s book tb : List ℕ) (lines indicator : ℕ) (w : List ℕ) (to : ℕ) : Type 0 where
   pub table : KindsTable ks
@@ -57,10 +64,10 @@ pub record Lookup (ls : Lines) (ks s book tb : List ℕ) (lines indicator : ℕ)
 module _ (ls : Lines) (indicator : ℕ) (w w′ : List ℕ) (to end fault fault′ : ℕ) where
   -- the cells of a middle, and of a written category
   abbrev pub WrittenMiddle : Middle → Type 0
-  WrittenMiddle = Walk.Written middleCells kindCells (resolveMiddle ls (contextAt ls indicator)) w w′ to end fault fault′
+  WrittenMiddle = Walk.Written kindCells kindLevels (resolveMiddle ls (contextAt ls indicator)) w w′ to end nesting fault fault′
 
   abbrev pub WrittenCategory : Src → Type 0
-  WrittenCategory = Walk.Written cellsOfSrc cells (resolve ls (contextAt ls indicator) []) w w′ to end fault fault′
+  WrittenCategory = Walk.Written cells levels (resolve ls (contextAt ls indicator) []) w w′ to end nesting fault fault′
 
 -- a middle of this kind was read from `at` on, its cells from `to` on
 pub record MiddleRead (ks s book tb : List ℕ) (lines indicator : ℕ) (w w′ : List ℕ) (at to kind : ℕ) (r′ : Reading) : Type 0 where
@@ -68,7 +75,7 @@ pub record MiddleRead (ks s book tb : List ℕ) (lines indicator : ℕ) (w w′ 
   pub up : to ≤ r′ .to
   pub from : at ≤ r′ .at
   pub inside : r′ .at ≤ length s
-  pub fewer : r′ .to ≤ length w + r′ .at
+  pub small : r′ .to ≤ length w + 1
   pub read : (ls : Lines) → Lookup ls ks s book tb lines indicator w to → MiddleKind ks s at kind
       → ReadTo s (λ m. (middleNumber m ≡ kind) × WrittenMiddle ls indicator w w′ to (r′ .to) 0 (r′ .fault) m) (r′ .code) (r′ .at) (aMiddle aut68 (drop at s))
 
