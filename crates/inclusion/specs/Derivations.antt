@@ -113,9 +113,10 @@ module _ (ls : Lines) {v : ℕ} {vs : List ℕ} (context : Context ls v vs) wher
   completed-resolved : (k v : ℕ) {l : Line} {us : List ℕ} (es : Exprs) {all : Exprs} → IsLine ls v l → l .kind ≢ variable → AllResolved ls vs k es → LeftOut (countExprs es) (l .context) vs us
       → all ≡ inFront us es → Resolved ls vs k (const v all)
   unfolding Scoped
-  completed-resolved k v {l} {us} es {all} i n h c e =
-      ( record { line = l; isLine = i; notVariable = n; asMany = completed-count es c e }
-      , subst (AllResolved ls vs k) (sym e) (front-resolved ls vs k us es (λ u m. context-resolved ls context u (left-out-own c u m)) h))
+  completed-resolved k v {l} {us} es {all} i n h c e = (
+    record { line = l; isLine = i; notVariable = n; asMany = completed-count es c e },
+    subst (AllResolved ls vs k) (sym e) (front-resolved ls vs k us es (λ u m. context-resolved ls context u (left-out-own c u m)) h),
+  )
 
   mutual
     unfolding Scoped Pure
@@ -199,7 +200,11 @@ derivation-meets {ls = ls} d =
     record {
       contextIs = d .contextIs;
       resolved =
-          record { middle = line-middle ls (d .contextIs) (d .form) (d .middleIs); category = line-category ls (d .contextIs) (d .form) (d .categoryIs); context = context-resolved ls (d .contextIs) _ };
+          record {
+            middle = line-middle ls (d .contextIs) (d .form) (d .middleIs);
+            category = line-category ls (d .contextIs) (d .form) (d .categoryIs);
+            context = context-resolved ls (d .contextIs) _;
+          };
       writtenFits = d .writtenFits;
       middleFits = d .middleFits;
     }

@@ -24,8 +24,7 @@ use Rattle.lookup.specs.Tests.{within-limits, middle-limits}
 use Rattle.lookup.specs.Contexts.{RightContexts}
 use Rattle.reading.specs.Symbols.{run-whole}
 use Rattle.reading.specs.Readings.{Reading}
-use Rattle.reading.specs.Stages.{ReadAs, check-passed}
-use Rattle.reading.specs.Stages as Stages
+use Rattle.reading.specs.Stages.{ReadAs, read-as, check-passed}
 use Rattle.cells.specs.Forests.{size-is-length}
 
 -- ---- where the identifier stands
@@ -168,7 +167,7 @@ known-line language ls L bytes {p} r =
     }
 
 pub line-read : (language : Language) (ls : Lines) (L : ℕ) (bytes : Bytes) → RightContexts ls → {p : Passed} → readLine language ls L bytes tt ≡ found p → LineRead language ls L bytes p
-line-read language ls L bytes c h = known-line language ls L bytes (Stages.line-read language ls L bytes c h)
+line-read language ls L bytes c h = known-line language ls L bytes (read-as language ls L bytes c h)
 
 -- a line that passed was read, and there was room for it
 pub passed-read : (language : Language) (ls : Lines) (m : Limits) (bytes : Bytes) (b : ℕ) → RightContexts ls → {p : Passed} {b′ : ℕ} → checkLine language ls m bytes b ≡ done p b′
