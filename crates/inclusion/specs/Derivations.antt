@@ -9,12 +9,12 @@ use lib.ListN.{length}
 use Rattle.aut68.specs.Language.{Language, aut68, autQE, extended}
 use Rattle.aut68.specs.Bytes.{Bytes, wordProp}
 use Rattle.aut68.specs.Source.{Src, Srcs, Middle, SourceLine}
-use Rattle.aut68.specs.Expr.{Expr, Exprs}
-use Rattle.aut68.specs.Lines.{Line, Lines, Kind, abbreviation}
+use Rattle.aut68.specs.Expr.{Expr, Exprs, const, inFront, countExprs}
+use Rattle.aut68.specs.Lines.{Line, Lines, Kind, variable, abbreviation}
 use Rattle.aut68.specs.Rules.Grammar.{IsName, Expression, lone, call, application, abstraction, Arguments, last, another, IndicatorForm, empty, indicator, MiddleForm}
 use Rattle.aut68.specs.Rules.Grammar.{WellFormed, line, Place, inner, ending, below}
 use Rattle.aut68.specs.Rules.Grammar
-use Rattle.aut68.specs.Rules.Names.{IsLine, Member, BoundAt, innermost, outside, Context, Indicates, named, Means, aBound, aVariable, aConstant, anApplication}
+use Rattle.aut68.specs.Rules.Names.{IsLine, Member, here, there, LeftOut, BoundAt, innermost, outside, Context, Indicates, named, Means, aBound, aVariable, aConstant, anApplication}
 use Rattle.aut68.specs.Rules.Names.{anAbstraction, MeanAll, noMore, oneMore, MiddleMeans, aType, aProp}
 use Rattle.aut68.specs.Rules.Names
 use Rattle.aut68.specs.Rules.Derivation.{Derivation, Derived}
@@ -22,6 +22,7 @@ use Rattle.aut68.specs.Rules.Derivation
 use Rattle.aut68.specs.Rules.WithoutProp.{NotBound, NotBoundIn, NotBoundMiddle, NoProp, BookWithoutProp, oneLine}
 use Rattle.lookup.specs.Identifiers.{denotes-named}
 use Rattle.lookup.specs.LineNumbers.{variable≢abbreviation, primitive≢abbreviation, line-snoc, no-line}
+use Rattle.lookup.specs.Completing.{completed-count, left-out-own}
 use Rattle.lookup.specs.Contexts.{context-line}
 use Rattle.aut68.specs.Rules.Serving.{Supertype, IsType, theType, aSupertype}
 use Rattle.aut68.specs.Rules.Resolved.{Scoped, VariableOf, ConstantOf, Resolved}
@@ -97,14 +98,33 @@ module _ (language : Language) where
     form-all (last h s) = (form-at h, tt)
     form-all (another h s k) = (form-at h, form-all k)
 
-module _ (ls : Lines) (vs : List ℕ) where
+context-resolved : (ls : Lines) {v : ℕ} {vs : List ℕ} → Context ls v vs → (u : ℕ) → Member u vs → VariableOf ls vs u
+context-resolved ls c u m =
+    let (l, i, k) = context-line c m in
+    record { line = l; isLine = i; isVariable = k; inContext = m }
+
+-- the variables of a context, put in front of arguments
+front-resolved : (ls : Lines) (vs : List ℕ) (k : ℕ) (us : List ℕ) (es : Exprs) → ((u : ℕ) → Member u us → VariableOf ls vs u) → AllResolved ls vs k es → AllResolved ls vs k (inFront us es)
+unfolding Scoped inFront
+front-resolved ls vs k [] es c h = h
+front-resolved ls vs k (u ∷ us) es c h = (c u here, front-resolved ls vs k us es (λ w m. c w (there m)) h)
+
+module _ (ls : Lines) {v : ℕ} {vs : List ℕ} (context : Context ls v vs) where
+  completed-resolved : (k v : ℕ) {l : Line} {us : List ℕ} (es : Exprs) {all : Exprs} → IsLine ls v l → l .kind ≢ variable → AllResolved ls vs k es → LeftOut (countExprs es) (l .context) vs us
+      → all ≡ inFront us es → Resolved ls vs k (const v all)
+  unfolding Scoped
+  completed-resolved k v {l} {us} es {all} i n h c e = (
+    record { line = l; isLine = i; notVariable = n; asMany = completed-count es c e },
+    subst (AllResolved ls vs k) (sym e) (front-resolved ls vs k us es (λ u m. context-resolved ls context u (left-out-own c u m)) h),
+  )
+
   mutual
     unfolding Scoped Pure
 
     pub means-resolved : {bs : List Bytes} {x : Src} {e : Expr} → Means ls vs bs x e → Pure x → Resolved ls vs (length bs) e
     means-resolved (aBound h) p = bound-below h
     means-resolved (aVariable {l = l} f i e k m) p = record { line = l; isLine = i; isVariable = k; inContext = m }
-    means-resolved (aConstant {l = l} f i e k c h) p = (record { line = l; isLine = i; notVariable = k; asMany = c }, means-all h p)
+    means-resolved (aConstant f i q k h c e) p = completed-resolved _ _ _ i k (means-all h p) c e
     means-resolved (anApplication h k) p = (means-resolved h (p .0), means-resolved k (p .1))
     means-resolved (anAbstraction h k) p = (means-resolved h (p .0), means-resolved k (p .1))
     means-resolved aType p = p
@@ -119,7 +139,7 @@ module _ (ls : Lines) (vs : List ℕ) where
   unfolding ScopedCategory Scoped Pure PureBefore
   means-category (aBound h) p = bound-below h
   means-category (aVariable {l = l} f i e k m) p = record { line = l; isLine = i; isVariable = k; inContext = m }
-  means-category (aConstant {l = l} f i e k c h) p = (record { line = l; isLine = i; notVariable = k; asMany = c }, means-all h p)
+  means-category (aConstant f i q k h c e) p = completed-resolved _ _ _ i k (means-all h p) c e
   means-category (anApplication h k) p = (means-resolved h (p .0), means-resolved k (p .1))
   means-category (anAbstraction h k) p = (means-resolved h (p .0), means-category k (p .1))
   means-category aType p = tt
@@ -152,39 +172,39 @@ means-type : {ls : Lines} {vs : List ℕ} {bs : List Bytes} {x : Src} {e : Expr}
 means-type aType q = refl
 means-type (aBound h) q = cc
 means-type (aVariable f i e k m) q = cc
-means-type (aConstant f i e k c h) q = cc
+means-type (aConstant f i e k h c d) q = cc
 means-type (anApplication h k) q = cc
 means-type (anAbstraction h k) q = cc
 means-type aProp q = cc
 
-ends-68 : (ls : Lines) (vs : List ℕ) {x : Src} {c : Expr} → (x ≡ Src.type) ⊎ Pure x → Means ls vs [] x c → Supertype c → IsType aut68 c
-ends-68 ls vs (inl q) h y = subst (IsType aut68) (sym (means-type h q)) theType
-ends-68 ls vs {c = c} (inr p) h y = absurd (scoped-ends (VariableOf ls vs) (ConstantOf ls) 0 c (y .isBasic) (y .ends) (means-resolved ls vs h p))
+ends-68 : (ls : Lines) {v : ℕ} {vs : List ℕ} → Context ls v vs → {x : Src} {c : Expr} → (x ≡ Src.type) ⊎ Pure x → Means ls vs [] x c → Supertype c → IsType aut68 c
+ends-68 ls d (inl q) h y = subst (IsType aut68) (sym (means-type h q)) theType
+ends-68 ls {vs = vs} d {c = c} (inr p) h y = absurd (scoped-ends (VariableOf ls vs) (ConstantOf ls) 0 c (y .isBasic) (y .ends) (means-resolved ls d h p))
 
-pub category-ends : (language : Language) (ls : Lines) (vs : List ℕ) {s : SourceLine} {bytes : Bytes} {c : Expr} → WellFormed language s bytes → Means ls vs [] (s .category) c → Supertype c
-    → IsType language c
-category-ends aut68 ls vs (line i t n u v m y f z) h e = ends-68 ls vs (form-68 f) h e
-category-ends autQE ls vs w h e = aSupertype extended e
+pub category-ends : (language : Language) (ls : Lines) {v : ℕ} {vs : List ℕ} → Context ls v vs → {s : SourceLine} {bytes : Bytes} {c : Expr} → WellFormed language s bytes
+    → Means ls vs [] (s .category) c → Supertype c → IsType language c
+category-ends aut68 ls d (line i t n u v m y f z) h e = ends-68 ls d (form-68 f) h e
+category-ends autQE ls d w h e = aSupertype extended e
 
 -- so a line's category is `type` or resolved
-pub category-plain : (ls : Lines) (vs : List ℕ) {s : SourceLine} {bytes : Bytes} {c : Expr} → WellFormed aut68 s bytes → Means ls vs [] (s .category) c → Plain ls vs 0 c
-category-plain ls vs {s} {c = c} (line i t n u v m y f z) h = go (form-68 f)
+pub category-plain : (ls : Lines) {v : ℕ} {vs : List ℕ} → Context ls v vs → {s : SourceLine} {bytes : Bytes} {c : Expr} → WellFormed aut68 s bytes → Means ls vs [] (s .category) c
+    → Plain ls vs 0 c
+category-plain ls {vs = vs} d {s} {c = c} (line i t n u v m y f z) h = go (form-68 f)
   where
     go : (s .category ≡ Src.type) ⊎ Pure (s .category) → Plain ls vs 0 c
     go (inl q) = inl (means-type h q)
-    go (inr p) = inr (means-resolved ls vs h p)
-
-context-resolved : (ls : Lines) {v : ℕ} {vs : List ℕ} → Context ls v vs → (u : ℕ) → Member u vs → VariableOf ls vs u
-context-resolved ls c u m =
-    let (l, i, k) = context-line c m in
-    record { line = l; isLine = i; isVariable = k; inContext = m }
+    go (inr p) = inr (means-resolved ls d h p)
 
 pub derivation-meets : {language : Language} {ls : Lines} {bytes : Bytes} {l : Line} → Derivation language ls bytes l → MeetsRules language ls l
-derivation-meets {ls = ls} {l = l} d =
+derivation-meets {ls = ls} d =
     record {
       contextIs = d .contextIs;
       resolved =
-          record { middle = line-middle ls (l .context) (d .form) (d .middleIs); category = line-category ls (l .context) (d .form) (d .categoryIs); context = context-resolved ls (d .contextIs) _ };
+          record {
+            middle = line-middle ls (d .contextIs) (d .form) (d .middleIs);
+            category = line-category ls (d .contextIs) (d .form) (d .categoryIs);
+            context = context-resolved ls (d .contextIs) _;
+          };
       writtenFits = d .writtenFits;
       middleFits = d .middleFits;
     }
@@ -208,7 +228,7 @@ plain-from (Derivation.line {ls = ls} {l = n} d h) P = plain-from h (λ v l i. a
 
     at : (v : ℕ) (l : Line) → IsLine ls v l ⊎ ((l ≡ n) × (v ≡ suc (length ls))) → Plain (ls ++ (n ∷ [])) (l .context) 0 (l .category)
     at v l (inl i) = more l (P v l i)
-    at v l (inr (e, q)) = subst (λ (z : Line). Plain (ls ++ (n ∷ [])) (z .context) 0 (z .category)) (sym e) (more n (category-plain ls (n .context) (d .form) (d .categoryIs)))
+    at v l (inr (e, q)) = subst (λ (z : Line). Plain (ls ++ (n ∷ [])) (z .context) 0 (z .category)) (sym e) (more n (category-plain ls (d .contextIs) (d .form) (d .categoryIs)))
 
 pub derived-plain : {ls : Lines} {pieces : List Bytes} → Derived aut68 [] pieces ls → PlainLines ls
 derived-plain h = plain-from h (λ v l i. absurd (no-line i))
@@ -244,11 +264,11 @@ module _ (ls : Lines) (vs : List ℕ) (N : NoneIs ls) where
   used-not : {bs : List Bytes} {w : Bytes} {xs : Srcs} {e : Expr} → Means ls vs bs (Src.name w xs) e → NotAmong bs → w ≢ wordProp
   used-not (aBound h) k = bound-not h k
   used-not (aVariable f i e q m) k = λ p. N _ _ i (denotes-named e i ∙ p)
-  used-not (aConstant f i e q c h) k = λ p. N _ _ i (denotes-named e i ∙ p)
+  used-not (aConstant f i e q h c r) k = λ p. N _ _ i (denotes-named e i ∙ p)
 
   call-means : {bs : List Bytes} {w a b : Bytes} {xs : Srcs} {e : Expr} → Arguments aut68 xs a b → Means ls vs bs (Src.name w xs) e → (es : Exprs) × MeanAll ls vs bs xs es
-  call-means (last h s) (aConstant {es = es} f i e q c k) = (es, k)
-  call-means (another h s g) (aConstant {es = es} f i e q c k) = (es, k)
+  call-means (last h s) (aConstant {es = es} f i e q k c r) = (es, k)
+  call-means (another h s g) (aConstant {es = es} f i e q k c r) = (es, k)
 
   app-means : {bs : List Bytes} {x y : Src} {e : Expr} → Means ls vs bs (Src.app x y) e → (a : Expr) × (b : Expr) × Means ls vs bs x a × Means ls vs bs y b
   app-means (anApplication {a = a} {b = b} h k) = (a, b, h, k)

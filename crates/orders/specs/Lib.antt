@@ -16,3 +16,5 @@ pub mod Selecting
 pub mod Deciding
 pub mod Walking
 pub mod NewOrders
+-- The same on completed lines.
+pub mod CompletedOrders

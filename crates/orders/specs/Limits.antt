@@ -25,6 +25,7 @@ use Rattle.aut68.specs.Demands.{Verdict, LargerLimits, Admitted}
 use Rattle.lookup.specs.Runs.{run-admitted, verdict-admitted, verdict-decides}
 use Rattle.lookup.specs.Answers.{Decides, large-undecided, spent-undecided, Kept, Grows, grows-give, grows-refuse, grows-then, grows-ensure, grows-size, grows-aside}
 use Rattle.lookup.specs.Answers.{stays-same, stays-then, stays-size, larger}
+use Rattle.lookup.specs.Tests.{larger-within, larger-middle-within}
 
 -- ---- comparison
 
@@ -289,8 +290,10 @@ module _ (language : Language) (ls : Lines) {L L′ : ℕ} (hL : L ≤ L′) whe
       (stays-then stays-same λ r _.
       stays-then stays-same λ v _.
       stays-then stays-same λ _ _.
-      stays-then (stays-size hL _ _) λ _ _.
-      stays-then (stays-size hL _ _) λ _ _.
+      stays-then stays-same λ k _.
+      stays-then stays-same λ c _.
+      stays-then (stays-size _ _ _ (larger-middle-within hL k)) λ _ _.
+      stays-then (stays-size _ _ _ (larger-within hL c)) λ _ _.
       stays-same)
 
   pub grows-categories : (l : Line) → Grows (checkCategories language ls L l) (checkCategories language ls L′ l)

@@ -1,33 +1,30 @@
--- What a line that is read is: its meaning, where its identifier stands, and its sizes.
+-- What a line that is read is: its meaning, where its identifier stands, its sizes and its nesting.
 use mathlib.Core.Path.{_≡_, refl, sym, ap, ap₂, _∙_, subst}
 use mathlib.Core.Bool.{Bool, true, false}
 use mathlib.Core.Option.{Option, none, some}
-use mathlib.Core.List.{List, [], _∷_, _++_, append-assoc}
-use Prim.Native.Nat.{ℕ, suc, _+_, _-_, _≤_}
+use mathlib.Core.List.{[], _∷_, _++_, append-assoc}
+use Prim.Native.Nat.{ℕ, _+_, _-_, _≤_}
 use native.Mathlib.Omega.{arith}
-use lib.Dec.{eqb, leb}
+use lib.Dec.{eqb}
 use lib.ListN.{length, drop, length-append}
 use lib.Seq.{slice, take-at, drop-at}
-use borrow.Author.Tests.{leb-true}
 use Rattle.aut68.specs.Language.{Language}
 use Rattle.aut68.specs.Sizes.{nesting}
 use Rattle.aut68.specs.Stores.{Limits}
 use Rattle.aut68.specs.Bytes.{Bytes, nameByte}
-use Rattle.aut68.specs.Source.{Src, Srcs, Middle, SourceLine, cellsOfSrc, cellsOfSrcs, middleCells}
-use Rattle.aut68.specs.Expr.{Expr, Exprs, size, sizes, cells}
-use Rattle.aut68.specs.Lines.{Lines, Kind, kindCells}
-use Rattle.aut68.specs.Procedure.Answer.{Answer, done, stop, andThen, malformed, duplicate, tooLarge, outOfSpace}
+use Rattle.aut68.specs.Source.{SourceLine}
+use Rattle.aut68.specs.Expr.{Expr, levels, cells}
+use Rattle.aut68.specs.Lines.{Lines, Kind, variable, primitive, abbreviation, kindCells}
+use Rattle.aut68.specs.Procedure.Answer.{Answer, done, stop, andThen, malformed}
 use Rattle.aut68.specs.Procedure.Parse.{Placed, aLine, spaces, byte, symbol, starts, wordOf, afterWord, wordAhead, nameFits, aName, anIndicator, bytesLeft}
-use Rattle.aut68.specs.Procedure.Resolve.{found, contextAt, unused}
-use Rattle.aut68.specs.Procedure.CheckLine.{Passed, readLine, room, store, checkLine}
-use Rattle.aut68.specs.Rules.Names.{Means, MeanAll, aBound, aVariable, aConstant, anApplication, anAbstraction, aType, aProp, noMore, oneMore, MiddleMeans, isEB, isPN, isMeaning}
-use Rattle.lookup.specs.Answers.{stop≢done, done-value, done-rest, after, aside-done, ensure-done}
+use Rattle.aut68.specs.Procedure.Resolve.{found}
+use Rattle.aut68.specs.Procedure.CheckLine.{Passed, middleWithinLimits, readLine, room, checkLine}
+use Rattle.lookup.specs.Answers.{stop≢done, done-value, done-rest, after}
+use Rattle.lookup.specs.Tests.{within-limits, middle-limits}
 use Rattle.lookup.specs.Contexts.{RightContexts}
 use Rattle.reading.specs.Symbols.{run-whole}
-use Rattle.reading.specs.Sound.{parse-sound}
-use Rattle.aut68.specs.Depths.{lineDepth}
 use Rattle.reading.specs.Readings.{Reading}
-use Rattle.reading.specs.Stages.{found-reading}
+use Rattle.reading.specs.Stages.{ReadAs, read-as, check-passed}
 use Rattle.cells.specs.Forests.{size-is-length}
 
 -- ---- where the identifier stands
@@ -136,78 +133,45 @@ identifier-place language bytes h =
         let z : spaces c ≡ w ++ d = run-whole (spaces c) ∙ ap₂ _++_ (sym p) (sym q) in
         identifies bytes (s .ahead) w d left (s .is ∙ ap (λ (x : Bytes). s .ahead ++ x) z) (sym (done-value e₃) ∙ ap length z)
 
--- ---- sizes
-
-module _ (ls : Lines) (vs : List ℕ) where
-  mutual
-    unfolding cellsOfSrc size
-
-    pub means-size : {bs : List Bytes} {x : Src} {e : Expr} → Means ls vs bs x e → size e ≡ cellsOfSrc x
-    means-size (aBound h) = refl
-    means-size (aVariable f i e k m) = refl
-    means-size (aConstant f i e k c h) = ap suc (means-sizes h)
-    means-size (anApplication h k) = ap suc (ap₂ _+_ (means-size h) (means-size k))
-    means-size (anAbstraction h k) = ap suc (ap₂ _+_ (means-size h) (means-size k))
-    means-size aType = refl
-    means-size aProp = refl
-
-    means-sizes : {bs : List Bytes} {xs : Srcs} {es : Exprs} → MeanAll ls vs bs xs es → sizes es ≡ cellsOfSrcs xs
-    means-sizes noMore = refl
-    means-sizes (oneMore h k) = ap₂ _+_ (means-size h) (means-sizes k)
-
-  pub middle-size : {m : Middle} {k : Kind} → MiddleMeans ls vs m k → length (kindCells k) ≡ middleCells m
-  unfolding kindCells middleCells
-  middle-size isEB = refl
-  middle-size isPN = refl
-  middle-size (isMeaning {m = e} h) = sym (size-is-length e) ∙ means-size h
-
-  pub category-size : {c : Src} {e : Expr} → Means ls vs [] c e → length (cells e) ≡ cellsOfSrc c
-  category-size {e = e} h = sym (size-is-length e) ∙ means-size h
-
 -- ---- a line that is read
 
 -- everything that is known of a line ahead of its storage and its categories
 pub record LineRead (language : Language) (ls : Lines) (L : ℕ) (bytes : Bytes) (p : Passed) : Type 0 where
   pub source : SourceLine
   pub reading : Reading language ls bytes source (p .line)
-  pub shallow : lineDepth source ≤ nesting
   pub middleFits : length (kindCells (p .line .kind)) ≤ L
+  pub middleShallow : (m : Expr) → p .line .kind ≡ abbreviation m → levels m ≤ nesting
   pub categoryFits : length (cells (p .line .category)) ≤ L
+  pub categoryShallow : levels (p .line .category) ≤ nesting
   pub named : Identifies bytes (p .before) (p .line .identifier)
 
+middle-fits : (L : ℕ) (k : Kind) → middleWithinLimits L k ≡ true → length (kindCells k) ≤ L
+unfolding kindCells middleWithinLimits
+middle-fits L variable h = omega arith
+middle-fits L primitive h = omega arith
+middle-fits L (abbreviation m) h = omega (arith, within-limits L m h .0, size-is-length m)
+
+known-line : (language : Language) (ls : Lines) (L : ℕ) (bytes : Bytes) {p : Passed} → ReadAs language ls L bytes p → LineRead language ls L bytes p
+known-line language ls L bytes {p} r =
+    let l = p .line in
+    record {
+      source = r .placed .line;
+      reading = r .reading;
+      middleFits = middle-fits L (l .kind) (r .middleWithin);
+      middleShallow = λ m e. within-limits L m (middle-limits L (r .middleWithin) m e) .1;
+      categoryFits = omega (arith, within-limits L (l .category) (r .categoryWithin) .0, size-is-length (l .category));
+      categoryShallow = within-limits L (l .category) (r .categoryWithin) .1;
+      named =
+          subst (λ (n : ℕ). Identifies bytes n (l .identifier)) (r .beforeIs)
+          (subst (Identifies bytes (r .placed .before)) (sym (r .reading .identifierIs)) (identifier-place language bytes (r .parsed)));
+    }
+
 pub line-read : (language : Language) (ls : Lines) (L : ℕ) (bytes : Bytes) → RightContexts ls → {p : Passed} → readLine language ls L bytes tt ≡ found p → LineRead language ls L bytes p
-unfolding readLine
-line-read language ls L bytes c h =
-    after _ _ h λ r _ e₁ h₁.
-    after _ _ h₁ λ v _ e₂ h₂.
-    after _ _ h₂ λ u₃ _ e₃ h₃.
-    after _ _ h₃ λ u₄ _ e₄ h₄.
-    after _ _ h₄ λ u₅ _ e₅ h₅.
-    after _ _ h₅ λ k _ e₆ h₆.
-    after _ _ h₆ λ g _ e₇ h₇.
-    aside-done (aLine language (length bytes) bytes) e₁ λ rest f₁ _.
-    ensure-done (unused (r .line .identifier) ls) duplicate e₃ λ f₃ _.
-    ensure-done (leb (middleCells (r .line .middle)) L) tooLarge e₄ λ f₄ _.
-    ensure-done (leb (cellsOfSrc (r .line .category)) L) tooLarge e₅ λ f₅ _.
-    let x = found-reading language (r .line) c (parse-sound language (length bytes) bytes f₁ .1) e₂ f₃ e₆ e₇ in
-    subst (LineRead language ls L bytes) (done-value h₇)
-    (record {
-      source = r .line;
-      reading = x;
-      shallow = parse-sound language (length bytes) bytes f₁ .2;
-      middleFits = (let h = leb-true (middleCells (r .line .middle)) L f₄ in omega (arith, h, middle-size ls (contextAt ls v) (x .middleIs)));
-      categoryFits = (let h = leb-true (cellsOfSrc (r .line .category)) L f₅ in omega (arith, h, category-size ls (contextAt ls v) (x .categoryIs)));
-      named = identifier-place language bytes f₁;
-    })
+line-read language ls L bytes c h = known-line language ls L bytes (read-as language ls L bytes c h)
 
 -- a line that passed was read, and there was room for it
 pub passed-read : (language : Language) (ls : Lines) (m : Limits) (bytes : Bytes) (b : ℕ) → RightContexts ls → {p : Passed} {b′ : ℕ} → checkLine language ls m bytes b ≡ done p b′
     → LineRead language ls (m .limit) bytes p × (room ls m (p .line) ≡ true)
-unfolding checkLine store
 passed-read language ls m bytes b c h =
-    after _ _ h λ q b₁ e₁ h₁.
-    after _ _ h₁ λ u₂ b₂ e₂ h₂.
-    after _ _ h₂ λ u₃ b₃ e₃ h₃.
-    aside-done (readLine language ls (m .limit) bytes tt) e₁ λ _ f₁ q₁.
-    ensure-done (room ls m (q .line)) outOfSpace e₂ λ f₂ q₂.
-    subst (λ (x : Passed). LineRead language ls (m .limit) bytes x × (room ls m (x .line) ≡ true)) (done-value h₃) (line-read language ls (m .limit) bytes c f₁, f₂)
+    let x = check-passed language ls m bytes b c h in
+    (known-line language ls (m .limit) bytes (x .read), x .fits)

@@ -44,12 +44,12 @@ module _ (language : Language) (ls : Lines) {past : List Bytes} (D : Derived lan
     written-code : (m : ℕ) {r : Refusal} {b′ : ℕ} → checkWritten language ls (limits .limit) (l .category) m ≡ stop r b′ → 7 ≤ codeOf r
     written-code m f =
         finding-code (judged-stop (written-finds language ls (R .resolvedLines) (R .contexts) (R .lines) (l .context) (x .contextIs) N (limits .limit) (l .category)
-        (line-category ls (l .context) (x .form) (x .categoryIs)) (category-ends language ls (l .context) (x .form) (x .categoryIs)) m) f)
+        (line-category ls (x .contextIs) (x .form) (x .categoryIs)) (category-ends language ls (x .contextIs) (x .form) (x .categoryIs)) m) f)
 
     middle-code : (m : ℕ) {r : Refusal} {b′ : ℕ} → checkMiddle language ls (limits .limit) (l .kind) (l .category) m ≡ stop r b′ → 7 ≤ codeOf r
     middle-code m f =
         finding-code (judged-stop (middle-finds language ls (R .resolvedLines) (R .contexts) (R .lines) (l .context) (x .contextIs) N (limits .limit) (l .kind) (l .category)
-        (line-middle ls (l .context) (x .form) (x .middleIs)) (line-category ls (l .context) (x .form) (x .categoryIs)) m) f)
+        (line-middle ls (x .contextIs) (x .form) (x .middleIs)) (line-category ls (x .contextIs) (x .form) (x .categoryIs)) m) f)
 
   pub malformed-unread : {r : Refusal} {b′ : ℕ} → checkLine language ls limits bytes b ≡ stop r b′ → codeOf r ≡ 3
       → {q : Placed} {rest : Bytes} → ¬ (aLine language (length bytes) bytes ≡ done q rest)
