@@ -8,11 +8,12 @@ use native.Mathlib.Omega.{arith}
 use native.Mathlib.Decide.{decLt}
 use lib.Dec.{leb}
 use lib.ListN.{length}
-use borrow.Author.Tests.{le-leb, lt-leb}
+use borrow.Author.Tests.{lt-leb}
 use Rattle.aut68.specs.Expr.{Expr, size, cells, levels}
 use Rattle.aut68.specs.Lines.{Kind, variable, primitive, abbreviation, kindCells}
 use Rattle.aut68.specs.Procedure.CheckLine.{withinLimits, middleWithinLimits}
 use Rattle.aut68.specs.Sizes.{nesting}
+use Rattle.lookup.specs.Tests.{limits-within}
 use Rattle.cells.specs.Forests.{size-is-length}
 use Rattle.expressions.specs.Walk.{Laid}
 use Rattle.expressions.proofs.LaidLaws.{laid-end}
@@ -35,8 +36,7 @@ and-false true = refl
 and-false false = refl
 
 pub within : {L : ℕ} (e : Expr) → (length (cells e) ≤ L) × (levels e ≤ nesting) → withinLimits L e ≡ true
-unfolding withinLimits
-within {L} e (l, m) = rw (le-leb (size e) L (omega (arith, size-is-length e)), le-leb (levels e) nesting m)
+within {L} e (l, m) = limits-within L e (omega (arith, size-is-length e)) m
 
 pub not-within : {L : ℕ} (e : Expr) → (L < length (cells e)) ⊎ (nesting < levels e) → withinLimits L e ≡ false
 unfolding withinLimits

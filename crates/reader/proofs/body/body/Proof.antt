@@ -31,7 +31,7 @@ returns-2 c =
 category-requires : tie.Need-category-requires
 category-requires c κs =
     let at-middle = c .before .before .before .before .before .before .before in
-    omega (arith, c .before .if2, c .before .before .symbol .ensures .from (at-middle .middle .ensures .inside), at-middle .middle .ensures .fewer)
+    omega (arith, c .before .if2, at-middle .middle .ensures .small, at-middle .middle .ensures .below .long)
 
 same-length-3 : tie.Need-same-length-3
 same-length-3 c = search needs

@@ -29,22 +29,17 @@ same-word-requires c κs = search needs
 put-requires : tie.Need-put-requires
 put-requires c κs = search needs
 
-add-t23 : tie.Need-add-t23
-add-t23 c =
-    let entry = c .before .before .before .before .before .before .before .before .before .before .before .before .before .before .before in
-    omega (arith, entry .pre, entry)
-
 same-length : tie.Need-same-length
 same-length c = search needs
 
 returns : tie.Need-returns
 unfolding wordType
 returns c =
-    let at-if1 = c .before .before .before .before .before in let at-same-word = at-if1 .before in
+    let at-if1 = c .before .before .before .before in let at-same-word = at-if1 .before in
     let at-word-end = at-same-word .before .before .before in let at-spaces = at-word-end .before in
     let entry = at-spaces .before .before .before .before .before in
     category-type (entry .pre .0) (entry .pre .1) (at-spaces .spaces .ensures) (at-word-end .word-end .ensures) (at-same-word .same-word .ensures)
-    (at-if1 .if1 .taken) (c .before .before .before .put .ensures)
+    (at-if1 .if1 .taken) (c .before .before .put .ensures)
 
 no-bindings-requires : tie.Need-no-bindings-requires
 no-bindings-requires c κs = search needs
@@ -68,4 +63,4 @@ pub category-spec : {M : Type 1} → statement M
 category-spec =
     tie.close
     (tie.spec spaces-requires word-end-requires sub-same-word part-same-word-start part-same-word-end slice-aggregate-same-word
-    same-word-requires put-requires add-t23 same-length returns no-bindings-requires expression-requires same-length-2 returns-2)
+    same-word-requires put-requires same-length returns no-bindings-requires expression-requires same-length-2 returns-2)

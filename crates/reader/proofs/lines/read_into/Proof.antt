@@ -108,39 +108,34 @@ returns-4 c =
     (at-known-line .known-line .ensures) (at-note-context .note-context .ensures) (at-middle-kind .middle-kind .ensures) (at-body .body .ensures)
     (at-if2 .if2 .left) (at-if3 .if3 .left) (c .before .before .find .ensures) (c .before .if4 .taken) (c .bad-line4 .ensures)
 
-sub-cells : tie.Need-sub-cells
-sub-cells c =
-    let at-if2 = c .before .before .before .before .before .before in let at-body = at-if2 .before .before .before .before in
-    omega (arith, at-body .body .ensures .upward (at-if2 .if2 .left))
-
-sub-all : tie.Need-sub-all
-sub-all c =
-    let at-if2 = c .before .before .before .before .before .before .before in let at-body = at-if2 .before .before .before .before in
-    omega (arith, at-body .body .ensures .upward (at-if2 .if2 .left))
-
 bad-line-requires-5 : tie.Need-bad-line-requires-5
 bad-line-requires-5 c κs = search needs
 
 same-length-4 : tie.Need-same-length-4
 same-length-4 c =
-    let at-body = c .before .before .before .before .before .before .before .before .before .before .before .before .before in
+    let at-body = c .before .before .before .before .before .before .before .before .before .before .before .before in
     let at-note-context = at-body .before .before .before .before .before in
     at-body .body .ensures .below .long ∙ at-note-context .note-context .ensures .kept .long
 
 returns-5 : tie.Need-returns-5
 returns-5 c =
-    let at-if4 = c .before .before .before .before in let at-find = at-if4 .before in let at-if3 = at-find .before .before .before in
+    let at-if4 = c .before .before .before in let at-find = at-if4 .before in let at-if3 = at-find .before .before .before in
     let at-if2 = at-if3 .before in let at-body = at-if2 .before .before .before .before in let at-middle-kind = at-body .before .before in
     let at-note-context = at-middle-kind .before .before .before in let at-known-line = at-note-context .before .before in
     let at-indicator-line = at-known-line .before in let at-if1 = at-indicator-line .before .before in let at-heading = at-if1 .before .before in
     let entry = at-heading .before .before .before .before .before in
-    line-large-middle _ (entry .pre) (at-heading .heading .ensures) (at-if1 .if1 .left) (at-indicator-line .indicator-line .ensures)
+    line-fault _ (entry .pre) (at-heading .heading .ensures) (at-if1 .if1 .left) (at-indicator-line .indicator-line .ensures)
     (at-known-line .known-line .ensures) (at-note-context .note-context .ensures) (at-middle-kind .middle-kind .ensures) (at-body .body .ensures)
     (at-if2 .if2 .left) (at-if3 .if3 .left) (at-find .find .ensures) (at-if4 .if4 .left) (c .before .if5 .taken) (c .bad-line5 .ensures)
 
-sub-if6 : tie.Need-sub-if6
-sub-if6 c =
+sub-cells : tie.Need-sub-cells
+sub-cells c =
     let at-if2 = c .before .before .before .before .before .before .before .before in let at-body = at-if2 .before .before .before .before in
+    omega (arith, at-body .body .ensures .upward (at-if2 .if2 .left))
+
+sub-all : tie.Need-sub-all
+sub-all c =
+    let at-if2 = c .before .before .before .before .before .before .before .before .before in let at-body = at-if2 .before .before .before .before in
     omega (arith, at-body .body .ensures .upward (at-if2 .if2 .left))
 
 bad-line-requires-6 : tie.Need-bad-line-requires-6
@@ -148,21 +143,26 @@ bad-line-requires-6 c κs = search needs
 
 same-length-5 : tie.Need-same-length-5
 same-length-5 c =
-    let at-body = c .before .before .before .before .before .before .before .before .before .before .before .before .before .before in
+    let at-body = c .before .before .before .before .before .before .before .before .before .before .before .before .before .before .before in
     let at-note-context = at-body .before .before .before .before .before in
     at-body .body .ensures .below .long ∙ at-note-context .note-context .ensures .kept .long
 
 returns-6 : tie.Need-returns-6
 returns-6 c =
-    let at-if4 = c .before .before .before .before .before in let at-find = at-if4 .before in let at-if3 = at-find .before .before .before in
+    let at-if4 = c .before .before .before .before .before .before in let at-find = at-if4 .before in let at-if3 = at-find .before .before .before in
     let at-if2 = at-if3 .before in let at-body = at-if2 .before .before .before .before in let at-middle-kind = at-body .before .before in
     let at-note-context = at-middle-kind .before .before .before in let at-known-line = at-note-context .before .before in
     let at-indicator-line = at-known-line .before in let at-if1 = at-indicator-line .before .before in let at-heading = at-if1 .before .before in
     let entry = at-heading .before .before .before .before .before in
-    line-large-category _ (entry .pre) (at-heading .heading .ensures) (at-if1 .if1 .left) (at-indicator-line .indicator-line .ensures)
+    line-large-middle _ (entry .pre) (at-heading .heading .ensures) (at-if1 .if1 .left) (at-indicator-line .indicator-line .ensures)
     (at-known-line .known-line .ensures) (at-note-context .note-context .ensures) (at-middle-kind .middle-kind .ensures) (at-body .body .ensures)
-    (at-if2 .if2 .left) (at-if3 .if3 .left) (at-find .find .ensures) (at-if4 .if4 .left) (c .before .before .if5 .left) (c .before .if6 .taken)
+    (at-if2 .if2 .left) (at-if3 .if3 .left) (at-find .find .ensures) (at-if4 .if4 .left) (c .before .before .before .before .if5 .left) (c .before .if6 .taken)
     (c .bad-line6 .ensures)
+
+sub-if7 : tie.Need-sub-if7
+sub-if7 c =
+    let at-if2 = c .before .before .before .before .before .before .before .before .before .before in let at-body = at-if2 .before .before .before .before in
+    omega (arith, at-body .body .ensures .upward (at-if2 .if2 .left))
 
 bad-line-requires-7 : tie.Need-bad-line-requires-7
 bad-line-requires-7 c κs = search needs
@@ -175,16 +175,15 @@ same-length-6 c =
 
 returns-7 : tie.Need-returns-7
 returns-7 c =
-    let at-if5 = c .before .before .before .before in let at-if4 = at-if5 .before .before .before in let at-find = at-if4 .before in
-    let at-if3 = at-find .before .before .before in let at-if2 = at-if3 .before in let at-body = at-if2 .before .before .before .before in
-    let at-middle-kind = at-body .before .before in let at-note-context = at-middle-kind .before .before .before in
-    let at-known-line = at-note-context .before .before in let at-indicator-line = at-known-line .before in
-    let at-if1 = at-indicator-line .before .before in let at-heading = at-if1 .before .before in
+    let at-if4 = c .before .before .before .before .before .before .before in let at-find = at-if4 .before in let at-if3 = at-find .before .before .before in
+    let at-if2 = at-if3 .before in let at-body = at-if2 .before .before .before .before in let at-middle-kind = at-body .before .before in
+    let at-note-context = at-middle-kind .before .before .before in let at-known-line = at-note-context .before .before in
+    let at-indicator-line = at-known-line .before in let at-if1 = at-indicator-line .before .before in let at-heading = at-if1 .before .before in
     let entry = at-heading .before .before .before .before .before in
-    line-fault _ (entry .pre) (at-heading .heading .ensures) (at-if1 .if1 .left) (at-indicator-line .indicator-line .ensures)
+    line-large-category _ (entry .pre) (at-heading .heading .ensures) (at-if1 .if1 .left) (at-indicator-line .indicator-line .ensures)
     (at-known-line .known-line .ensures) (at-note-context .note-context .ensures) (at-middle-kind .middle-kind .ensures) (at-body .body .ensures)
-    (at-if2 .if2 .left) (at-if3 .if3 .left) (at-find .find .ensures) (at-if4 .if4 .left) (at-if5 .if5 .left) (c .before .before .before .if6 .left)
-    (c .before .if7 .taken) (c .bad-line7 .ensures)
+    (at-if2 .if2 .left) (at-if3 .if3 .left) (at-find .find .ensures) (at-if4 .if4 .left) (c .before .before .before .before .before .if5 .left)
+    (c .before .before .if6 .left) (c .before .if7 .taken) (c .bad-line7 .ensures)
 
 context-length-requires : tie.Need-context-length-requires
 context-length-requires c κs = search needs
@@ -197,22 +196,21 @@ same-length-7 c =
 
 returns-8 : tie.Need-returns-8
 returns-8 c =
-    let at-if5 = c .before .before .before .before in let at-if4 = at-if5 .before .before .before in let at-find = at-if4 .before in
-    let at-if3 = at-find .before .before .before in let at-if2 = at-if3 .before in let at-body = at-if2 .before .before .before .before in
-    let at-middle-kind = at-body .before .before in let at-note-context = at-middle-kind .before .before .before in
-    let at-known-line = at-note-context .before .before in let at-indicator-line = at-known-line .before in
-    let at-if1 = at-indicator-line .before .before in let at-heading = at-if1 .before .before in
+    let at-if4 = c .before .before .before .before .before .before .before in let at-find = at-if4 .before in let at-if3 = at-find .before .before .before in
+    let at-if2 = at-if3 .before in let at-body = at-if2 .before .before .before .before in let at-middle-kind = at-body .before .before in
+    let at-note-context = at-middle-kind .before .before .before in let at-known-line = at-note-context .before .before in
+    let at-indicator-line = at-known-line .before in let at-if1 = at-indicator-line .before .before in let at-heading = at-if1 .before .before in
     let entry = at-heading .before .before .before .before .before in
     line-read _ (entry .pre) (at-heading .heading .ensures) (at-if1 .if1 .left) (at-indicator-line .indicator-line .ensures)
     (at-known-line .known-line .ensures) (at-note-context .note-context .ensures) (at-middle-kind .middle-kind .ensures) (at-body .body .ensures)
-    (at-if2 .if2 .left) (at-if3 .if3 .left) (at-find .find .ensures) (at-if4 .if4 .left) (at-if5 .if5 .left) (c .before .before .before .if6 .left)
-    (c .before .if7 .left) (c .context-length .ensures)
+    (at-if2 .if2 .left) (at-if3 .if3 .left) (at-find .find .ensures) (at-if4 .if4 .left) (c .before .before .before .before .before .if5 .left)
+    (c .before .before .if6 .left) (c .before .if7 .left) (c .context-length .ensures)
 
 pub read-into-spec : {M : Type 1} → statement M
 read-into-spec =
     tie.close
     (tie.spec mul-to heading-requires bad-line-requires returns indicator-line-requires known-line-requires note-context-requires
     middle-kind-requires body-requires bad-line-requires-2 same-length returns-2 bad-line-requires-3 same-length-2 returns-3 add-end
-    sub-find part-find-start part-find-end find-requires bad-line-requires-4 same-length-3 returns-4 sub-cells sub-all bad-line-requires-5
-    same-length-4 returns-5 sub-if6 bad-line-requires-6 same-length-5 returns-6 bad-line-requires-7 same-length-6 returns-7
+    sub-find part-find-start part-find-end find-requires bad-line-requires-4 same-length-3 returns-4 bad-line-requires-5 same-length-4
+    returns-5 sub-cells sub-all bad-line-requires-6 same-length-5 returns-6 sub-if7 bad-line-requires-7 same-length-6 returns-7
     context-length-requires same-length-7 returns-8)
