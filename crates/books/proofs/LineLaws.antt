@@ -39,7 +39,7 @@ use Rattle.records.specs.Bounds.{used-small, size-small, stored-cells, row-smal
 use Rattle.books.specs.Progress.{Fitting, ToStore, StoredPost, NotedLine, HintedIn, LineResult, LinePost, passed, refused}
 use Rattle.books.specs.Progress as P
 use Rattle.books.proofs.HintLaws.{hinted-on}
-use Rattle.books.proofs.ReadLaws.{result-done, result-stop, not-read, no-room, by-categories, middle-shallow, category-shallow}
+use Rattle.books.proofs.ReadLaws.{result-done, result-stop, not-read, no-room, by-categories}
 
 -- where a line ends, and what is recorded, under other names
 pub line-as : {book ks : Bytes} {limit at n used budget : ℕ} {tb ts w : List ℕ} {code next n′ used′ left : ℕ} {tb′ ts′ w′ : List ℕ} {c a l u b : ℕ}
@@ -88,11 +88,11 @@ module _ {book : Bytes} {N limit : ℕ} {s₀ : Stores} {k : Recorded} {n used :
           short = short;
           cellsAre = record { is = ap (drop used) e ∙ drop-at (termsOf (k .recorded)) (lineCells l) used (sym (h .usedIs)) };
           ends = ap (λ (x : ℕ). used + x) m;
-          middle = λ d q. resolved-known (k .recorded) (l .context) 0 d (line-middle (k .recorded) (l .context) (a .form) (a .middleIs) d q);
-          middleSmall = λ d q. (let f = r .middleFits in let z = ap (λ x. length (kindCells x)) q in omega (arith, f, z, size-is-length d), middle-shallow r d q);
-          category = category-known (k .recorded) (l .context) (l .category) (line-category (k .recorded) (l .context) (a .form) (a .categoryIs));
-          endsOnly = category-ends aut68 (k .recorded) (l .context) (a .form) (a .categoryIs);
-          categorySmall = (let f = r .categoryFits in omega (arith, f, size-is-length (l .category)), category-shallow r);
+          middle = λ d q. resolved-known (k .recorded) (l .context) 0 d (line-middle (k .recorded) (a .contextIs) (a .form) (a .middleIs) d q);
+          middleSmall = λ d q. (let f = r .middleFits in let z = ap (λ x. length (kindCells x)) q in omega (arith, f, z, size-is-length d), r .middleShallow d q);
+          category = category-known (k .recorded) (l .context) (l .category) (line-category (k .recorded) (a .contextIs) (a .form) (a .categoryIs));
+          endsOnly = category-ends aut68 (k .recorded) (a .contextIs) (a .form) (a .categoryIs);
+          categorySmall = (let f = r .categoryFits in omega (arith, f, size-is-length (l .category)), r .categoryShallow);
         }
 
     to-store : {w′ : List ℕ} {x : Line} → workUnits * limit ≤ length w′ → Reader.LineRead bytes w′ (lineUnit * limit) x p → ToStore (k .recorded) (p .line) limit used (x .middle) (x .size) tb ts w′

@@ -28,7 +28,7 @@ use Rattle.categories.specs.AnyDepth.{category68}
 use Rattle.categories.specs.Places.{Expression}
 use Rattle.categories.specs.Posts.{Categorises, CategoryPost, ApplicationPost, AbstractionPost, ArgumentsPost}
 use Rattle.categories.proofs.Clauses.{came, passed-holds, constant-clause, variable-is, alone-is, bound-clause}
-use Rattle.categories.proofs.Within.{part, part-length, nesting-positive, arguments-in}
+use Rattle.categories.proofs.Within.{part, part-length, levels-positive, arguments-in}
 
 -- what is found is known
 pub finds-known : {ls : Lines} {tb ts e : List ℕ} {scope : Scope} {limit level : ℕ} {w′ : List ℕ} {level′ code n rest : ℕ} {sc : List Expr} (x : Expr) (budget : ℕ)
@@ -51,8 +51,8 @@ module _ {tb ts e : List ℕ} {scope : Scope} {w : List ℕ} {limit budget level
     frame = λ small. outside-same;
     within = omega arith;
     means = λ x. record {
-      finds = λ B room E. absurd (omega (arith, nesting-positive x, E .shallow));
-      spans = λ B room E. absurd (omega (arith, nesting-positive x, E .shallow));
+      finds = λ B room E. absurd (omega (arith, levels-positive x, E .shallow));
+      spans = λ B room E. absurd (omega (arith, levels-positive x, E .shallow));
     };
   }
 

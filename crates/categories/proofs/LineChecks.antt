@@ -7,11 +7,10 @@ use Prim.Native.Nat.{ℕ, suc, _+_, _*_, _-_, _≤_, _<_}
 use native.Mathlib.Omega.{arith}
 use lib.ListN.{length, getD, drop, replicate}
 use borrow.Author.Tests.{eq-eqb, ne-eqb}
-use Rattle.aut68.specs.Sizes as Sizes
-use Rattle.aut68.specs.Sizes.{largestLimit, workUnits}
+use Rattle.aut68.specs.Sizes.{largestLimit, workUnits, nesting}
 use Rattle.aut68.specs.Language.{aut68}
 use Rattle.aut68.specs.Procedure.Answer.{andThen}
-use Rattle.aut68.specs.Expr.{Expr, type, size, cells, firstCell, isType}
+use Rattle.aut68.specs.Expr.{Expr, type, size, cells, firstCell, isType, levels}
 use Rattle.aut68.specs.Lines.{Line, Lines, Kind, variable, primitive, abbreviation, kindCells}
 use Rattle.aut68.specs.Rules.Serving.{Supertype, IsType, theType, aSupertype}
 use Rattle.aut68.specs.Rules.Categories.{DomainAt}
@@ -34,7 +33,6 @@ use Rattle.levels.specs.FoundPosts.{Passes, FindsKnown, FoundTypePost}
 use Rattle.levels.specs.Spots.{frames, level-below, lies-kept, copied-found, is-type-cell}
 use Rattle.typing.specs.ComparisonPosts.{ComparePost}
 use Rattle.categories.specs.AnyDepth.{category68}
-use Rattle.categories.specs.Nesting.{nesting}
 use Rattle.categories.specs.Places.{Expression, LineCells}
 use Rattle.categories.specs.Posts.{CategoryPost, CheckWrittenPost, CheckMiddlePost, CheckCellsPost}
 use Rattle.categories.proofs.Clauses.{written-type, written-other}
@@ -47,8 +45,8 @@ use Rattle.categories.proofs.KindLaws.{finds-known}
 pub record NoBindings (scope : Scope) : Type 0 where
   pub none : scope .bound ≡ 0
   pub flat : scope .depth ≡ 0
-  pub startsAre : scope .starts ≡ replicate Sizes.nesting 0
-  pub lensAre : scope .lens ≡ replicate Sizes.nesting 0
+  pub startsAre : scope .starts ≡ replicate nesting 0
+  pub lensAre : scope .lens ≡ replicate nesting 0
 
 no-domain : {ts : List ℕ} {limit : ℕ} {scope : Scope} {p : Expr} {i : ℕ} → DomainAt p [] i → DomainCells ts limit scope (0 - suc i) p
 no-domain d = elim d [ ]
@@ -65,7 +63,7 @@ scope-none h n = record {
 }
 
 top-expression : {ls : Lines} {ts : List ℕ} {limit at : ℕ} {scope : Scope} (x : Expr) {rest : List ℕ} → length ts < 4294967296 → NoBindings scope → At ts at (cells x) rest
-    → Known ls 0 x → size x ≤ limit → nesting x ≤ Sizes.nesting → Expression ls ts (part ts at) scope limit 0 [] x
+    → Known ls 0 x → size x ≤ limit → levels x ≤ nesting → Expression ls ts (part ts at) scope limit 0 [] x
 unfolding ScopedScope
 top-expression {ts = ts} {at = at} x h n a k s m =
     let e : at ≡ length ts - length (part ts at) = omega (arith, part-length ts at, at-inside x a, cells-long x) in

@@ -8,7 +8,7 @@ use native.Mathlib.Nat.{zero-add}
 use lib.ListN.{length}
 use Rattle.aut68.specs.Sizes.{cellValues, workUnits}
 use Rattle.aut68.specs.Procedure.Answer.{andThen}
-use Rattle.aut68.specs.Expr.{Expr, Exprs, nil, cons, snoc, size, sizes, cells, cellss, countExprs}
+use Rattle.aut68.specs.Expr.{Expr, Exprs, nil, cons, snoc, size, sizes, cells, cellss, countExprs, levelss}
 use Rattle.aut68.specs.Lines.{Line, Lines}
 use Rattle.aut68.specs.Rules.Resolved.{Scoped}
 use Rattle.calculus.specs.Resolved.{AllKnown}
@@ -24,7 +24,6 @@ use Rattle.levels.specs.FoundPosts.{Frame}
 use Rattle.levels.specs.ArgumentPosts.{NextStart}
 use Rattle.typing.specs.FittingPosts.{wantedFits}
 use Rattle.categories.specs.AnyDepth.{category68}
-use Rattle.categories.specs.Nesting.{nestings}
 use Rattle.categories.specs.Places.{Expression, Arguments}
 use Rattle.categories.proofs.Within.{part, part-of, at-part}
 
@@ -48,10 +47,10 @@ unfolding sizes join
 sizes-join nil fs = omega arith
 sizes-join (cons e es) fs = omega (arith, sizes-join es fs)
 
-nestings-join : (es fs : Exprs) → nestings (join es fs) ≡ max (nestings es) (nestings fs)
-unfolding nestings join
-nestings-join nil fs = omega arith
-nestings-join (cons e es) fs = omega (arith, nestings-join es fs)
+levels-join : (es fs : Exprs) → levelss (join es fs) ≡ max (levelss es) (levelss fs)
+unfolding levelss join
+levels-join nil fs = omega arith
+levels-join (cons e es) fs = omega (arith, levels-join es fs)
 
 pub join-snoc : (es : Exprs) (a : Expr) (fs : Exprs) → join (snoc es a) fs ≡ join es (cons a fs)
 unfolding snoc join
@@ -78,7 +77,7 @@ argument-lies {s} {behind} es a fs h =
 
 pub argument-in : {ls : Lines} {ts s : List ℕ} {scope : Scope} {limit level : ℕ} {sc : List Expr} {at : ℕ} (es : Exprs) (a : Expr) (fs : Exprs) → at ≡ length (cellss es)
     → Arguments ls ts s scope limit level sc (join es (cons a fs)) → Expression ls ts (part s at) scope limit (level + 1) sc a
-unfolding Scoped sizes nestings
+unfolding Scoped sizes levelss
 argument-in {ls} {ts} {s} {sc = sc} {at} es a fs q X =
     let h = argument-lies es a fs (X .at) in
     let k : At s at (cells a) (cellss fs ++ X .behind) = rw q h in
@@ -90,8 +89,8 @@ argument-in {ls} {ts} {s} {sc = sc} {at} es a fs q X =
       knownScope = X .knownScope;
       known = known-front ls (length sc) es (cons a fs) (X .known) .1 .0;
       small = omega (arith, sizes-join es (cons a fs), X .small);
-      shallow = omega (arith, nestings-join es (cons a fs), X .shallow);
-      under = omega (arith, nestings-join es (cons a fs), X .under);
+      shallow = omega (arith, levels-join es (cons a fs), X .shallow);
+      under = omega (arith, levels-join es (cons a fs), X .under);
     }
 
 -- ---- where the arguments start

@@ -6,9 +6,8 @@ use native.Mathlib.Omega.{arith}
 use native.Mathlib.Nat.{add-zero}
 use lib.ListN.{length, getD, take, drop, set, length-drop, length-set}
 use lib.Seq.{take-all, drop-drop, getD-drop, getD-set-same, getD-set-other}
-use Rattle.aut68.specs.Sizes as Sizes
-use Rattle.aut68.specs.Sizes.{largestLimit}
-use Rattle.aut68.specs.Expr.{Expr, Exprs, type, prop, var, bound, const, app, abs, nil, cons, size, cells, cellss, parts, countExprs}
+use Rattle.aut68.specs.Sizes.{largestLimit, nesting}
+use Rattle.aut68.specs.Expr.{Expr, Exprs, type, prop, var, bound, const, app, abs, nil, cons, size, cells, cellss, parts, countExprs, levels}
 use Rattle.aut68.specs.Lines.{Lines}
 use Rattle.aut68.specs.Rules.Categories.{DomainAt, innermost, outside}
 use Rattle.aut68.specs.Rules.Resolved.{Scoped}
@@ -19,7 +18,6 @@ use Rattle.cells.specs.Posts.{Skipped, Bindable, Bound}
 use Rattle.cells.specs.declared.scope.Scope.{Scope}
 use Rattle.levels.specs.Places.{DomainCells, ScopeHolds}
 use Rattle.levels.specs.Parts.{domain-inside, application-argument, application-function, abstraction-domain, abstraction-body}
-use Rattle.categories.specs.Nesting.{nesting}
 use Rattle.categories.specs.Places.{Expression, Arguments}
 
 -- ---- a part of a slice that goes to its end
@@ -52,15 +50,15 @@ at-store {ts} {e} {a} p h = record { is = sym (drop-drop a (length ts - length e
 
 -- ---- sizes and depths
 
-pub nesting-positive : (x : Expr) → 1 ≤ nesting x
-unfolding nesting
-nesting-positive type = omega arith
-nesting-positive prop = omega arith
-nesting-positive (var v) = omega arith
-nesting-positive (bound i) = omega arith
-nesting-positive (const v xs) = omega arith
-nesting-positive (app a b) = omega arith
-nesting-positive (abs p t) = omega arith
+pub levels-positive : (x : Expr) → 1 ≤ levels x
+unfolding levels
+levels-positive type = omega arith
+levels-positive prop = omega arith
+levels-positive (var v) = omega arith
+levels-positive (bound i) = omega arith
+levels-positive (const v xs) = omega arith
+levels-positive (app a b) = omega arith
+levels-positive (abs p t) = omega arith
 
 -- the end of one expression
 pub skip-one : {tb s : List ℕ} {from r : ℕ} (x : Expr) {rest : List ℕ} → Skipped tb s from 1 r → Wf tb x → At s from (cells x) rest → r ≡ from + length (cells x)
@@ -69,7 +67,7 @@ skip-one {from = from} x {rest} S f a = S .ends (cons x nil) rest refl (f, tt) (
 
 -- ---- a binding more
 
-module _ {ts : List ℕ} {limit : ℕ} {scope inner : Scope} {sc : List Expr} {start len : ℕ} (p : Expr) {rest : List ℕ} (H : ScopeHolds ts limit scope sc) (few : length sc < Sizes.nesting)
+module _ {ts : List ℕ} {limit : ℕ} {scope inner : Scope} {sc : List Expr} {start len : ℕ} (p : Expr) {rest : List ℕ} (H : ScopeHolds ts limit scope sc) (few : length sc < nesting)
     (B : Bound scope start len inner) (a : At ts start (cells p) rest) (s : len ≡ size p) (m : size p ≤ limit) (small : limit ≤ largestLimit) where
   bindable : Bindable scope start len
   bindable = record {
@@ -121,7 +119,7 @@ module _ {ts : List ℕ} {limit : ℕ} {scope inner : Scope} {sc : List Expr} {s
 
 module _ {ls : Lines} {ts e : List ℕ} {scope : Scope} {limit level : ℕ} {sc : List Expr} where
   pub argument-of : (a b : Expr) → Expression ls ts e scope limit level sc (app a b) → Expression ls ts (part e 1) scope limit (level + 1) sc a
-  unfolding Scoped size nesting
+  unfolding Scoped size levels
   argument-of a b E =
       let h = application-argument a b (E .at) in
       record {
@@ -137,7 +135,7 @@ module _ {ls : Lines} {ts e : List ℕ} {scope : Scope} {limit level : ℕ} {sc 
       }
 
   pub function-in : {i : ℕ} (a b : Expr) → i ≡ 1 + length (cells a) → Expression ls ts e scope limit level sc (app a b) → Expression ls ts (part e i) scope limit level sc b
-  unfolding Scoped size nesting
+  unfolding Scoped size levels
   function-in {i} a b q E =
       let h = application-function a b (E .at) in
       let k : At e i (cells b) (E .behind) = rw q h in
@@ -154,7 +152,7 @@ module _ {ls : Lines} {ts e : List ℕ} {scope : Scope} {limit level : ℕ} {sc 
       }
 
   pub domain-in : (p t : Expr) → Expression ls ts e scope limit level sc (abs p t) → Expression ls ts (part e 1) scope limit level sc p
-  unfolding Scoped size nesting
+  unfolding Scoped size levels
   domain-in p t E =
       let h = abstraction-domain p t (E .at) in
       record {
@@ -171,7 +169,7 @@ module _ {ls : Lines} {ts e : List ℕ} {scope : Scope} {limit level : ℕ} {sc 
 
   pub body-in : {i start len : ℕ} {inner : Scope} (p t : Expr) → limit ≤ largestLimit → i ≡ 1 + length (cells p) → start ≡ length ts - length e + 1 → len ≡ size p
       → Bound scope start len inner → Expression ls ts e scope limit level sc (abs p t) → Expression ls ts (part e i) inner limit level (p ∷ sc) t
-  unfolding Scoped ScopedScope size nesting
+  unfolding Scoped ScopedScope size levels
   body-in {i} {start} {len} p t small q r s B E =
       let h = abstraction-body p t (E .at) in
       let k : At e i (cells t) (E .behind) = rw q h in
@@ -190,7 +188,7 @@ module _ {ls : Lines} {ts e : List ℕ} {scope : Scope} {limit level : ℕ} {sc 
       }
 
   pub arguments-in : (v : ℕ) (xs : Exprs) → Expression ls ts e scope limit level sc (const v xs) → Arguments ls ts (part e 1) scope limit level sc xs
-  unfolding Scoped size nesting parts
+  unfolding Scoped size levels parts
   arguments-in v xs E =
       let h : At e 1 (cellss xs) (E .behind) = at-parts (const v xs) (E .at) in
       record {

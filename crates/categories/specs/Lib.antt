@@ -1,5 +1,4 @@
 -- What the code of categories says.
 pub mod AnyDepth
-pub mod Nesting
 pub mod Places
 pub mod Posts

@@ -3,16 +3,15 @@ use mathlib.Core.Path.{_≡_}
 use mathlib.Core.List.{List}
 use Prim.Native.Nat.{ℕ, suc, _+_, _-_, _≤_, _<_}
 use lib.ListN.{length, drop}
-use Rattle.aut68.specs.Sizes as Sizes
+use Rattle.aut68.specs.Sizes.{nesting}
 use Rattle.aut68.specs.Language.{aut68}
-use Rattle.aut68.specs.Expr.{Expr, Exprs, size, sizes, cells, cellss}
+use Rattle.aut68.specs.Expr.{Expr, Exprs, size, sizes, cells, cellss, levels, levelss}
 use Rattle.aut68.specs.Lines.{Line, Lines, abbreviation, kindCells}
 use Rattle.aut68.specs.Rules.Serving.{Supertype, IsType}
 use Rattle.calculus.specs.Resolved.{Known, AllKnown, KnownScope, KnownCategory}
 use Rattle.cells.specs.Cells.{At}
 use Rattle.cells.specs.declared.scope.Scope.{Scope}
 use Rattle.levels.specs.Places.{ScopeHolds}
-use Rattle.categories.specs.Nesting.{nesting, nestings}
 
 -- x lies at the start of e, the rest of the term store from there on, and stands under bindings whose domains the scope has
 pub record Expression (ls : Lines) (ts e : List ℕ) (scope : Scope) (limit level : ℕ) (sc : List Expr) (x : Expr) : Type 0 where
@@ -23,8 +22,8 @@ pub record Expression (ls : Lines) (ts e : List ℕ) (scope : Scope) (limit leve
   pub knownScope : KnownScope ls sc
   pub known : Known ls (length sc) x
   pub small : size x ≤ limit
-  pub shallow : nesting x + level ≤ Sizes.nesting
-  pub under : nesting x + length sc ≤ Sizes.nesting
+  pub shallow : levels x + level ≤ nesting
+  pub under : levels x + length sc ≤ nesting
 
 -- the same of an argument string, each argument of which is looked at one level deeper
 pub record Arguments (ls : Lines) (ts s : List ℕ) (scope : Scope) (limit level : ℕ) (sc : List Expr) (xs : Exprs) : Type 0 where
@@ -35,8 +34,8 @@ pub record Arguments (ls : Lines) (ts s : List ℕ) (scope : Scope) (limit level
   pub knownScope : KnownScope ls sc
   pub known : AllKnown ls (length sc) xs
   pub small : sizes xs ≤ limit
-  pub shallow : nestings xs + suc level ≤ Sizes.nesting
-  pub under : nestings xs + length sc ≤ Sizes.nesting
+  pub shallow : levelss xs + suc level ≤ nesting
+  pub under : levelss xs + length sc ≤ nesting
 
 -- The line l, whose cells are the last of the term store: the middle's from `start` on, the category's from `at` on.
 pub record LineCells (ls : Lines) (ts : List ℕ) (limit start at : ℕ) (l : Line) : Type 0 where
@@ -44,8 +43,8 @@ pub record LineCells (ls : Lines) (ts : List ℕ) (limit start at : ℕ) (l : Li
   pub cellsAre : At ts start (kindCells (l .kind)) (cells (l .category))
   pub ends : at ≡ start + length (kindCells (l .kind))
   pub middle : (m : Expr) → l .kind ≡ abbreviation m → Known ls 0 m
-  pub middleSmall : (m : Expr) → l .kind ≡ abbreviation m → (size m ≤ limit) × (nesting m ≤ Sizes.nesting)
+  pub middleSmall : (m : Expr) → l .kind ≡ abbreviation m → (size m ≤ limit) × (levels m ≤ nesting)
   pub category : KnownCategory ls 0 (l .category)
   -- only `type` ends in `type`: so a line is written in AUT-68
   pub endsOnly : Supertype (l .category) → IsType aut68 (l .category)
-  pub categorySmall : (size (l .category) ≤ limit) × (nesting (l .category) ≤ Sizes.nesting)
+  pub categorySmall : (size (l .category) ≤ limit) × (levels (l .category) ≤ nesting)

@@ -3,12 +3,11 @@ use mathlib.Core.Path.{_≡_}
 use mathlib.Core.List.{List}
 use Prim.Native.Nat.{ℕ, _*_, _≤_, _<_}
 use lib.ListN.{length}
-use Rattle.aut68.specs.Sizes as Sizes
 use Rattle.aut68.specs.Expr as Expr
-use Rattle.aut68.specs.Sizes.{workUnits}
+use Rattle.aut68.specs.Sizes.{workUnits, nesting}
 use Rattle.aut68.specs.Language.{aut68}
 use Rattle.aut68.specs.Procedure.Answer.{_>>=_}
-use Rattle.aut68.specs.Expr.{Expr, Exprs, app, abs, nil, size, cells, countExprs}
+use Rattle.aut68.specs.Expr.{Expr, Exprs, app, abs, nil, size, cells, countExprs, levels}
 use Rattle.aut68.specs.Rules.Serving.{Supertype, IsType}
 use Rattle.aut68.specs.Lines.{Line, Lines}
 use Rattle.aut68.specs.Rules.Names.{IsLine}
@@ -21,7 +20,6 @@ use Rattle.heads.specs.Book.{Book}
 use Rattle.levels.specs.FoundPosts.{Frame, Finds, Passes}
 use Rattle.levels.specs.ArgumentPosts.{Kept}
 use Rattle.categories.specs.AnyDepth.{category68, arguments68}
-use Rattle.categories.specs.Nesting.{nesting}
 use Rattle.categories.specs.Places.{Expression, Arguments, LineCells}
 
 -- ---- categories and argument strings
@@ -65,7 +63,7 @@ pub record ArgumentsPost (tb ts s : List ℕ) (scope : Scope) (w : List ℕ) (li
 pub record CheckWrittenPost (tb ts : List ℕ) (at : ℕ) (w : List ℕ) (limit budget : ℕ) (w′ : List ℕ) (code rest : ℕ) : Type 0 where
   pub frame : Frame limit 0 w w′
   pub means : {ls : Lines} {c : Expr} {behind : List ℕ} → Book ls limit tb ts → workUnits * limit ≤ length w → length ts < 4294967296 → At ts at (cells c) behind
-      → KnownCategory ls 0 c → (Supertype c → IsType aut68 c) → size c ≤ limit → nesting c ≤ Sizes.nesting → Passes code rest (checkWritten aut68 ls limit c budget)
+      → KnownCategory ls 0 c → (Supertype c → IsType aut68 c) → size c ≤ limit → levels c ≤ nesting → Passes code rest (checkWritten aut68 ls limit c budget)
 
 -- the middle, in the cells start..at, against the category behind it
 pub record CheckMiddlePost (tb ts : List ℕ) (start at : ℕ) (w : List ℕ) (limit budget : ℕ) (w′ : List ℕ) (code rest : ℕ) : Type 0 where
