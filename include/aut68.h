@@ -25,11 +25,11 @@ enum {
     AUT68_MALFORMED = 3,
     AUT68_DUPLICATE = 4,
     AUT68_UNKNOWN_NAME = 5,       /* or a variable not in context, or an indicator that is no EB line */
-    AUT68_WRONG_ARITY = 6,
+    AUT68_WRONG_ARITY = 6,        /* more arguments than its context has variables, or some left out that cannot be put in */
     AUT68_NOT_FUNCTION = 7,
     AUT68_NOT_TYPE = 8,
     AUT68_MISMATCH = 9,
-    AUT68_TOO_LARGE = 10,         /* an expression larger than the limit, nested above 32, or compared below depth 32 */
+    AUT68_TOO_LARGE = 10,         /* an expression, completed, larger than the limit or nested above 32; or compared below depth 32 */
     AUT68_OUT_OF_BUDGET = 11,
     AUT68_OUT_OF_SPACE = 12       /* table or shelf full, line 8,192, or a book of more than 16,777,215 bytes (line 0) */
 };
@@ -58,8 +58,8 @@ enum {
 
 /* Checks a book. Lengths count elements.
    book: read only. budget: head steps allowed over the book. limit: cells of the largest expression, 16 to 4,096.
-   table: AUT68_ROW_WIDTH cells a line. terms: the shelf, the cells of all middles and categories. work: at least
-   AUT68_WORK_UNITS * limit cells.
+   table: AUT68_ROW_WIDTH cells a line. terms: the shelf, the cells of all middles and categories, completed: arguments that the
+   book leaves out are there. work: at least AUT68_WORK_UNITS * limit cells.
    It asks nothing of any value. Each pointer must be valid for its length, and the three stores must not overlap each other or
    the book. A pointer to no elements may be anything but null. The call keeps no pointer and takes no memory of its own.
 

@@ -128,7 +128,8 @@ module _ {tb : List ℕ} {indicator : ℕ} {w : List ℕ} {first : ℕ} (depth :
                 record { fits = λ x. absurd (omega (arith, to)); over = λ x. inr (omega (arith, at-length k last (omega arith) y), omega arith) }) l;
           }
 
-      pub completed-put-in : {w′ : List ℕ} {end : ℕ} → PutIn tb w w′ first (a .to) last end → r .to ≡ end → r .fault ≡ a .fault → last ≢ 0 → depth + 1 < nesting → Completed tb indicator w w′ first depth a m r
+      pub completed-put-in : {w′ : List ℕ} {end : ℕ} → PutIn tb w w′ first (a .to) last end → r .to ≡ end → r .fault ≡ a .fault → last ≢ 0
+          → depth + 1 < nesting → Completed tb indicator w w′ first depth a m r
       completed-put-in {w′} put to fault n shallow =
           let P : PutIn tb w w′ first (a .to) last (r .to) = subst (λ e. PutIn tb w w′ first (a .to) last e) (sym to) put in
           record {

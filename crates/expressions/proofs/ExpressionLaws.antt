@@ -120,7 +120,8 @@ module _ {ks s book tb : List ℕ} {lines indicator : ℕ} {next : Scope} {w w�
 
   -- a level that binds a name of the line
   pub body-read : {scope : Scope} {start len : ℕ} → Bound scope start len next → scope .depth < nesting → start + len ≤ length s → (ls : Lines) → Ready ls ks s book tb lines indicator scope w (r .to)
-      → ReadTo s (Written cells levels (resolve ls (contextAt ls indicator) (slice start (start + len) s ∷ boundNames s scope)) w w′ (r .to) (r′ .to) (nesting - 1 - scope .depth) (r .fault) (r′ .fault))
+      → ReadTo s
+      (Written cells levels (resolve ls (contextAt ls indicator) (slice start (start + len) s ∷ boundNames s scope)) w w′ (r .to) (r′ .to) (nesting - 1 - scope .depth) (r .fault) (r′ .fault))
       (r′ .code) (r′ .at) (anExpression aut68 (nesting - 1 - scope .depth) inner (drop (r .at) s))
   body-read {scope} {start} {len} b l e ls ready =
       let f : Bindable scope start len = bindable ready l e in

@@ -52,9 +52,11 @@ laid-cell {w} {w₁} {w′} {to} {x} {next} {end} {d} {xs} {n} put s l A =
     record {
       fits = λ h.
           let (i, e) = put-inside put (omega (arith, long)) in
-          let (p, j) = A .fits h in
-          (part-append w′ to next end (omega (arith, e)) l h
-          ∙ ap₂ _++_ (part-stays s to next (omega arith) ∙ ap (λ k. slice to k w₁) e ∙ part-put put i) p, omega arith);
+          let (p, j) = A .fits h in (
+            part-append w′ to next end (omega (arith, e)) l h
+                ∙ ap₂ _++_ (part-stays s to next (omega arith) ∙ ap (λ k. slice to k w₁) e ∙ part-put put i) p,
+            omega arith,
+          );
       over = λ h. at (decLt to (length w)) h;
     }
   where

@@ -69,7 +69,7 @@ level-arguments {s = s} {indicator = indicator} {scope} {next} {w} {w′} {r} {r
     (then-map (h .read ls (ready-inner (sized-nested b l (ready .sized)) ready) n m) (λ xs X. (
       X .number ∙ omega arith,
       subst (λ d. Written cellss levelss (resolves ls (contextAt ls indicator) (boundNames s scope)) w w′ (r .to) (r′ .to) d (r .fault) (r′ .fault) xs) level
-      (subst (λ bs. Written cellss levelss (resolves ls (contextAt ls indicator) bs) w w′ (r .to) (r′ .to) (nesting - next .depth) (r .fault) (r′ .fault) xs) names (X .written)),
+          (subst (λ bs. Written cellss levelss (resolves ls (contextAt ls indicator) bs) w w′ (r .to) (r′ .to) (nesting - next .depth) (r .fault) (r′ .fault) xs) names (X .written)),
     )))
 
 -- what is written of the arguments, those left out among them, is written of the name with its arguments

@@ -121,18 +121,7 @@ fn named(
     if scope.bound > 0 {
         b = binding(line, scope, &line[start..next]);
     }
-    let m = name_meaning(
-        line,
-        book,
-        table,
-        lines,
-        indicator,
-        w,
-        fault,
-        b,
-        start,
-        len,
-    );
+    let m = name_meaning(line, book, table, lines, indicator, w, fault, b, start, len);
     let found = m.fault;
     let cell = put(w, to, m.cell);
     let open = symbol(line, kinds, next, kinds::OPEN);

@@ -37,7 +37,8 @@ same-length c = search needs
 returns-5 : tie.Need-returns-5
 returns-5 c =
     let (code, at, to, fault) = c .with2 .ensures in
-    completed-cannot _ _ code at (c .before .before .before .before .before .before .before .before .before .if2 .left) (omega arith) refl (c .before .before .last-left-out .ensures) to fault (c .before .if5 .taken)
+    let at-last = c .before .before in let at-if2 = at-last .before .before .before .before .before .before .before in
+    completed-cannot _ _ code at (at-if2 .if2 .left) (omega arith) refl (at-last .last-left-out .ensures) to fault (c .before .if5 .taken)
 
 add-if6 : tie.Need-add-if6
 add-if6 c = search needs
@@ -54,7 +55,9 @@ same-length-2 c = search needs
 returns-6 : tie.Need-returns-6
 returns-6 c =
     let (code, at, to, fault) = c .with3 .ensures in
-    completed-too-deep _ _ code at (c .before .before .before .before .before .before .before .before .before .before .if2 .left) (omega arith) refl (c .before .before .before .last-left-out .ensures) to fault (c .before .before .if5 .left) (c .before .if6 .taken)
+    let at-last = c .before .before .before in let at-if2 = at-last .before .before .before .before .before .before .before in
+    completed-too-deep _ _ code at (at-if2 .if2 .left) (omega arith) refl (at-last .last-left-out .ensures) to fault (c .before .before .if5 .left)
+    (c .before .if6 .taken)
 
 put-in-requires : tie.Need-put-in-requires
 put-in-requires c κs = tt
@@ -68,7 +71,10 @@ same-length-3 c = c .before .before .before .put-in .ensures .kept .long
 returns-7 : tie.Need-returns-7
 returns-7 c =
     let (code, at, to, fault) = c .with4 .ensures in
-    completed-put-in _ _ code at (c .before .before .before .before .before .before .before .before .before .before .before .before .before .before .if2 .left) (omega arith) refl (c .before .before .before .before .before .before .before .last-left-out .ensures) (c .before .before .before .put-in .ensures) to fault (c .before .before .before .before .before .before .if5 .left) (omega arith)
+    let at-put-in = c .before .before .before in let at-if5 = at-put-in .before .before .before in let at-last = at-if5 .before in
+    let at-if2 = at-last .before .before .before .before .before .before .before in
+    completed-put-in _ _ code at (at-if2 .if2 .left) (omega arith) refl (at-last .last-left-out .ensures) (at-put-in .put-in .ensures) to fault
+    (at-if5 .if5 .left) (omega arith)
 
 pub completed-spec : {M : Type 1} → statement M
 completed-spec =

@@ -552,7 +552,7 @@ pub +abstraction+application+arguments+expression+named-spec : {M : Type 1} → 
     (abstraction-same-length-2 t) (abstraction-returns-5 t) (λ c κs. tt) (abstraction-expression-requires-2 t) (abstraction-same-length-3 t)
     (abstraction-returns-6 t))
     (λ t. application-lts.spec (claims-application t) (application-at t) application.Post (λ c κs. tt) (λ c κs. tt) (application-returns t)
-    (λ c κs. tt) (λ c κs. tt)  (application-expression-requires t) (application-same-length t)
+    (λ c κs. tt) (λ c κs. tt) (application-expression-requires t) (application-same-length t)
     (application-returns-2 t) (λ c κs. tt) (λ c κs. tt) (application-same-length-2 t) (application-returns-3 t)
     (application-expression-requires-2 t) (application-same-length-3 t) (application-returns-4 t))
     (λ t. arguments-lts.spec (claims-arguments t) (arguments-at t) arguments.Post arguments-Inv-loop arguments-μ-loop
