@@ -1,11 +1,11 @@
-//! One walk over a line's bytes: its form, its cells, and the first name that means nothing.
+//! One walk over a line's bytes: its form, its cells with arguments left out put in, and the first name or count that is
+//! refused.
 
 use super::cells;
 use super::lines::{Context, Kind, Lines};
 use super::names::Names;
 use super::Refusal;
 use crate::sizes::{Cell, LONGEST_NAME, NESTING};
-
 
 /// Which bytes are letters, digits or underscore.
 const NAME_BYTE: [bool; 256] = {
@@ -18,20 +18,44 @@ const NAME_BYTE: [bool; 256] = {
     table
 };
 
-/// A line of right form. Its cells are in the reader, the first `middle` of them the middle's.
+/// A line of right form. Its cells are in the reader, the middle's first.
 pub struct Line<'b> {
     pub start: usize,
     pub identifier: &'b [u8],
     pub indicator: Cell,
     pub context: Context,
     pub kind: Kind,
-    pub middle: usize,
+    pub middle: Part,
+    pub category: Part,
+}
+
+/// A middle or category.
+#[derive(Clone, Copy)]
+pub struct Part {
+    /// How many cells it has.
+    pub length: usize,
+    /// How many of them are variables that were put in.
+    pub put_in: usize,
+    /// Whether its completed form has more cells than the limit, or is nested too deep; then some may not have been put in.
+    pub too_large: bool,
+}
+
+impl Part {
+    /// How many cells it has as written.
+    pub fn written(&self) -> usize {
+        self.length - self.put_in
+    }
 }
 
 pub struct Reader<'b> {
     book: &'b [u8],
     at: usize,
+    limit: usize,
     cells: Vec<Cell>,
+    /// Where the current middle or category begins in `cells`, how many cells were put in it, and whether it is too large.
+    part: usize,
+    put_in: usize,
+    too_large: bool,
     /// The bound names around the current place, outermost first.
     bound: Vec<&'b [u8]>,
     /// The leftmost refusal of a name or argument count, and the place of that name.
@@ -46,8 +70,11 @@ struct Scope<'s, 'b> {
 }
 
 impl<'b> Reader<'b> {
-    pub fn new(book: &'b [u8]) -> Self {
-        Reader { book, at: 0, cells: Vec::new(), bound: Vec::with_capacity(NESTING), refused: None }
+    pub fn new(book: &'b [u8], limit: usize) -> Self {
+        Reader {
+            book, at: 0, limit, cells: Vec::new(), part: 0, put_in: 0, too_large: false,
+            bound: Vec::with_capacity(NESTING), refused: None,
+        }
     }
 
     pub fn at_end(&self) -> bool {
@@ -65,6 +92,7 @@ impl<'b> Reader<'b> {
     /// Reads a line. A refusal of its indicator is given too; later ones are left to the caller, in their order.
     pub fn line(&mut self, lines: &mut Lines, names: &Names<'b>) -> Result<Line<'b>, Refusal> {
         self.cells.clear();
+        self.part = 0;
         self.bound.clear();
         self.refused = None;
 
@@ -88,16 +116,25 @@ impl<'b> Reader<'b> {
         self.at += 1;
 
         let kind = self.middle(&scope)?;
-        let middle = self.cells.len();
+        let middle = self.end_part();
         self.symbol(b':')?;
         self.category(&scope)?;
+        let category = self.end_part();
         self.spaces();
         if self.at_end() {
             return Err(Refusal::Malformed);
         }
         self.symbol(b'\n')?;
         let indicator = meant.ok_or(Refusal::UnknownName)?;
-        Ok(Line { start, identifier, indicator, context, kind, middle })
+        Ok(Line { start, identifier, indicator, context, kind, middle, category })
+    }
+
+    /// The part that was read; the next begins.
+    fn end_part(&mut self) -> Part {
+        let length = self.cells.len() - self.part;
+        let part = Part { length, put_in: self.put_in, too_large: self.too_large || length > self.limit };
+        (self.part, self.put_in, self.too_large) = (self.cells.len(), 0, false);
+        part
     }
 
     fn middle(&mut self, scope: &Scope<'_, 'b>) -> Result<Kind, Refusal> {
@@ -178,6 +215,7 @@ impl<'b> Reader<'b> {
             }
         };
         self.cells.push(cell);
+        let arguments = self.cells.len();
         self.spaces();
         let mut found = 0;
         if self.peek() == b'(' {
@@ -195,9 +233,31 @@ impl<'b> Reader<'b> {
             self.at += 1;
         }
         if found != wanted {
-            self.refuse(start, Refusal::WrongArity);
+            if found < wanted && cell != cells::TYPE {
+                self.complete(scope, start, cells::value(cell), arguments, found, depth);
+            } else {
+                self.refuse(start, Refusal::WrongArity);
+            }
         }
         Ok(())
+    }
+
+    /// Puts in front of a constant's arguments, which begin at `arguments`, the first variables of its context, as many as
+    /// are left out. They must be the first of the line's own context: one line at the last of these places is enough.
+    #[inline(never)]
+    fn complete(
+        &mut self, scope: &Scope<'_, 'b>, start: usize, constant: Cell, arguments: usize, found: usize, depth: usize,
+    ) {
+        let variables = scope.lines.variables(constant);
+        let missing = &variables[..variables.len() - found];
+        if !scope.lines.in_context(scope.context, missing[missing.len() - 1]) {
+            self.refuse(start, Refusal::WrongArity);
+        } else if depth == NESTING || self.cells.len() - self.part + missing.len() > self.limit {
+            self.too_large = true;
+        } else {
+            self.cells.splice(arguments..arguments, missing.iter().map(|&v| cells::cell(cells::VARIABLE, v)));
+            self.put_in += missing.len();
+        }
     }
 
     /// The cell of a name and how many arguments it takes.
