@@ -41,9 +41,10 @@ pub enum Refusal {
 pub struct Notes {
     /// Variables put in, in lines that are recorded.
     pub put_in: usize,
-    /// The outcome is 10 of a line that is within the limits as written.
-    pub only_completed: bool,
-    /// The outcome is the 5 or 6 of a line that is too large as well.
+    /// The outcome is 10, of a line that is within the limits as written: its completed size or nesting is above them.
+    pub only_completed_size: bool,
+    pub only_completed_nesting: bool,
+    /// The outcome is 5 or 6, of a line that is too large or nested too deep when completed.
     pub ahead_of_size: bool,
 }
 
@@ -89,13 +90,17 @@ fn check_lines(
         if names.contains(line.identifier) {
             return Err(Refusal::Duplicate);
         }
-        let too_large = line.middle.too_large || line.category.too_large;
+        let parts = [line.middle, line.category];
+        let too_large = parts.iter().any(|p| p.too_large);
+        let too_deep = parts.iter().any(|p| p.too_deep);
         if let Some(refusal) = reader.name_refusal() {
-            notes.ahead_of_size = too_large;
+            notes.ahead_of_size = too_large || too_deep;
             return Err(refusal);
         }
-        if too_large {
-            notes.only_completed = line.middle.written() <= limit && line.category.written() <= limit;
+        if too_large || too_deep {
+            let as_written = parts.iter().any(|p| p.written() > limit);
+            notes.only_completed_size = too_large && !as_written;
+            notes.only_completed_nesting = too_deep && !as_written;
             return Err(Refusal::TooLarge);
         }
         let count = lines.count();
@@ -114,7 +119,7 @@ fn check_lines(
         table[ROW_WIDTH * count..ROW_WIDTH * (count + 1)].copy_from_slice(&row);
         let number = lines.push(line.kind, line.context, [used, used + middle, used + cells.len()]);
         names.insert(line.identifier, number);
-        notes.put_in += line.middle.put_in + line.category.put_in;
+        notes.put_in += parts.iter().map(|p| p.put_in).sum::<usize>();
         used += cells.len();
     }
     Ok(())

@@ -30,14 +30,16 @@ pub struct Line<'b> {
 }
 
 /// A middle or category.
-#[derive(Clone, Copy)]
+#[derive(Clone, Copy, Default)]
 pub struct Part {
     /// How many cells it has.
     pub length: usize,
     /// How many of them are variables that were put in.
     pub put_in: usize,
-    /// Whether its completed form has more cells than the limit, or is nested too deep; then some may not have been put in.
+    /// Whether it has more cells than the limit when completed; then some were not put in.
     pub too_large: bool,
+    /// Whether it is nested too deep when completed.
+    pub too_deep: bool,
 }
 
 impl Part {
@@ -52,10 +54,9 @@ pub struct Reader<'b> {
     at: usize,
     limit: usize,
     cells: Vec<Cell>,
-    /// Where the current middle or category begins in `cells`, how many cells were put in it, and whether it is too large.
-    part: usize,
-    put_in: usize,
-    too_large: bool,
+    /// The current middle or category, whose length is that of the cells from `begin` on.
+    part: Part,
+    begin: usize,
     /// The bound names around the current place, outermost first.
     bound: Vec<&'b [u8]>,
     /// The leftmost refusal of a name or argument count, and the place of that name.
@@ -71,10 +72,8 @@ struct Scope<'s, 'b> {
 
 impl<'b> Reader<'b> {
     pub fn new(book: &'b [u8], limit: usize) -> Self {
-        Reader {
-            book, at: 0, limit, cells: Vec::new(), part: 0, put_in: 0, too_large: false,
-            bound: Vec::with_capacity(NESTING), refused: None,
-        }
+        let (cells, bound) = (Vec::new(), Vec::with_capacity(NESTING));
+        Reader { book, at: 0, limit, cells, part: Part::default(), begin: 0, bound, refused: None }
     }
 
     pub fn at_end(&self) -> bool {
@@ -92,7 +91,7 @@ impl<'b> Reader<'b> {
     /// Reads a line. A refusal of its indicator is given too; later ones are left to the caller, in their order.
     pub fn line(&mut self, lines: &mut Lines, names: &Names<'b>) -> Result<Line<'b>, Refusal> {
         self.cells.clear();
-        self.part = 0;
+        self.begin = 0;
         self.bound.clear();
         self.refused = None;
 
@@ -131,9 +130,10 @@ impl<'b> Reader<'b> {
 
     /// The part that was read; the next begins.
     fn end_part(&mut self) -> Part {
-        let length = self.cells.len() - self.part;
-        let part = Part { length, put_in: self.put_in, too_large: self.too_large || length > self.limit };
-        (self.part, self.put_in, self.too_large) = (self.cells.len(), 0, false);
+        let mut part = std::mem::take(&mut self.part);
+        part.length = self.cells.len() - self.begin;
+        part.too_large |= part.length > self.limit;
+        self.begin = self.cells.len();
         part
     }
 
@@ -252,11 +252,14 @@ impl<'b> Reader<'b> {
         let missing = &variables[..variables.len() - found];
         if !scope.lines.in_context(scope.context, missing[missing.len() - 1]) {
             self.refuse(start, Refusal::WrongArity);
-        } else if depth == NESTING || self.cells.len() - self.part + missing.len() > self.limit {
-            self.too_large = true;
-        } else {
+            return;
+        }
+        let fits = self.cells.len() - self.begin + missing.len() <= self.limit;
+        self.part.too_deep |= depth == NESTING;
+        self.part.too_large |= !fits;
+        if fits {
             self.cells.splice(arguments..arguments, missing.iter().map(|&v| cells::cell(cells::VARIABLE, v)));
-            self.put_in += missing.len();
+            self.part.put_in += missing.len();
         }
     }
 
