@@ -10,6 +10,7 @@ mod comparison;
 mod lines;
 mod names;
 mod reader;
+mod source;
 
 use crate::sizes::{Cell, LARGEST_LIMIT, MOST_BYTES, MOST_LINES, ROW_WIDTH, SMALLEST_LIMIT, WORK_UNITS};
 use crate::Outcome;
