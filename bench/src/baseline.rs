@@ -10,6 +10,7 @@ mod comparison;
 mod lines;
 mod names;
 mod reader;
+mod source;
 
 use crate::sizes::{Cell, LARGEST_LIMIT, MOST_BYTES, MOST_LINES, ROW_WIDTH, SMALLEST_LIMIT, WORK_UNITS};
 use crate::Outcome;
@@ -36,7 +37,25 @@ pub enum Refusal {
     OutOfSpace = 12,
 }
 
+/// What was done for arguments left out, for the counts of the differential run.
+#[derive(Clone, Copy, Debug, Default)]
+pub struct Notes {
+    /// Variables put in, in lines that are recorded.
+    pub put_in: usize,
+    /// The outcome is 10, of a line that is within the limits as written: its completed size or nesting is above them.
+    pub only_completed_size: bool,
+    pub only_completed_nesting: bool,
+    /// The outcome is 5 or 6, of a line that is too large or nested too deep when completed.
+    pub ahead_of_size: bool,
+}
+
 pub fn check(book: &[u8], budget: u32, limit: u32, table: &mut [u32], terms: &mut [Cell], work: &mut [Cell]) -> Outcome {
+    check_noting(book, budget, limit, table, terms, work, &mut Notes::default())
+}
+
+pub fn check_noting(
+    book: &[u8], budget: u32, limit: u32, table: &mut [u32], terms: &mut [Cell], work: &mut [Cell], notes: &mut Notes,
+) -> Outcome {
     let early = |refusal: Refusal| Outcome { code: refusal as u32, line: 0, steps: 0 };
     if !(SMALLEST_LIMIT..=LARGEST_LIMIT).contains(&limit) {
         return early(Refusal::LimitOutOfRange);
@@ -51,7 +70,7 @@ pub fn check(book: &[u8], budget: u32, limit: u32, table: &mut [u32], terms: &mu
     }
     let mut lines = Lines::new();
     let mut checker = Checker::new(budget, limit);
-    let refusal = check_lines(book, limit, table, terms, &mut lines, &mut checker).err();
+    let refusal = check_lines(book, limit, table, terms, &mut lines, &mut checker, notes).err();
     let steps = u64::from(checker.steps());
     match refusal {
         None => Outcome { code: 0, line: lines.count() as u32, steps },
@@ -61,38 +80,47 @@ pub fn check(book: &[u8], budget: u32, limit: u32, table: &mut [u32], terms: &mu
 
 fn check_lines(
     book: &[u8], limit: usize, table: &mut [u32], terms: &mut [Cell], lines: &mut Lines, checker: &mut Checker,
+    notes: &mut Notes,
 ) -> Result<(), Refusal> {
     let mut names = Names::default();
-    let mut reader = Reader::new(book);
+    let mut reader = Reader::new(book, limit);
     let mut used = 0;
     while !reader.at_end() {
         let line = reader.line(lines, &names)?;
         let cells = reader.cells();
-        let (middle, category) = cells.split_at(line.middle);
         if names.contains(line.identifier) {
             return Err(Refusal::Duplicate);
         }
-        if middle.len() > limit || category.len() > limit {
-            return Err(Refusal::TooLarge);
-        }
+        let parts = [line.middle, line.category];
+        let too_large = parts.iter().any(|p| p.too_large);
+        let too_deep = parts.iter().any(|p| p.too_deep);
         if let Some(refusal) = reader.name_refusal() {
+            notes.ahead_of_size = too_large || too_deep;
             return Err(refusal);
+        }
+        if too_large || too_deep {
+            let as_written = parts.iter().any(|p| p.written() > limit);
+            notes.only_completed_size = too_large && !as_written;
+            notes.only_completed_nesting = too_deep && !as_written;
+            return Err(Refusal::TooLarge);
         }
         let count = lines.count();
         if count == MOST_LINES || table.len() / ROW_WIDTH <= count || terms.len() - used < cells.len() {
             return Err(Refusal::OutOfSpace);
         }
-        checker.line(lines, &terms[..used], cells, line.middle)?;
+        let middle = line.middle.length;
+        checker.line(lines, &terms[..used], cells, middle)?;
 
         terms[used..used + cells.len()].copy_from_slice(cells);
         let row = [
             line.start as u32, line.identifier.len() as u32, u32::from(line.indicator),
             u32::from(line.context.length()), line.kind as u32,
-            used as u32, (used + line.middle) as u32, (used + cells.len()) as u32,
+            used as u32, (used + middle) as u32, (used + cells.len()) as u32,
         ];
         table[ROW_WIDTH * count..ROW_WIDTH * (count + 1)].copy_from_slice(&row);
-        let number = lines.push(line.kind, line.context, [used, used + line.middle, used + cells.len()]);
+        let number = lines.push(line.kind, line.context, [used, used + middle, used + cells.len()]);
         names.insert(line.identifier, number);
+        notes.put_in += parts.iter().map(|p| p.put_in).sum::<usize>();
         used += cells.len();
     }
     Ok(())

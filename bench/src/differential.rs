@@ -1,7 +1,10 @@
 //! Runs the verified program and the baseline on many small books and compares what they give and leave.
 
+mod blocks;
 mod calls;
+mod largest;
 mod mutate;
+mod text;
 mod theory;
 mod trees;
 mod typed;
@@ -21,12 +24,13 @@ const LONGEST: Duration = Duration::from_secs(110);
 /// So many books are made from one.
 const BOOKS_FROM_ONE: usize = 15;
 
-/// Prints how often each code was met; false if there was a difference, or a code was not met.
+/// Prints how often each code and what is new with arguments left out was met; false if there was a difference, or one of
+/// these was not met.
 pub fn run() -> bool {
     let start = Instant::now();
     let mut comparison = Comparison::new();
     let mut random = Random::new(SEED);
-    for (book, call) in calls::largest() {
+    for (book, call) in largest::books() {
         comparison.compare(&book, &call);
     }
     let written = written_books();
@@ -75,6 +79,7 @@ fn base(random: &mut Random, written: &[Vec<u8>]) -> Vec<u8> {
             let kind = *random.choose(&[Kind::Theories, Kind::Theories, Kind::Steps, Kind::Names, Kind::Deep]);
             generate::book(kind, random.between(10, 60), random.next())
         }
+        4 => blocks::book(random),
         _ => {
             let lines = random.between(4, 30);
             typed::book(random, lines)

@@ -6,8 +6,6 @@ use super::lines::Lines;
 use super::Refusal;
 use crate::sizes::{Cell, NESTING};
 
-/// Nesting of a line is at most this.
-
 /// A category: cells that lie in the term store or the line, or that were written behind an output.
 enum Category<'a> {
     Stored(&'a [Cell]),

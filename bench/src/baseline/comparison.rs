@@ -5,7 +5,6 @@ use super::lines::{Kind, Lines};
 use super::Refusal;
 use crate::sizes::{Cell, NESTING};
 
-
 /// The accepted lines with their cells, and the size that an expression may have.
 #[derive(Clone, Copy)]
 pub struct Book<'a> {

@@ -1,11 +1,12 @@
-//! One walk over a line's bytes: its form, its cells, and the first name that means nothing.
+//! One walk over a line's bytes: its form, its cells with arguments left out put in, and the first name or count that is
+//! refused.
 
 use super::cells;
 use super::lines::{Context, Kind, Lines};
 use super::names::Names;
+use super::source::{Line, Part};
 use super::Refusal;
 use crate::sizes::{Cell, LONGEST_NAME, NESTING};
-
 
 /// Which bytes are letters, digits or underscore.
 const NAME_BYTE: [bool; 256] = {
@@ -18,20 +19,14 @@ const NAME_BYTE: [bool; 256] = {
     table
 };
 
-/// A line of right form. Its cells are in the reader, the first `middle` of them the middle's.
-pub struct Line<'b> {
-    pub start: usize,
-    pub identifier: &'b [u8],
-    pub indicator: Cell,
-    pub context: Context,
-    pub kind: Kind,
-    pub middle: usize,
-}
-
 pub struct Reader<'b> {
     book: &'b [u8],
     at: usize,
+    limit: usize,
     cells: Vec<Cell>,
+    /// The current middle or category, whose length is that of the cells from `begin` on.
+    part: Part,
+    begin: usize,
     /// The bound names around the current place, outermost first.
     bound: Vec<&'b [u8]>,
     /// The leftmost refusal of a name or argument count, and the place of that name.
@@ -46,8 +41,9 @@ struct Scope<'s, 'b> {
 }
 
 impl<'b> Reader<'b> {
-    pub fn new(book: &'b [u8]) -> Self {
-        Reader { book, at: 0, cells: Vec::new(), bound: Vec::with_capacity(NESTING), refused: None }
+    pub fn new(book: &'b [u8], limit: usize) -> Self {
+        let (cells, bound) = (Vec::new(), Vec::with_capacity(NESTING));
+        Reader { book, at: 0, limit, cells, part: Part::default(), begin: 0, bound, refused: None }
     }
 
     pub fn at_end(&self) -> bool {
@@ -65,6 +61,7 @@ impl<'b> Reader<'b> {
     /// Reads a line. A refusal of its indicator is given too; later ones are left to the caller, in their order.
     pub fn line(&mut self, lines: &mut Lines, names: &Names<'b>) -> Result<Line<'b>, Refusal> {
         self.cells.clear();
+        self.begin = 0;
         self.bound.clear();
         self.refused = None;
 
@@ -88,16 +85,26 @@ impl<'b> Reader<'b> {
         self.at += 1;
 
         let kind = self.middle(&scope)?;
-        let middle = self.cells.len();
+        let middle = self.end_part();
         self.symbol(b':')?;
         self.category(&scope)?;
+        let category = self.end_part();
         self.spaces();
         if self.at_end() {
             return Err(Refusal::Malformed);
         }
         self.symbol(b'\n')?;
         let indicator = meant.ok_or(Refusal::UnknownName)?;
-        Ok(Line { start, identifier, indicator, context, kind, middle })
+        Ok(Line { start, identifier, indicator, context, kind, middle, category })
+    }
+
+    /// The part that was read; the next begins.
+    fn end_part(&mut self) -> Part {
+        let mut part = std::mem::take(&mut self.part);
+        part.length = self.cells.len() - self.begin;
+        part.too_large |= part.length > self.limit;
+        self.begin = self.cells.len();
+        part
     }
 
     fn middle(&mut self, scope: &Scope<'_, 'b>) -> Result<Kind, Refusal> {
@@ -178,6 +185,7 @@ impl<'b> Reader<'b> {
             }
         };
         self.cells.push(cell);
+        let arguments = self.cells.len();
         self.spaces();
         let mut found = 0;
         if self.peek() == b'(' {
@@ -195,9 +203,34 @@ impl<'b> Reader<'b> {
             self.at += 1;
         }
         if found != wanted {
-            self.refuse(start, Refusal::WrongArity);
+            if found < wanted && cell != cells::TYPE {
+                self.complete(scope, start, cells::value(cell), arguments, found, depth);
+            } else {
+                self.refuse(start, Refusal::WrongArity);
+            }
         }
         Ok(())
+    }
+
+    /// Puts in front of a constant's arguments, which begin at `arguments`, the first variables of its context, as many as
+    /// are left out. They must be the first of the line's own context: one line at the last of these places is enough.
+    #[inline(never)]
+    fn complete(
+        &mut self, scope: &Scope<'_, 'b>, start: usize, constant: Cell, arguments: usize, found: usize, depth: usize,
+    ) {
+        let variables = scope.lines.variables(constant);
+        let missing = &variables[..variables.len() - found];
+        if !scope.lines.in_context(scope.context, missing[missing.len() - 1]) {
+            self.refuse(start, Refusal::WrongArity);
+            return;
+        }
+        let fits = self.cells.len() - self.begin + missing.len() <= self.limit;
+        self.part.too_deep |= depth == NESTING;
+        self.part.too_large |= !fits;
+        if fits {
+            self.cells.splice(arguments..arguments, missing.iter().map(|&v| cells::cell(cells::VARIABLE, v)));
+            self.part.put_in += missing.len();
+        }
     }
 
     /// The cell of a name and how many arguments it takes.

@@ -1,8 +1,9 @@
 //! Calls with the same limits and stores, and what they leave in every cell.
 
+use crate::baseline::{self, Notes};
 use crate::random::Random;
-use crate::sizes::{Cell, CODES, LARGEST_LIMIT, MOST_BYTES, MOST_LINES, ROW_WIDTH, SMALLEST_LIMIT, WORK_UNITS};
-use crate::{baseline, verified, Outcome};
+use crate::sizes::{Cell, CODES, LARGEST_LIMIT, ROW_WIDTH, SMALLEST_LIMIT, WORK_UNITS};
+use crate::{verified, Outcome};
 
 const USUAL_LIMIT: u32 = 256;
 const MOST_SHOWN: usize = 5;
@@ -18,29 +19,14 @@ pub struct Call {
 }
 
 impl Call {
-    /// Stores in which the book fits, and all the budget.
+    /// Stores in which the book fits when completed, and all the budget.
     fn ample(book: &[u8], limit: u32) -> Call {
         let lines = book.iter().filter(|&&b| b == b'\n').count() + 1;
-        Call { budget: u32::MAX, limit, table: ROW_WIDTH * lines, terms: book.len() + 1, work: WORK_UNITS * limit as usize }
+        let variables = book.windows(2).filter(|w| w == b"EB").count();
+        let largest = 2 * limit.min(LARGEST_LIMIT) as usize;
+        let terms = (book.len() * (1 + variables)).min(lines * largest) + 1;
+        Call { budget: u32::MAX, limit, table: ROW_WIDTH * lines, terms, work: WORK_UNITS * limit as usize }
     }
-}
-
-/// Books at the largest sizes.
-pub fn largest() -> Vec<(Vec<u8>, Call)> {
-    let call = Call { budget: 9, limit: SMALLEST_LIMIT, table: ROW_WIDTH * (MOST_LINES + 2), terms: MOST_LINES + 2, work: 2_050 };
-    let lines = |count: usize| -> Vec<u8> { (0..count).flat_map(|i| format!("*n{i}:=PN:type\n").into_bytes()).collect() };
-    let with = |line: &str| [&lines(MOST_LINES)[..], line.as_bytes()].concat();
-    let mut books = vec![lines(MOST_LINES - 1), lines(MOST_LINES), lines(MOST_LINES + 1)];
-    for last in ["*a:=PN:b\n", "*n7:=PN:type\n", "*a:=n0(n1):type\n", "*a:=n0:n1\n", "*a:=PN:type", "a*b:=PN:type\n"] {
-        books.push(with(last));
-    }
-    for bytes in [MOST_BYTES - 1, MOST_BYTES, MOST_BYTES + 1] {
-        let mut book = vec![b' '; bytes];
-        let line = b"*a:=PN:type\n";
-        book[bytes - line.len()..].copy_from_slice(line);
-        books.push(book);
-    }
-    books.into_iter().map(|book| (book, call)).collect()
 }
 
 #[derive(Default)]
@@ -86,13 +72,17 @@ pub struct Comparison {
     ours: Stores,
     theirs: Stores,
     codes: [usize; CODES],
+    /// Books with variables put in, with 10 for a completed size alone, for a completed nesting alone, with 5 or 6 ahead
+    /// of such a 10.
+    completed: [usize; 4],
     steps: u64,
     differences: usize,
 }
 
 impl Comparison {
     pub fn new() -> Self {
-        Comparison { ours: Stores::default(), theirs: Stores::default(), codes: [0; CODES], steps: 0, differences: 0 }
+        let (ours, theirs) = (Stores::default(), Stores::default());
+        Comparison { ours, theirs, codes: [0; CODES], completed: [0; 4], steps: 0, differences: 0 }
     }
 
     /// Limits and store lengths for a book, often where it just fits or just does not.
@@ -154,16 +144,21 @@ impl Comparison {
     }
 
     fn probe(&mut self, book: &[u8], call: &Call) -> Outcome {
+        self.noted(book, call).0
+    }
+
+    fn noted(&mut self, book: &[u8], call: &Call) -> (Outcome, Notes) {
         self.theirs.prepare(call);
         let Stores { table, terms, work } = &mut self.theirs;
-        baseline::check(book, call.budget, call.limit, table, terms, work)
+        let mut notes = Notes::default();
+        (baseline::check_noting(book, call.budget, call.limit, table, terms, work, &mut notes), notes)
     }
 
     pub fn compare(&mut self, book: &[u8], call: &Call) {
         self.ours.prepare(call);
         let Stores { table, terms, work } = &mut self.ours;
         let ours = verified::check(book, call.budget, call.limit, table, terms, work);
-        let theirs = self.probe(book, call);
+        let (theirs, notes) = self.noted(book, call);
         let alike = self.ours.table == self.theirs.table && self.ours.terms == self.theirs.terms && self.ours.work == self.theirs.work;
         if ours != theirs || !alike || !self.theirs.left_alone(call, &theirs) {
             self.differences += 1;
@@ -174,14 +169,19 @@ impl Comparison {
         }
         self.codes[theirs.code as usize] += 1;
         self.steps += theirs.steps;
+        let met = [notes.put_in > 0, notes.only_completed_size, notes.only_completed_nesting, notes.ahead_of_size];
+        met.iter().zip(&mut self.completed).for_each(|(met, count)| *count += usize::from(*met));
     }
 
-    /// Prints the counts; true if there was no difference and each code was met.
+    /// Prints the counts; true if there was no difference and each code and each situation of completed lines was met.
     pub fn report(&self) -> bool {
         for (code, count) in self.codes.iter().enumerate() {
             println!("code {code:>2}: {count:>7}");
         }
+        let [put_in, size, nesting, ahead] = self.completed;
+        println!("arguments put in: {put_in} books");
+        println!("10 on the completed form alone: {size} for its size, {nesting} for its nesting; 5 or 6 ahead of 10: {ahead}");
         println!("{} head steps, {} differences", self.steps, self.differences);
-        self.differences == 0 && self.codes.iter().all(|&count| count > 0)
+        self.differences == 0 && self.codes.iter().chain(&self.completed).all(|&count| count > 0)
     }
 }

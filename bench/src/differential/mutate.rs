@@ -69,13 +69,12 @@ fn symbol(random: &mut Random, book: &mut Vec<u8>) {
     }
     let at = *random.choose(&names);
     let other = all[*random.choose(&names)].clone();
-    match random.below(13) {
+    match random.below(16) {
         0..=3 => all[at] = other,
         4 => drop_argument(random, &mut all),
         5 => {
             all.insert(at, [other, b",".to_vec()].concat());
         }
-        12 => all[at] = [b"<", &all[at][..], b">", &other].concat(),
         6 => all[at] = [b"<", &all[at][..], b">[x,", &other, b"]x"].concat(),
         7 => all[at] = [b"[x,", &other[..], b"]", &all[at]].concat(),
         8 => all[at] = random.choose(&WORDS).as_bytes().to_vec(),
@@ -86,6 +85,8 @@ fn symbol(random: &mut Random, book: &mut Vec<u8>) {
             let old = all[at].clone();
             all.iter_mut().filter(|s| **s == old).for_each(|s| *s = long.clone());
         }
+        12 => all[at] = [b"<", &all[at][..], b">", &other].concat(),
+        13..=15 => leave_out(random, &mut all),
         _ => {
             for _ in 0..random.between(1, 8) {
                 let place = random.below(all.len() + 1);
@@ -103,6 +104,36 @@ fn drop_argument(random: &mut Random, all: &mut Vec<Vec<u8>>) {
         let comma = *random.choose(&commas);
         all.drain(comma - 1..=comma);
     }
+}
+
+/// Takes the first arguments of a constant out, whatever they are; with the last of them the parentheses.
+fn leave_out(random: &mut Random, all: &mut Vec<Vec<u8>>) {
+    let open: Vec<usize> = (0..all.len()).filter(|&i| all[i] == b"(").collect();
+    if open.is_empty() {
+        return;
+    }
+    let start = *random.choose(&open);
+    let mut ends = Vec::new();
+    let mut depth = 0;
+    for at in start..all.len() {
+        match &all[at][..] {
+            b"(" | b"[" => depth += 1,
+            b")" | b"]" => depth -= 1,
+            _ => {}
+        }
+        if depth == 0 {
+            ends.push(at);
+            break;
+        }
+        if depth == 1 && all[at] == b"," {
+            ends.push(at);
+        }
+    }
+    let Some(&last) = ends.last() else { return };
+    match *random.choose(&ends) {
+        end if end == last => all.drain(start..=last),
+        end => all.drain(start + 1..=end),
+    };
 }
 
 /// Nests an expression about as deep as is allowed.
@@ -131,7 +162,7 @@ fn line(random: &mut Random, book: &mut Vec<u8>) {
         return;
     }
     let (a, b) = (random.below(all.len()), random.below(all.len()));
-    match random.below(10) {
+    match random.below(12) {
         0 => all.swap(a, b),
         1 => {
             all.insert(b, all[a].clone());
@@ -147,7 +178,8 @@ fn line(random: &mut Random, book: &mut Vec<u8>) {
         5 => graft(&mut all, a, b, true),
         6 => all[a] = parts(&all[a]).map_or(all[a].clone(), |(head, middle, _)| [head, middle, b":type\n"].concat()),
         7 => all[a] = parts(&all[a]).map_or(all[a].clone(), |(head, _, category)| [head, b"PN:", category].concat()),
-        8 => exchange_neighbours(random, &mut all),
+        8..=9 => exchange_neighbours(random, &mut all),
+        10 => take_indicator(&mut all, a, b),
         _ => shuffle(random, &mut all),
     }
     *book = all.concat();
@@ -174,6 +206,14 @@ fn parts(line: &[u8]) -> Option<(&[u8], &[u8], &[u8])> {
     let middle = line.windows(2).position(|w| w == b":=")? + 2;
     let colon = middle + line[middle..].iter().position(|&b| b == b':')?;
     Some((&line[..middle], &line[middle..colon], &line[colon + 1..]))
+}
+
+/// Gives one line the indicator of another.
+fn take_indicator(all: &mut [Vec<u8>], to: usize, from: usize) {
+    let star = |line: &[u8]| line.iter().position(|&b| b == b'*');
+    if let (Some(old), Some(new)) = (star(&all[to]), star(&all[from])) {
+        all[to] = [&all[from][..new], &all[to][old..]].concat();
+    }
 }
 
 /// Gives one line the middle or the category of another.

@@ -1,7 +1,6 @@
-//! The lines of a random book: categories and normal forms of their expressions, and the book's text.
+//! The lines of a random book: categories and normal forms of their expressions.
 
 use super::trees::{abstraction, application, Tree};
-use crate::random::Random;
 
 pub enum Kind {
     Variable,
@@ -74,62 +73,5 @@ impl Theory {
             Tree::Abstraction(a, b) => abstraction(self.normal_within(a, fuel)?, self.normal_within(b, fuel)?),
             _ => tree.clone(),
         })
-    }
-
-    pub fn text(&self, random: &mut Random) -> String {
-        let mut text = String::new();
-        for line in &self.lines {
-            let indicator = line.context.last().map_or("", |&v| self.lines[v].name.as_str());
-            text.push_str(&format!("{indicator}*{}:=", line.name));
-            match &line.kind {
-                Kind::Variable => text.push_str("EB"),
-                Kind::Primitive => text.push_str("PN"),
-                Kind::Abbreviation(middle) => self.write(random, middle, &mut Vec::new(), &mut text),
-            }
-            text.push(':');
-            self.write(random, &line.category, &mut Vec::new(), &mut text);
-            text.push('\n');
-        }
-        text
-    }
-
-    /// A bound name sometimes hides another, and the book may then be wrong.
-    fn write(&self, random: &mut Random, tree: &Tree, bound: &mut Vec<String>, text: &mut String) {
-        match tree {
-            Tree::Type => text.push_str("type"),
-            Tree::Variable(line) => text.push_str(&self.lines[*line].name),
-            Tree::Bound(i) => text.push_str(&bound[bound.len() - 1 - i]),
-            Tree::Constant(line, arguments) => {
-                text.push_str(&self.lines[*line].name);
-                let mut before = '(';
-                for argument in arguments {
-                    text.push(before);
-                    self.write(random, argument, bound, text);
-                    before = ',';
-                }
-                if before == ',' {
-                    text.push(')');
-                }
-            }
-            Tree::Application(a, b) => {
-                text.push('<');
-                self.write(random, a, bound, text);
-                text.push('>');
-                self.write(random, b, bound, text);
-            }
-            Tree::Abstraction(a, b) => {
-                let name = match random.below(12) {
-                    0 => random.choose(&self.lines).name.clone(),
-                    1 => "x".to_string(),
-                    _ => format!("z{}", bound.len()),
-                };
-                text.push_str(&format!("[{name},"));
-                self.write(random, a, bound, text);
-                text.push(']');
-                bound.push(name);
-                self.write(random, b, bound, text);
-                bound.pop();
-            }
-        }
     }
 }

@@ -1,5 +1,6 @@
 //! Random books that are mostly correct: each expression is made for the category that is wanted.
 
+use super::text;
 use super::theory::{Kind, Line, Theory};
 use super::trees::{abstraction, application, Tree};
 use crate::random::Random;
@@ -21,7 +22,7 @@ pub fn book(random: &mut Random, lines: usize) -> Vec<u8> {
     while book.theory.lines.len() < lines {
         book.line();
     }
-    book.theory.text(book.random).into_bytes()
+    text::text(&book.theory, book.random).into_bytes()
 }
 
 impl Typed<'_> {
@@ -136,7 +137,8 @@ impl Typed<'_> {
         if found.is_empty() { None } else { Some(self.random.choose(&found).clone()) }
     }
 
-    /// A constant with arguments: those that the wanted category shows, and others made for theirs.
+    /// A constant with arguments: those that the wanted category shows, and others made for theirs; often the first are
+    /// the variables that its context has in common with the line's.
     fn constant(&mut self, scope: &mut Scope, wanted: &Tree, depth: usize) -> Option<Tree> {
         for _ in 0..6 {
             let line = self.random.below(self.theory.lines.len());
@@ -155,10 +157,17 @@ impl Typed<'_> {
         let (context, category) = (l.context.clone(), l.category.clone());
         let mut shown = vec![None; context.len()];
         wanted.matches(&self.theory.normal(&category)?, &context, &mut shown);
+        let common = context.iter().zip(&scope.context).take_while(|(a, b)| a == b).count();
+        let mut kept = if self.random.below(3) < 2 { common } else { 0 };
         let mut arguments = Vec::new();
         for (place, shown) in shown.into_iter().enumerate() {
+            let own = Tree::Variable(context[place]);
+            if shown.as_ref().is_some_and(|argument| *argument != own) {
+                kept = kept.min(place);
+            }
             let argument = match shown {
                 Some(argument) => argument,
+                None if place < kept => own,
                 None => {
                     let needed = self.theory.lines[context[place]].category.instantiate(&context, &arguments);
                     let needed = self.theory.normal(&needed)?;

@@ -60,9 +60,9 @@ pub fn part(writer: &mut Writer, random: &mut Random, part: usize) {
         writer.line(&format!("{indicator}*{constant}:=PN:{number}"));
         constants.push(constant);
     }
-    for _ in 0..50 {
+    for line in 0..50 {
         let name = names.fresh(random);
-        let applied = applied(random, &context, &constants, &reflexive);
+        let applied = applied(random, &context, &constants, &reflexive, left_out(line, context.names.len()));
         if random.once_in(4) {
             writer.line(&format!("{indicator}*{name}:={reflexive}({applied}):{equal}({applied},{applied})"));
         } else {
@@ -96,8 +96,19 @@ fn context(writer: &mut Writer, random: &mut Random, names: &mut Names, number: 
     context
 }
 
-/// A constant with all its arguments: each group of connected numbers stays as it is, or becomes one expression.
-fn applied(random: &mut Random, context: &Context, constants: &[String], reflexive: &str) -> String {
+/// How many arguments a line leaves out: each fourth line all, half or three quarters of them by turns, the others none.
+fn left_out(line: usize, width: usize) -> usize {
+    match line % 12 {
+        3 => width,
+        7 => width / 2,
+        11 => width * 3 / 4,
+        _ => 0,
+    }
+}
+
+/// A constant with its arguments: each group of connected numbers stays as it is, or becomes one expression. The first
+/// `left_out` stay and are not written.
+fn applied(random: &mut Random, context: &Context, constants: &[String], reflexive: &str, left_out: usize) -> String {
     let width = context.names.len();
     let mut becomes: Vec<Option<String>> = vec![None; width];
     let mut nested = false;
@@ -113,7 +124,10 @@ fn applied(random: &mut Random, context: &Context, constants: &[String], reflexi
             context.names[random.below(FIRST_NUMBERS)].clone()
         });
     }
-    let arguments: Vec<String> = (0..width)
+    for place in 0..left_out {
+        becomes[context.groups[place]] = None;
+    }
+    let arguments: Vec<String> = (left_out..width)
         .map(|place| match context.variables[place] {
             Variable::Number => becomes[context.groups[place]].clone().unwrap_or(context.names[place].clone()),
             Variable::Equal(a) => match &becomes[context.groups[a]] {
@@ -122,5 +136,6 @@ fn applied(random: &mut Random, context: &Context, constants: &[String], reflexi
             },
         })
         .collect();
-    format!("{}({})", random.choose(constants), arguments.join(","))
+    let constant = random.choose(constants);
+    if arguments.is_empty() { constant.clone() } else { format!("{constant}({})", arguments.join(",")) }
 }

@@ -3,20 +3,20 @@
 use super::Writer;
 use crate::random::Random;
 
-/// Equality, numbers, implication, induction.
+/// Equality, numbers, implication, induction. Some lines leave out the variables of their block.
 const THEORY: &str = "
     *nat@:=PN:type
     *x@:=EB:nat@
     x@*y@:=EB:nat@
     y@*is@:=PN:type
     x@*refl@:=PN:is@(x@,x@)
-    y@*u@:=EB:is@(x@,y@)
+    y@*u@:=EB:is@
     u@*z@:=EB:nat@
     z@*v@:=EB:is@(z@,y@)
     v@*eucl@:=PN:is@(z@,x@)
-    u@*sym@:=eucl@(x@,y@,u@,y@,refl@(y@)):is@(y@,x@)
+    u@*sym@:=eucl@(y@,refl@(y@)):is@(y@,x@)
     z@*w@:=EB:is@(y@,z@)
-    w@*trans@:=sym@(z@,x@,eucl@(x@,y@,u@,z@,sym@(y@,z@,w@))):is@(x@,z@)
+    w@*trans@:=sym@(z@,x@,eucl@(sym@(y@,z@,w@))):is@(z@)
     *one@:=PN:nat@
     x@*suc@:=PN:nat@
     u@*sucis@:=PN:is@(suc@(x@),suc@(y@))
@@ -25,7 +25,7 @@ const THEORY: &str = "
     *four@:=suc@(three@):nat@
     y@*plus@:=PN:nat@
     x@*plusone@:=PN:is@(plus@(x@,one@),suc@(x@))
-    y@*plussuc@:=PN:is@(plus@(x@,suc@(y@)),suc@(plus@(x@,y@)))
+    y@*plussuc@:=PN:is@(plus@(suc@(y@)),suc@(plus@))
     *onepone@:=plusone@(one@):is@(plus@(one@,one@),two@)
     *twopone@:=plusone@(two@):is@(plus@(two@,one@),three@)
     *threepone@:=plusone@(three@):is@(plus@(three@,one@),four@)
@@ -37,14 +37,14 @@ const THEORY: &str = "
     p@*q@:=EB:prop@
     q@*imp@:=PN:prop@
     q@*given@:=EB:[a,proof@(p@)]proof@(q@)
-    given@*impi@:=PN:proof@(imp@(p@,q@))
-    q@*i@:=EB:proof@(imp@(p@,q@))
-    i@*a@:=EB:proof@(p@)
+    given@*impi@:=PN:proof@(imp@)
+    q@*i@:=EB:proof@(imp@)
+    i@*a@:=EB:proof@
     a@*mp@:=PN:proof@(q@)
-    p@*impself@:=impi@(p@,p@,[a,proof@(p@)]a):proof@(imp@(p@,p@))
+    p@*impself@:=impi@(p@,[a,proof@]a):proof@(imp@(p@))
     i@*r@:=EB:prop@
     r@*j@:=EB:proof@(imp@(q@,r@))
-    j@*syll@:=impi@(p@,r@,[a,proof@(p@)]mp@(q@,r@,j@,mp@(p@,q@,i@,a))):proof@(imp@(p@,r@))
+    j@*syll@:=impi@(r@,[a,proof@]mp@(q@,r@,j@,mp@(a))):proof@(imp@(r@))
     q@*const@:=impi@(p@,imp@(q@,p@),[a,proof@(p@)]impi@(q@,p@,[b,proof@(q@)]a)):proof@(imp@(p@,imp@(q@,p@)))
     *con@:=PN:prop@
     p@*not@:=imp@(p@,con@):prop@
@@ -54,22 +54,22 @@ const THEORY: &str = "
     P@*all@:=PN:prop@
     P@*each@:=EB:[a,nat@]proof@(<a>P@)
     each@*alli@:=PN:proof@(all@(P@))
-    P@*every@:=EB:proof@(all@(P@))
+    P@*every@:=EB:proof@(all@)
     every@*t@:=EB:nat@
     t@*alle@:=PN:proof@(<t@>P@)
     P@*base@:=EB:proof@(<one@>P@)
     base@*m@:=EB:nat@
     m@*hered@:=[b,proof@(<m@>P@)]proof@(<suc@(m@)>P@):type
-    base@*step@:=EB:[a,nat@]hered@(P@,base@,a)
+    base@*step@:=EB:[a,nat@]hered@(a)
     step@*ind@:=PN:proof@(all@(P@))
     y@*eq@:=PN:prop@
     x@*eqrefl@:=PN:proof@(eq@(x@,x@))
-    y@*e@:=EB:proof@(eq@(x@,y@))
+    y@*e@:=EB:proof@(eq@)
     e@*eqsuc@:=PN:proof@(eq@(suc@(x@),suc@(y@)))
     e@*K@:=EB:[a,nat@]prop@
     K@*k@:=EB:proof@(<x@>K@)
     k@*eqsub@:=PN:proof@(<y@>K@)
-    e@*eqsym@:=eqsub@(x@,y@,e@,[a,nat@]eq@(a,x@),eqrefl@(x@)):proof@(eq@(y@,x@))
+    e@*eqsym@:=eqsub@([a,nat@]eq@(a,x@),eqrefl@):proof@(eq@(y@,x@))
     *allrefl@:=alli@([a,nat@]eq@(a,a),[a,nat@]eqrefl@(a)):proof@(all@([a,nat@]eq@(a,a)))
     *indrefl@:=ind@([a,nat@]eq@(a,a),eqrefl@(one@),[a,nat@][b,proof@(eq@(a,a))]eqsuc@(a,a,b)):proof@(all@([a,nat@]eq@(a,a)))
     x@*usesrefl@:=alle@([a,nat@]eq@(a,a),indrefl@,x@):proof@(eq@(x@,x@))
@@ -80,8 +80,12 @@ const THEORY: &str = "
     *p1@:=eqrefl@(<one@>plusfour@):proof@(eq@(<one@>plusfour@,plus@(plus@(one@,two@),two@)))
 ";
 
-/// The five variables of the lemmas about equality prove `is` of the first and second, and of the second and third.
+/// The block of the lemmas about equality: u proves `is` of x and y, w of y and z.
+const BLOCK: [&str; 5] = ["x", "y", "u", "z", "w"];
 const POINTS: [&str; 3] = ["x", "y", "z"];
+
+/// Each lemma of this number leaves out the variables of its block where it may.
+const LEAVES_OUT: usize = 3;
 
 /// A lemma in the context x, y, u, z, w: which points it proves equal.
 struct Lemma {
@@ -104,9 +108,12 @@ fn lemmas(writer: &mut Writer, random: &mut Random, of: &str, prefix: &str, coun
         let (left, right) = (random.below(3), random.below(3));
         let points = POINTS.map(|p| format!("{p}{of}"));
         let depth = random.between(1, 3);
-        let proof = Prover { of, known: &known }.proof(random, [&points[0], &points[1], &points[2]], left, right, depth);
+        let prover = Prover { of, known: &known, leaves_out: number % LEAVES_OUT == LEAVES_OUT - 1 };
+        let points = [points[0].as_str(), &points[1], &points[2]];
+        let proof = prover.proof(random, points, left, right, depth);
         let name = format!("{prefix}_{number}");
-        writer.line(&format!("w{of}*{name}:={proof}:is{of}({},{})", points[left], points[right]));
+        let equal = prover.applied("is", &[points[left], points[right]]);
+        writer.line(&format!("w{of}*{name}:={proof}:{equal}"));
         known.push(Lemma { name, left, right });
     }
 }
@@ -114,12 +121,23 @@ fn lemmas(writer: &mut Writer, random: &mut Random, of: &str, prefix: &str, coun
 struct Prover<'p> {
     of: &'p str,
     known: &'p [Lemma],
+    leaves_out: bool,
 }
 
 impl Prover<'_> {
+    /// A notion of the copy with these arguments; its context begins with the block's variables.
+    fn applied(&self, notion: &str, arguments: &[&str]) -> String {
+        self.named(&format!("{notion}{}", self.of), arguments)
+    }
+
+    fn named(&self, name: &str, arguments: &[&str]) -> String {
+        let same = arguments.iter().zip(BLOCK).take_while(|&(a, b)| a.strip_suffix(self.of) == Some(b)).count();
+        let written = &arguments[if self.leaves_out { same } else { 0 }..];
+        if written.is_empty() { name.to_string() } else { format!("{name}({})", written.join(",")) }
+    }
+
     /// A proof that two of the points are equal.
     fn proof(&self, random: &mut Random, points: [&str; 3], left: usize, right: usize, depth: usize) -> String {
-        let of = self.of;
         let (a, b) = (points[left], points[right]);
         if depth == 0 {
             return self.shortest(points, left, right);
@@ -127,7 +145,7 @@ impl Prover<'_> {
         match random.below(4) {
             0 => {
                 let back = self.proof(random, points, right, left, depth - 1);
-                format!("sym{of}({b},{a},{back})")
+                self.applied("sym", &[b, a, &back])
             }
             1 if !self.known.is_empty() => {
                 let lemma = random.choose(self.known);
@@ -137,12 +155,12 @@ impl Prover<'_> {
                 let via = random.below(3);
                 let to = self.proof(random, points, left, via, depth - 1);
                 let from = self.proof(random, points, via, right, depth - 1);
-                format!("trans{of}({a},{},{to},{b},{from})", points[via])
+                self.applied("trans", &[a, points[via], &to, b, &from])
             }
         }
     }
 
-    /// An application of an earlier lemma, with all arguments.
+    /// An application of an earlier lemma.
     fn used(&self, random: &mut Random, points: [&str; 3], left: usize, right: usize, lemma: &Lemma, depth: usize) -> String {
         if lemma.left == lemma.right && left != right {
             return self.shortest(points, left, right);
@@ -152,20 +170,20 @@ impl Prover<'_> {
         at[lemma.right] = right;
         let u = self.proof(random, points, at[0], at[1], depth - 1);
         let w = self.proof(random, points, at[1], at[2], depth - 1);
-        format!("{}({},{},{u},{},{w})", lemma.name, points[at[0]], points[at[1]], points[at[2]])
+        self.named(&lemma.name, &[points[at[0]], points[at[1]], &u, points[at[2]], &w])
     }
 
     fn shortest(&self, points: [&str; 3], left: usize, right: usize) -> String {
-        let of = self.of;
         let [x, y, z] = points;
+        let (u, w) = (format!("u{}", self.of), format!("w{}", self.of));
         match (left, right) {
-            (0, 1) => format!("u{of}"),
-            (1, 2) => format!("w{of}"),
-            (1, 0) => format!("sym{of}({x},{y},u{of})"),
-            (2, 1) => format!("sym{of}({y},{z},w{of})"),
-            (0, 2) => format!("trans{of}({x},{y},u{of},{z},w{of})"),
-            (2, 0) => format!("sym{of}({x},{z},trans{of}({x},{y},u{of},{z},w{of}))"),
-            _ => format!("refl{of}({})", points[left]),
+            (0, 1) => u,
+            (1, 2) => w,
+            (1, 0) => self.applied("sym", &[x, y, &u]),
+            (2, 1) => self.applied("sym", &[y, z, &w]),
+            (0, 2) => self.applied("trans", &[x, y, &u, z, &w]),
+            (2, 0) => self.applied("sym", &[x, z, &self.applied("trans", &[x, y, &u, z, &w])]),
+            _ => self.applied("refl", &[points[left]]),
         }
     }
 }
