@@ -5,10 +5,12 @@ use Prim.Native.Char.{code}
 use mathlib.Core.Bool.{Bool, true, false, _&&_}
 use mathlib.Core.List.{List, [], _∷_}
 use lib.Dec.{eqb}
+use lib.ListN.{length}
 use Rattle.aut68.specs.Language.{Language}
 use Rattle.aut68.specs.Stores.{Limits}
 use Rattle.aut68.specs.Lines.{tableOf, termsOf}
-use Rattle.aut68.specs.Procedure.Run.{run, codeAt, lineAt, stepsAt, recordedAt}
+use Rattle.aut68.specs.Procedure.Answer.{codeOf}
+use Rattle.aut68.specs.Procedure.Run.{run, Ending, turnedAway, accepted, refusedAt, recordedAt}
 
 -- the bytes of a text
 unfoldable pub bytesOf : String → List ℕ
@@ -24,10 +26,14 @@ pub record Case : Type 0 where
   pub endLine : ℕ
   pub endSteps : ℕ
 
+-- the ending has the outcome of the case (a run is handed over, so that it is computed once)
+unfoldable pub endsAs : Ending → Case → Bool
+endsAs (turnedAway r) c = eqb (codeOf r) (c .endCode) && eqb 0 (c .endLine) && eqb 0 (c .endSteps)
+endsAs (accepted steps k) c = eqb 0 (c .endCode) && eqb (length (k .recorded)) (c .endLine) && eqb steps (c .endSteps)
+endsAs (refusedAt r line steps k) c = eqb (codeOf r) (c .endCode) && eqb line (c .endLine) && eqb steps (c .endSteps)
+
 unfoldable pub holds : Case → Bool
-holds c =
-    let e = run (c .language) (c .book) (c .limits) in
-    eqb (codeAt e) (c .endCode) && eqb (lineAt e) (c .endLine) && eqb (stepsAt e) (c .endSteps)
+holds c = endsAs (run (c .language) (c .book) (c .limits)) c
 
 unfoldable pub allHold : List Case → Bool
 allHold [] = true
@@ -43,10 +49,13 @@ sameNumbers [] (y ∷ ys) = false
 sameNumbers (x ∷ xs) [] = false
 sameNumbers (x ∷ xs) (y ∷ ys) = elim (eqb x y) [ true ↦ sameNumbers xs ys | false ↦ false ]
 
+unfoldable pub keepsAs : Ending → Kept → Bool
+keepsAs e (kept c rows cells) =
+    let r = recordedAt e in
+    endsAs e c && sameNumbers (tableOf (r .firsts) (r .recorded)) rows && sameNumbers (termsOf (r .recorded)) cells
+
 unfoldable pub keeps : Kept → Bool
-keeps (kept c rows cells) =
-    let r = recordedAt (run (c .language) (c .book) (c .limits)) in
-    holds c && sameNumbers (tableOf (r .firsts) (r .recorded)) rows && sameNumbers (termsOf (r .recorded)) cells
+keeps (kept c rows cells) = keepsAs (run (c .language) (c .book) (c .limits)) (kept c rows cells)
 
 unfoldable pub allKeep : List Kept → Bool
 allKeep [] = true

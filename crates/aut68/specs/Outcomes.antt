@@ -20,7 +20,7 @@ use Rattle.aut68.specs.Procedure.Compare
 use Rattle.aut68.specs.Procedure.Category
 use Rattle.aut68.specs.Procedure.CheckLine
 use Rattle.aut68.specs.Procedure.Run
-use Rattle.aut68.specs.Cases.{Case, bytesOf, holds, allHold, sameNumbers, keeps, allKeep, under, within, usual}
+use Rattle.aut68.specs.Cases.{Case, bytesOf, endsAs, holds, allHold, sameNumbers, keepsAs, keeps, allKeep, under, within, usual}
 use Rattle.aut68.specs.Omitted.{sums, sumRows, sumCells, omittedArguments}
 use Rattle.aut68.specs.ExamplesQE.{naturals, families, examplesQE}
 
@@ -159,7 +159,7 @@ numberLines =
 -- ---- the tables, computed
 
 computed : (allHold (tableRows ++ fourOutcomes) ≡ true) × (allHold (misreadings ++ procedureOrder) ≡ true) × (allHold examplesQE ≡ true) × (allKeep omittedArguments ≡ true) × (Run.recordedAt (Run.run aut68 numbers (record { budget = 0; limit = 16; table = 24; terms = 8; work = 2048 })) .recorded ≡ numberLines)
-unfolding numbers numberLines allHold holds sameNumbers keeps allKeep under within usual sums sumRows sumCells omittedArguments naturals families examplesQE sample longer tableRows fourOutcomes selfNamed swapped renumbered stepsRemain misreadings equality pairs repeated nested deep procedureOrder bytesOf
+unfolding numbers numberLines allHold endsAs holds sameNumbers keepsAs keeps allKeep under within usual sums sumRows sumCells omittedArguments naturals families examplesQE sample longer tableRows fourOutcomes selfNamed swapped renumbered stepsRemain misreadings equality pairs repeated nested deep procedureOrder bytesOf
     Answer.codeOf Answer.andThen Answer.when Answer.ensure Answer.aside
     Bytes.nameByte Bytes.opensExpression Bytes.sameBytes Bytes.wordType Bytes.wordPN Bytes.wordEB Bytes.wordProp Bytes.reserved Bytes.onto Bytes.lines
     Source.countSrcs
@@ -172,7 +172,7 @@ unfolding numbers numberLines allHold holds sameNumbers keeps allKeep under with
     Compare.choose Compare.next Compare.each Compare.endsAs Compare.hasSurplus Compare.compareParts Compare.sides Compare.compareAt Compare.compare
     Category.nth Category.theLine Category.made Category.headForm Category.parts Category.toFunction Category.servesAsType Category.opens Category.secondChance Category.categoryAt Category.searches Category.category
     CheckLine.withinLimits CheckLine.middleWithinLimits CheckLine.readLine CheckLine.room CheckLine.store CheckLine.checkDomain CheckLine.checkSupertype CheckLine.checkWritten CheckLine.checkMiddle CheckLine.checkCategories CheckLine.checkLine
-    Run.codeAt Run.lineAt Run.stepsAt Run.recordedAt Run.over Run.tableEnd Run.termsEnd Run.workEnd Run.oneMore Run.checkLines Run.nothing Run.run
+    Run.recordedAt Run.over Run.tableEnd Run.termsEnd Run.workEnd Run.oneMore Run.checkLines Run.nothing Run.run
 computed = (refl, refl, refl, refl, refl)
 
 pub outcomes : allHold (tableRows ++ fourOutcomes) ≡ true

@@ -20,7 +20,7 @@ use Rattle.meanings.proofs.NotedLaws.{at-length}
 use Rattle.completion.specs.Posts.{variableCells, lineUp, ShiftedUp, VariablesPut, PutIn}
 use Rattle.completion.proofs.UpLaws.{at-chain, up-within}
 
-length-variables : (vs : List ℕ) → length (variableCells vs) ≡ length vs
+pub length-variables : (vs : List ℕ) → length (variableCells vs) ≡ length vs
 unfolding variableCells
 length-variables [] = refl
 length-variables (v ∷ vs) = ap suc (length-variables vs)

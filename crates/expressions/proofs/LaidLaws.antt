@@ -10,6 +10,7 @@ use lib.Seq.{slice, slice-empty, length-slice}
 use Rattle.aut68.specs.Expr.{Exprs, levelss, cellss, inFront}
 use Rattle.completion.specs.Posts.{variableCells}
 use Rattle.lookup.specs.Completing.{levels-in-front}
+use Rattle.completion.proofs.PutInLaws.{length-variables}
 use Rattle.expressions.specs.Walk.{SameBelow, CellPut, Laid}
 use Rattle.expressions.specs.Posts.{Inserted}
 use Rattle.expressions.proofs.StoreLaws.{part-stays, part-append, part-put, below-put, put-inside}
@@ -84,11 +85,6 @@ front-deep : (us : List ℕ) (es : Exprs) → 1 ≤ length us → 1 ≤ levelss 
 front-deep [] es l = absurd (omega arith)
 front-deep (u ∷ us) es l = omega (arith, levels-in-front u us es)
 
-cells-count : (us : List ℕ) → length (variableCells us) ≡ length us
-unfolding variableCells
-cells-count [] = omega arith
-cells-count (u ∷ us) = let e = cells-count us in omega (arith, e)
-
 pub laid-in-front : {w w′ : List ℕ} {first end end′ d : ℕ} (us : List ℕ) (es : Exprs) → first ≤ end → end ≤ end′ → length w′ ≡ length w
     → Laid w first end d (cellss es) (levelss es) → Inserted w w′ first end end′ d us
     → Laid w′ first end′ d (variableCells us ++ cellss es) (levelss (inFront us es))
@@ -102,7 +98,7 @@ laid-in-front {w} {w′} {first} {end} {end′} {d} us es l k long A h =
     }
   where
     e : length (variableCells us ++ cellss es) ≡ length us + length (cellss es)
-    e = length-append (variableCells us) (cellss es) ∙ ap (λ n. n + length (cellss es)) (cells-count us)
+    e = length-append (variableCells us) (cellss es) ∙ ap (λ n. n + length (cellss es)) (length-variables us)
 
     at : Dec (length w < end) → (length w < end + length us) ⊎ ((1 ≤ length us) × (d < 1))
         → (length w′ < first + length (variableCells us ++ cellss es)) ⊎ (d < levelss (inFront us es))
