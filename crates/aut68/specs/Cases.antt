@@ -5,12 +5,10 @@ use Prim.Native.Char.{code}
 use mathlib.Core.Bool.{Bool, true, false, _&&_}
 use mathlib.Core.List.{List, [], _∷_}
 use lib.Dec.{eqb}
-use lib.ListN.{length}
 use Rattle.aut68.specs.Language.{Language}
 use Rattle.aut68.specs.Stores.{Limits}
 use Rattle.aut68.specs.Lines.{tableOf, termsOf}
-use Rattle.aut68.specs.Procedure.Answer.{codeOf}
-use Rattle.aut68.specs.Procedure.Run.{run, Ending, turnedAway, accepted, refusedAt, recordedAt}
+use Rattle.aut68.specs.Procedure.Run.{Ending, codeAt, lineAt, stepsAt, recordedAt, run}
 
 -- the bytes of a text
 unfoldable pub bytesOf : String → List ℕ
@@ -28,9 +26,7 @@ pub record Case : Type 0 where
 
 -- the ending has the outcome of the case (a run is handed over, so that it is computed once)
 unfoldable pub endsAs : Ending → Case → Bool
-endsAs (turnedAway r) c = eqb (codeOf r) (c .endCode) && eqb 0 (c .endLine) && eqb 0 (c .endSteps)
-endsAs (accepted steps k) c = eqb 0 (c .endCode) && eqb (length (k .recorded)) (c .endLine) && eqb steps (c .endSteps)
-endsAs (refusedAt r line steps k) c = eqb (codeOf r) (c .endCode) && eqb line (c .endLine) && eqb steps (c .endSteps)
+endsAs e c = eqb (codeAt e) (c .endCode) && eqb (lineAt e) (c .endLine) && eqb (stepsAt e) (c .endSteps)
 
 unfoldable pub holds : Case → Bool
 holds c = endsAs (run (c .language) (c .book) (c .limits)) c

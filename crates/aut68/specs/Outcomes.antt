@@ -172,7 +172,7 @@ unfolding numbers numberLines allHold endsAs holds sameNumbers keepsAs keeps all
     Compare.choose Compare.next Compare.each Compare.endsAs Compare.hasSurplus Compare.compareParts Compare.sides Compare.compareAt Compare.compare
     Category.nth Category.theLine Category.made Category.headForm Category.parts Category.toFunction Category.servesAsType Category.opens Category.secondChance Category.categoryAt Category.searches Category.category
     CheckLine.withinLimits CheckLine.middleWithinLimits CheckLine.readLine CheckLine.room CheckLine.store CheckLine.checkDomain CheckLine.checkSupertype CheckLine.checkWritten CheckLine.checkMiddle CheckLine.checkCategories CheckLine.checkLine
-    Run.recordedAt Run.over Run.tableEnd Run.termsEnd Run.workEnd Run.oneMore Run.checkLines Run.nothing Run.run
+    Run.codeAt Run.lineAt Run.stepsAt Run.recordedAt Run.over Run.tableEnd Run.termsEnd Run.workEnd Run.oneMore Run.checkLines Run.nothing Run.run
 computed = (refl, refl, refl, refl, refl)
 
 pub outcomes : allHold (tableRows ++ fourOutcomes) ≡ true

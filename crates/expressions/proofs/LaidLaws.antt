@@ -9,7 +9,7 @@ use lib.ListN.{length, length-append}
 use lib.Seq.{slice, slice-empty, length-slice}
 use Rattle.aut68.specs.Expr.{Exprs, levelss, cellss, inFront}
 use Rattle.completion.specs.Posts.{variableCells}
-use Rattle.lookup.specs.Completing.{levels-in-front}
+use Rattle.lookup.specs.Completing.{levels-in-front, front-levels}
 use Rattle.completion.proofs.PutInLaws.{length-variables}
 use Rattle.expressions.specs.Walk.{SameBelow, CellPut, Laid}
 use Rattle.expressions.specs.Posts.{Inserted}
@@ -70,16 +70,10 @@ laid-cell {w} {w₁} {w′} {to} {x} {next} {end} {d} {xs} {n} put s l A =
 
 -- ---- what was left out, in front
 
-front-more : (us : List ℕ) (es : Exprs) → levelss es ≤ levelss (inFront us es)
-unfolding inFront levelss
-front-more [] es = omega arith
-front-more (u ∷ us) es = let h = front-more us es in omega (arith, h)
-
-front-levels : (us : List ℕ) (es : Exprs) {d : ℕ} → (us ≡ []) ⊎ (1 ≤ d) → levelss es ≤ d → levelss (inFront us es) ≤ d
+front-fits : (us : List ℕ) (es : Exprs) {d : ℕ} → (us ≡ []) ⊎ (1 ≤ d) → levelss es ≤ d → levelss (inFront us es) ≤ d
 unfolding inFront
-front-levels [] es h l = l
-front-levels (u ∷ us) es (inl e) l = absurd (omega (arith, ap length e))
-front-levels (u ∷ us) es (inr k) l = omega (arith, levels-in-front u us es)
+front-fits us es (inl e) l = let q : levelss (inFront us es) ≡ levelss es = ap (λ vs. levelss (inFront vs es)) e in omega (arith, q)
+front-fits us es (inr k) l = omega (arith, front-levels us es .1)
 
 front-deep : (us : List ℕ) (es : Exprs) → 1 ≤ length us → 1 ≤ levelss (inFront us es)
 front-deep [] es l = absurd (omega arith)
@@ -93,7 +87,7 @@ laid-in-front {w} {w′} {first} {end} {end′} {d} us es l k long A h =
       fits = λ r.
           let (p, i) = A .fits (omega arith) in
           let (q, j) = h .fits (omega arith) in
-          (q ∙ ap (λ ys. variableCells us ++ ys) p, front-levels us es j i);
+          (q ∙ ap (λ ys. variableCells us ++ ys) p, front-fits us es j i);
       over = λ r. at (decLt (length w) end) (h .over (omega arith));
     }
   where
@@ -103,5 +97,5 @@ laid-in-front {w} {w′} {first} {end} {end′} {d} us es l k long A h =
     at : Dec (length w < end) → (length w < end + length us) ⊎ ((1 ≤ length us) × (d < 1))
         → (length w′ < first + length (variableCells us ++ cellss es)) ⊎ (d < levelss (inFront us es))
     at t (inr (a, b)) = inr (omega (arith, front-deep us es a))
-    at (yes p) (inl a) = ⊎-elim (λ x. inl (omega (arith, e))) (λ x. inr (omega (arith, front-more us es))) (A .over p)
+    at (yes p) (inl a) = ⊎-elim (λ x. inl (omega (arith, e))) (λ x. inr (omega (arith, front-levels us es .0))) (A .over p)
     at (no p) (inl a) = let q = laid-end A l (omega arith) in inl (omega (arith, e, q))

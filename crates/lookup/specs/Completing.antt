@@ -1,14 +1,14 @@
 -- The arguments left out: `leftOut` finds them where the rules have them; they are variables of the line's own context; and what is
 -- put in front of the written ones.
 use mathlib.Core.Path.{_≡_, refl, ap, sym, _∙_, subst}
-use Prim.Native.Nat.{ℕ, suc, _+_, max}
+use Prim.Native.Nat.{ℕ, suc, _+_, _≤_, max}
 use native.Mathlib.Omega.{arith}
 use mathlib.Core.Bool.{Bool, true, false}
 use mathlib.Core.List.{List, [], _∷_, map}
 use lib.ListN.{length, length-map}
 use lib.Dec.{eqb}
 use borrow.Author.Tests.{eqb-true, eq-eqb, ne-eqb}
-use Rattle.aut68.specs.Expr.{Exprs, inFront, size, sizes, levels, levelss, countExprs}
+use Rattle.aut68.specs.Expr.{Exprs, inFront, levels, levelss, countExprs}
 use Rattle.aut68.specs.Procedure.Answer.{_>>=_, give, refuse, Refusal, wrongArity}
 use Rattle.aut68.specs.Procedure.Resolve.{Naming, found, refused, leftOut}
 use Rattle.aut68.specs.Rules.Names.{Member, here, there, LeftOut, allWritten, firstLeftOut}
@@ -38,28 +38,23 @@ full-nothing (firstLeftOut h) q = let e = left-out-count h in absurd (omega (ari
 pub no-context : {j : ℕ} {own us : List ℕ} → LeftOut j [] own us → (j ≡ 0) × (us ≡ [])
 no-context (allWritten e) = (e, refl)
 
--- what is put in adds a cell for each, and stands one level deeper than its constant
-pub size-in-front : (us : List ℕ) (es : Exprs) → sizes (inFront us es) ≡ length us + sizes es
-unfolding inFront size
-size-in-front [] es = omega arith
-size-in-front (u ∷ us) es = let e = size-in-front us es in omega (arith, e)
-
+-- what is put in stands one level deeper than its constant
 pub levels-in-front : (u : ℕ) (us : List ℕ) (es : Exprs) → levelss (inFront (u ∷ us) es) ≡ max 1 (levelss es)
 unfolding inFront levels
 levels-in-front u [] es = refl
 levels-in-front u (v ∷ us) es = let e = levels-in-front v us es in omega (arith, e)
 
--- ---- they are variables of both contexts
+pub front-levels : (us : List ℕ) (es : Exprs) → (levelss es ≤ levelss (inFront us es)) × (levelss (inFront us es) ≤ max 1 (levelss es))
+unfolding inFront
+front-levels [] es = (omega arith, omega arith)
+front-levels (u ∷ us) es = let e = levels-in-front u us es in (omega (arith, e), omega (arith, e))
+
+-- ---- they are variables of the line's own context
 
 pub left-out-own : {j : ℕ} {of own us : List ℕ} → LeftOut j of own us → (u : ℕ) → Member u us → Member u own
 left-out-own (allWritten e) u m = elim m [ ]
 left-out-own (firstLeftOut h) u here = here
 left-out-own (firstLeftOut h) u (there m) = there (left-out-own h u m)
-
-pub left-out-of : {j : ℕ} {of own us : List ℕ} → LeftOut j of own us → (u : ℕ) → Member u us → Member u of
-left-out-of (allWritten e) u m = elim m [ ]
-left-out-of (firstLeftOut h) u here = here
-left-out-of (firstLeftOut h) u (there m) = there (left-out-of h u m)
 
 pub left-out-each : (S : ℕ → Type 0) {j : ℕ} {of own us : List ℕ} → LeftOut j of own us → Each S own → Each S us
 left-out-each S (allWritten e) s = tt

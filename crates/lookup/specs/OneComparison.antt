@@ -11,7 +11,7 @@ use Rattle.aut68.specs.Procedure.Answer.{Answer, done, stop, wrongArity}
 use Rattle.aut68.specs.Procedure.Resolve.{found, refused, leftOut}
 use Rattle.aut68.specs.Lines.{Lines}
 use Rattle.aut68.specs.Rules.Names.{Context, noContext, within, LeftOut, allWritten, firstLeftOut}
-use Rattle.lookup.specs.Completing.{left-out-sound, left-out-complete, left-out-refuses}
+use Rattle.lookup.specs.Completing.{left-out-count, left-out-sound, left-out-complete, left-out-refuses}
 use Rattle.lookup.specs.Contexts.{context-unique}
 
 -- the context up to a variable is that variable's path
@@ -49,11 +49,6 @@ comparison-holds (allWritten e) n q = absurd (omega arith)
 comparison-holds (firstLeftOut h) zero q = (omega arith, refl)
 comparison-holds (firstLeftOut h) (suc n) q = let (a, b) = comparison-holds h n (omega arith) in (omega arith, b)
 
--- no more than the context has
-pub count-within : {j : ℕ} {of own us : List ℕ} → LeftOut j of own us → j ≤ length of
-count-within (allWritten e) = omega arith
-count-within (firstLeftOut h) = let a = count-within h in omega arith
-
 -- ---- what `leftOut` answers, by count and one comparison
 
 refuse-unless : (j : ℕ) (of own : List ℕ) → ((us : List ℕ) → ¬ LeftOut j of own us) → leftOut j of own tt ≡ refused wrongArity
@@ -67,7 +62,7 @@ pub all-written : (of own : List ℕ) {j : ℕ} → j ≡ length of → leftOut 
 all-written of own e = left-out-complete (allWritten e)
 
 pub too-many : (of own : List ℕ) (j : ℕ) → length of < j → leftOut j of own tt ≡ refused wrongArity
-too-many of own j h = refuse-unless j of own (λ us k. (let a = count-within k in omega (arith, a, h)))
+too-many of own j h = refuse-unless j of own (λ us k. (let a = left-out-count k in omega (arith, a, h)))
 
 pub can-be-put-in : {ls : Lines} {a b : ℕ} {of own : List ℕ} (j : ℕ) → Context ls a of → Context ls b own → (n : ℕ) → suc n + j ≡ length of → n < length own → getD of n 0 ≡ getD own n 0
     → leftOut j of own tt ≡ found (take (suc n) of)
@@ -75,8 +70,3 @@ can-be-put-in j c d n e h q = left-out-complete (one-comparison c d n e h q)
 
 pub cannot-be-put-in : (of own : List ℕ) (j n : ℕ) → suc n + j ≡ length of → ¬ ((n < length own) × (getD of n 0 ≡ getD own n 0)) → leftOut j of own tt ≡ refused wrongArity
 cannot-be-put-in of own j n e h = refuse-unless j of own (λ us k. h (comparison-holds k n e))
-
--- what is put in are also the first of the line's own context
-pub put-in-own : {j : ℕ} {of own us : List ℕ} → LeftOut j of own us → us ≡ take (length us) own
-put-in-own (allWritten e) = refl
-put-in-own (firstLeftOut {v} h) = ap (λ xs. v ∷ xs) (put-in-own h)

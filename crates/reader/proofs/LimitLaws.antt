@@ -1,7 +1,7 @@
 -- Size and nesting of what was laid, against the limits.
 use mathlib.Core.Path.{_≡_, refl, ap, _∙_}
 use mathlib.Core.Logic.{_⊎_, inl, inr, ⊎-elim}
-use mathlib.Core.Bool.{Bool, true, false, _&&_}
+use mathlib.Core.Bool.{true, false, _&&_}
 use mathlib.Core.List.{List}
 use Prim.Native.Nat.{ℕ, _+_, _-_, _≤_, _<_}
 use native.Mathlib.Omega.{arith}
@@ -14,6 +14,7 @@ use Rattle.aut68.specs.Lines.{Kind, variable, primitive, abbreviation, kindCell
 use Rattle.aut68.specs.Procedure.CheckLine.{withinLimits, middleWithinLimits}
 use Rattle.aut68.specs.Sizes.{nesting}
 use Rattle.lookup.specs.Tests.{limits-within}
+use Rattle.cells.specs.CopyLaws.{and-false}
 use Rattle.cells.specs.Forests.{size-is-length}
 use Rattle.expressions.specs.Walk.{Laid}
 use Rattle.expressions.proofs.LaidLaws.{laid-end}
@@ -30,10 +31,6 @@ module _ {w : List ℕ} {to end d : ℕ} {xs : List ℕ} {n : ℕ} (h : Laid w t
       at : Dec (length w < end) → (L < length xs) ⊎ (d < n)
       at (yes p) = ⊎-elim (λ x. inl (omega arith)) (λ x. inr x) (h .over p)
       at (no p) = let e = laid-end h l (omega arith) in inl (omega (arith, e))
-
-and-false : (t : Bool) → (t && false) ≡ false
-and-false true = refl
-and-false false = refl
 
 pub within : {L : ℕ} (e : Expr) → (length (cells e) ≤ L) × (levels e ≤ nesting) → withinLimits L e ≡ true
 within {L} e (l, m) = limits-within L e (omega (arith, size-is-length e)) m

@@ -1,22 +1,17 @@
 -- Nesting once more: completing adds at most one level, and none where all arguments are written. So of a line whose bytes were read
 -- (nesting at most 32) the completed form nests at most 33 deep.
-use mathlib.Core.Path.{_≡_, refl, ap, _∙_}
-use mathlib.Core.List.{List, [], _∷_}
-use Prim.Native.Nat.{ℕ, suc, max, _≤_}
+use mathlib.Core.Path.{_≡_, refl, ap}
+use mathlib.Core.List.{List}
+use Prim.Native.Nat.{ℕ, suc, _≤_}
 use native.Mathlib.Omega.{arith}
 use Rattle.aut68.specs.Bytes.{Bytes}
 use Rattle.aut68.specs.Depths.{depth, depths}
 use Rattle.aut68.specs.Source.{Src, Srcs}
-use Rattle.aut68.specs.Expr.{Expr, Exprs, inFront, levels, levelss}
+use Rattle.aut68.specs.Expr.{Expr, Exprs, levels, levelss}
 use Rattle.aut68.specs.Lines.{Lines}
 use Rattle.aut68.specs.Rules.Names.{Means, MeanAll, aBound, aVariable, aConstant, anApplication, anAbstraction, aType, aProp, noMore, oneMore}
 use Rattle.lookup.specs.Former.{MeantInFull, AllMeantInFull, boundIn, variableIn, constantIn, applicationIn, abstractionIn, typeIn, propIn}
-use Rattle.lookup.specs.Completing.{levels-in-front}
-
-front-levels : (us : List ℕ) (es : Exprs) {all : Exprs} → all ≡ inFront us es → (levelss es ≤ levelss all) × (levelss all ≤ max 1 (levelss es))
-unfolding inFront
-front-levels [] es e = let q : levelss _ ≡ levelss es = ap levelss e in (omega (arith, q), omega (arith, q))
-front-levels (u ∷ us) es e = let q = ap levelss e ∙ levels-in-front u us es in (omega (arith, q), omega (arith, q))
+use Rattle.lookup.specs.Completing.{front-levels}
 
 module _ (ls : Lines) (context : List ℕ) where
   mutual
@@ -43,8 +38,9 @@ module _ (ls : Lines) (context : List ℕ) where
     completed-levels (aVariable f i q k m) = (omega arith, omega arith)
     completed-levels (aConstant {es = es} {us = us} f i q k a c e) =
         let (p, r) = completed-levelss a in
-        let (s, t) = front-levels us es e in
-        (omega (arith, p, s), omega (arith, r, t))
+        let (s, t) = front-levels us es in
+        let d = ap levelss e in
+        (omega (arith, p, s, d), omega (arith, r, t, d))
     completed-levels (anApplication h k) =
         let (a, b) = completed-levels h in
         let (c, d) = completed-levels k in

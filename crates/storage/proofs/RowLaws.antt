@@ -8,13 +8,10 @@ use lib.Dec.{leb, ltb}
 use lib.ListN.{set}
 use lib.Seq.{sets}
 use Rattle.aut68.specs.Sizes.{lineLimit, rowWidth}
+use Rattle.cells.specs.CopyLaws.{and-false}
 use borrow.Author.Tests.{not-false, ltb-true, lt-ltb, le-ltb, le-leb, lt-leb, leb-true, leb-false}
 
 -- ---- room
-
-and-false : (b : Bool) → b && false ≡ false
-and-false true = refl
-and-false false = refl
 
 module _ (table terms lines used size : ℕ) where
   abbrev fits : Bool
