@@ -5,6 +5,8 @@ mod names;
 mod steps;
 mod theories;
 
+use std::borrow::Borrow;
+
 use crate::random::Random;
 
 #[derive(Clone, Copy, Debug, PartialEq, Eq)]
@@ -41,6 +43,11 @@ impl Kind {
             Kind::Deep | Kind::Mixed => 2_050,
         }
     }
+}
+
+/// A name with its arguments, if it is written with any.
+pub fn with_arguments<S: Borrow<str>>(name: &str, arguments: &[S]) -> String {
+    if arguments.is_empty() { name.to_string() } else { format!("{name}({})", arguments.join(",")) }
 }
 
 /// A book of so many lines. Its prefixes of whole lines are correct books too.

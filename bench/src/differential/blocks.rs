@@ -1,5 +1,6 @@
 //! Books about long blocks: what their lines leave out makes them large or deep. Everything is of one type `t`.
 
+use crate::generate::with_arguments;
 use crate::random::Random;
 use crate::sizes::NESTING;
 
@@ -122,7 +123,7 @@ impl Blocks<'_> {
     fn applied(&mut self, constant: usize, written: usize, mut argument: impl FnMut(&mut Self) -> String) -> String {
         let name = self.constants[constant].name.clone();
         let arguments: Vec<String> = (0..written).map(|_| argument(self)).collect();
-        if arguments.is_empty() { name } else { format!("{name}({})", arguments.join(",")) }
+        with_arguments(&name, &arguments)
     }
 
     /// A lone name: `o`, a variable or a constant.

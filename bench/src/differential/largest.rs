@@ -1,6 +1,7 @@
 //! Books at the largest sizes: of lines, of bytes, and of completed lines.
 
 use super::calls::Call;
+use crate::generate::with_arguments;
 use crate::sizes::{MOST_BYTES, MOST_LINES, ROW_WIDTH, SMALLEST_LIMIT};
 
 pub fn books() -> Vec<(Vec<u8>, Call)> {
@@ -26,12 +27,11 @@ pub fn books() -> Vec<(Vec<u8>, Call)> {
 
 /// A block of variables, and in it a line of names that each lack arguments: variables × names + 1 cells when completed.
 fn completed(variables: usize, names: usize, category: &str) -> Vec<u8> {
-    let applied = |arguments: &[String]| if arguments.is_empty() { "c".to_string() } else { format!("c({})", arguments.join(",")) };
     let mut arguments = Vec::new();
     let mut left = names - 1;
     while left > 0 {
         let lone = (left - 1).min(variables - 1);
-        arguments.push(applied(&vec![applied(&[]); lone]));
+        arguments.push(with_arguments("c", &vec!["c"; lone]));
         left -= 1 + lone;
     }
     let mut text = String::from("*v0:=EB:type\n");
@@ -39,6 +39,6 @@ fn completed(variables: usize, names: usize, category: &str) -> Vec<u8> {
         text.push_str(&format!("v{}*v{v}:=EB:type\n", v - 1));
     }
     let block = format!("v{}", variables - 1);
-    text.push_str(&format!("{block}*c:=PN:type\n{block}*u:={}:{category}\n", applied(&arguments)));
+    text.push_str(&format!("{block}*c:=PN:type\n{block}*u:={}:{category}\n", with_arguments("c", &arguments)));
     text.into_bytes()
 }

@@ -1,6 +1,6 @@
 //! Long names with common prefixes, and wide contexts.
 
-use super::Writer;
+use super::{with_arguments, Writer};
 use crate::random::Random;
 
 /// Prefixes of 22 bytes; what follows makes a name unique.
@@ -137,5 +137,5 @@ fn applied(random: &mut Random, context: &Context, constants: &[String], reflexi
         })
         .collect();
     let constant = random.choose(constants);
-    if arguments.is_empty() { constant.clone() } else { format!("{constant}({})", arguments.join(",")) }
+    with_arguments(constant, &arguments)
 }

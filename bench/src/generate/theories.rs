@@ -1,6 +1,6 @@
 //! Copies of one theory under fresh names, each with random lemmas about its own and about the first copy's notions.
 
-use super::Writer;
+use super::{with_arguments, Writer};
 use crate::random::Random;
 
 /// Equality, numbers, implication, induction. Some lines leave out the variables of their block.
@@ -132,8 +132,7 @@ impl Prover<'_> {
 
     fn named(&self, name: &str, arguments: &[&str]) -> String {
         let same = arguments.iter().zip(BLOCK).take_while(|&(a, b)| a.strip_suffix(self.of) == Some(b)).count();
-        let written = &arguments[if self.leaves_out { same } else { 0 }..];
-        if written.is_empty() { name.to_string() } else { format!("{name}({})", written.join(",")) }
+        with_arguments(name, &arguments[if self.leaves_out { same } else { 0 }..])
     }
 
     /// A proof that two of the points are equal.
