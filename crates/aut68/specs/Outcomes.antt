@@ -14,6 +14,7 @@ use Rattle.aut68.specs.Procedure.Parse
 use Rattle.aut68.specs.Expr
 use Rattle.aut68.specs.Substitution
 use Rattle.aut68.specs.Lines
+use Rattle.aut68.specs.Index
 use Rattle.aut68.specs.Procedure.Resolve
 use Rattle.aut68.specs.Procedure.HeadStep
 use Rattle.aut68.specs.Procedure.Compare
@@ -31,9 +32,9 @@ sample = bytesOf "*nat:=PN:type\n*one:=PN:nat\n*n:=EB:nat\nn*suc:=PN:nat\n*two:=
 
 unfoldable pub tableRows : List Case
 tableRows =
-    under aut68 (record { budget = 100000; limit = 16; table = 16384; terms = 32768; work = 2047 }) sample 1 0 0
+    under aut68 (record { budget = 100000; limit = 16; table = 16384; terms = 32768; work = 2047; index = 16384 }) sample 1 0 0
     ∷ within aut68 100000 15 sample 2 0 0
-    ∷ under aut68 (record { budget = 100000; limit = 4097; table = 16384; terms = 32768; work = 1000000 }) sample 2 0 0
+    ∷ under aut68 (record { budget = 100000; limit = 4097; table = 16384; terms = 32768; work = 1000000; index = 16384 }) sample 2 0 0
     ∷ usual aut68 (bytesOf "*a:=:type\n") 3 1 0
     ∷ usual aut68 (bytesOf "*nat:=PN:type\n*nat:=PN:type\n") 4 2 0
     ∷ usual aut68 (bytesOf "*a:=b:type\n") 5 1 0
@@ -43,7 +44,7 @@ tableRows =
     ∷ usual aut68 (sample ++ bytesOf "*u:=one:F\n") 9 9 3
     ∷ within aut68 100000 16 (bytesOf "*a:=PN:type\n*u:=[x,a][x,a][x,a][x,a][x,a][x,a][x,a][x,a]a:type\n") 10 2 0
     ∷ within aut68 1 256 sample 11 8 1
-    ∷ under aut68 (record { budget = 100000; limit = 256; table = 56; terms = 32768; work = 32768 }) sample 12 8 1
+    ∷ under aut68 (record { budget = 100000; limit = 256; table = 56; terms = 32768; work = 32768; index = 16384 }) sample 12 8 1
     ∷ []
 
 -- ---- the four outcomes after the sample
@@ -158,7 +159,7 @@ numberLines =
 
 -- ---- the tables, computed
 
-computed : (allHold (tableRows ++ fourOutcomes) ≡ true) × (allHold (misreadings ++ procedureOrder) ≡ true) × (allHold examplesQE ≡ true) × (allKeep omittedArguments ≡ true) × (Run.recordedAt (Run.run aut68 numbers (record { budget = 0; limit = 16; table = 24; terms = 8; work = 2048 })) .recorded ≡ numberLines)
+computed : (allHold (tableRows ++ fourOutcomes) ≡ true) × (allHold (misreadings ++ procedureOrder) ≡ true) × (allHold examplesQE ≡ true) × (allKeep omittedArguments ≡ true) × (Run.recordedAt (Run.run aut68 numbers (record { budget = 0; limit = 16; table = 24; terms = 8; work = 2048; index = 16384 })) .recorded ≡ numberLines)
 unfolding numbers numberLines allHold endsAs holds sameNumbers keepsAs keeps allKeep under within usual sums sumRows sumCells omittedArguments naturals families examplesQE sample longer tableRows fourOutcomes selfNamed swapped renumbered stepsRemain misreadings equality pairs repeated nested deep procedureOrder bytesOf
     Answer.codeOf Answer.andThen Answer.when Answer.ensure Answer.aside
     Bytes.nameByte Bytes.opensExpression Bytes.sameBytes Bytes.wordType Bytes.wordPN Bytes.wordEB Bytes.wordProp Bytes.reserved Bytes.onto Bytes.lines
@@ -167,6 +168,7 @@ unfolding numbers numberLines allHold endsAs holds sameNumbers keepsAs keeps all
     Expr.size Expr.levels Expr.inFront Expr.firstCell Expr.parts Expr.cells Expr.snoc Expr.countExprs Expr.shape Expr.isType Expr.isSort Expr.endsInType Expr.endsInProp Expr.overBinding Expr.firstPart Expr.secondPart Expr.identical
     Substitution.liftIndex Substitution.lift Substitution.substituteBound Substitution.substitute Substitution.argumentFor Substitution.instantiateVariable Substitution.instantiate
     Lines.noLine Lines.lineOf Lines.numberFrom Lines.numberOf Lines.kindCells Lines.lineCells Lines.termsOf Lines.kindNumber Lines.rowOf Lines.rowsFrom Lines.tableOf
+    Index.mentioned Index.mentionedInMiddle Index.mentionedAsIndicator Index.mentionedBy Index.insert Index.ascending Index.namesOf Index.entryOf Index.indexOf
     Resolve.leftOut Resolve.member Resolve.placeFrom Resolve.answered Resolve.lookUp Resolve.sought Resolve.wanted Resolve.build Resolve.resolve Resolve.resolveMiddle Resolve.indicatorLine Resolve.contextAt Resolve.unused
     HeadStep.under HeadStep.headStep HeadStep.left
     Compare.choose Compare.next Compare.each Compare.endsAs Compare.hasSurplus Compare.compareParts Compare.sides Compare.compareAt Compare.compare
@@ -188,5 +190,5 @@ examples-hold = computed .2
 pub omitted-arguments : allKeep omittedArguments ≡ true
 omitted-arguments = computed .3
 
-pub numbers-recorded : Run.recordedAt (Run.run aut68 numbers (record { budget = 0; limit = 16; table = 24; terms = 8; work = 2048 })) .recorded ≡ numberLines
+pub numbers-recorded : Run.recordedAt (Run.run aut68 numbers (record { budget = 0; limit = 16; table = 24; terms = 8; work = 2048; index = 16384 })) .recorded ≡ numberLines
 numbers-recorded = computed .4

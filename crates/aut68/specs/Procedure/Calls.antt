@@ -1,0 +1,12 @@
+-- Calls on an accepted book: it is admitted first, and a refusal is passed on. What follows has line 0, the call's own steps, and the
+-- length of the answer that was written, else 0.
+use Prim.Native.Nat.{ℕ}
+use Rattle.aut68.specs.Procedure.Answer.{codeOf, outOfSpace}
+
+-- Why a call on a book that was admitted writes no answer: the line is 0 or above the last; the answer does not fit its store.
+pub data Decline : Type 0 where
+  noSuchLine answerTooLong : Decline
+
+unfoldable pub declineCode : Decline → ℕ
+declineCode noSuchLine = 13
+declineCode answerTooLong = codeOf outOfSpace
