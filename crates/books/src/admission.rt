@@ -50,9 +50,9 @@ fn spent(budget: u32, rest: u32) -> u32
     budget - rest
 }
 
-// Checks a book (run). Limit out of range, working store too small: every cell is as it was. Else: the rows and the term cells of
-// the lines before the refused one are written, the first WORK_UNITS × limit working cells are zero, and every other cell is as it
-// was. records/Runs has what table and term store then hold of the lines.
+// Checks a book (run). Limit out of range, working store too small: every cell is as it was. Else: the rows, the term cells and the
+// index entries of the lines before the refused one are written, the first WORK_UNITS × limit working cells are zero, and every other
+// cell is as it was. records/Runs has what table and term store then hold of the lines.
 pub fn admit(
     book: &[u8],
     budget: u32,
@@ -60,8 +60,9 @@ pub fn admit(
     table: &mut [u32],
     terms: &mut [Cell],
     work: &mut [Cell],
+    index: &mut [u32],
 ) -> Admission
-    ensures { λ r. ⌜ Determined (run aut68 (now (book .entry)) (limitsOf budget limit (stores (now (table .entry)) (now (terms .entry)) (now (work .entry))))) limit (stores (now (table .entry)) (now (terms .entry)) (now (work .entry))) (r .code) (r .line) (r .steps) (stores (now (table .exit)) (now (terms .exit)) (now (work .exit))) ⌝ }
+    ensures { λ r. ⌜ Determined (run aut68 (now (book .entry)) (limitsOf budget limit (stores (now (table .entry)) (now (terms .entry)) (now (work .entry)) (now (index .entry))))) limit (stores (now (table .entry)) (now (terms .entry)) (now (work .entry)) (now (index .entry))) (r .code) (r .line) (r .steps) (stores (now (table .exit)) (now (terms .exit)) (now (work .exit)) (now (index .exit))) ⌝ }
 {
     let most = limit as usize;
     if most < SMALLEST_LIMIT {
@@ -94,7 +95,7 @@ pub fn admit(
             steps: 0,
         };
     }
-    let p = check_lines(book, table, terms, &mut work[..n], most, budget);
+    let p = check_lines(book, table, terms, index, &mut work[..n], most, budget);
     clear(work, n);
     Admission {
         code: p.code,

@@ -3,17 +3,21 @@ use categories::Checked;
 use categories::check_cells;
 use cells::READER_UNITS;
 use cells::line_at;
+use cells::names_at;
 use constants::Cell;
 use constants::LAST_LINE;
 use constants::OUT_OF_SPACE;
 use copies::clear;
 use copies::exchange;
+use entries::line_names;
+use entries::put_entry;
 use headings::line_end;
 use kinds::kinds_of_bytes;
 use names::identifier;
 use names::note;
 use reader::Line;
 use reader::read_line;
+use storage::Room;
 use storage::has_room;
 use storage::put_row;
 use storage::sum;
@@ -27,25 +31,27 @@ ghost use Rattle.aut68.specs.Bytes.{lines};
 ghost use Rattle.aut68.specs.Procedure.Run.{nothing, checkLines};
 ghost use Rattle.books.specs.Progress.{Fitting, StoredPost, NotedLine, LinePost, LinesPost};
 
-// Where the check of a book is. code: 0, or the refusal of line lines + 1. at: the next byte. lines, used: the rows and the
-// term cells of the lines that passed. budget: what is left of it.
+// Where the check of a book is. code: 0, or the refusal of line lines + 1. at: the next byte. lines, used, entries: the rows, the
+// term cells and the index cells of the lines that passed. budget: what is left of it.
 pub struct Progress {
     pub code: u32,
     pub at: usize,
     pub lines: usize,
     pub used: usize,
+    pub entries: usize,
     pub budget: u32,
 }
 
 // The check stops at the line that starts at p.at.
 fn stopped(p: Progress, code: u32, budget: u32) -> Progress
-    ensures { λ r. ⌜ (r .code ≡ code) × (r .at ≡ p .at) × (r .lines ≡ p .lines) × (r .used ≡ p .used) × (r .budget ≡ budget) ⌝ }
+    ensures { λ r. ⌜ (r .code ≡ code) × (r .at ≡ p .at) × (r .lines ≡ p .lines) × (r .used ≡ p .used) × (r .entries ≡ p .entries) × (r .budget ≡ budget) ⌝ }
 {
     Progress {
         code: code,
         at: p.at,
         lines: p.lines,
         used: p.used,
+        entries: p.entries,
         budget: budget,
     }
 }
@@ -103,6 +109,7 @@ fn check_line(
     kinds: &[u8; 256],
     table: &mut [u32],
     terms: &mut [Cell],
+    index: &mut [u32],
     w: &mut [Cell],
     limit: usize,
     p: Progress,
@@ -118,7 +125,15 @@ fn check_line(
     if l.code != 0 {
         return stopped(p, l.code, p.budget);
     }
-    let fits = has_room(table.len(), terms.len(), lines, used, l.size);
+    let names = line_names(w, limit, l.size, l.indicator);
+    let room = Room {
+        table: table.len(),
+        terms: terms.len(),
+        index: index.len(),
+        used: used,
+        entries: p.entries,
+    };
+    let fits = has_room(room, lines, l.size, names);
     if !fits {
         return stopped(p, OUT_OF_SPACE, p.budget);
     }
@@ -127,12 +142,14 @@ fn check_line(
     if s.code != 0 {
         return stopped(p, s.code, s.budget);
     }
+    put_entry(index, p.entries, w, names_at(limit), names);
     note_line(book, table, lines, w, limit);
     Progress {
         code: 0,
         at: next,
         lines: lines + 1,
         used: used + l.size,
+        entries: p.entries + names + 1,
         budget: s.budget,
     }
 }
@@ -143,6 +160,7 @@ pub fn check_lines(
     book: &[u8],
     table: &mut [u32],
     terms: &mut [Cell],
+    index: &mut [u32],
     w: &mut [Cell],
     limit: usize,
     budget: u32,
@@ -158,10 +176,11 @@ pub fn check_lines(
         at: 0,
         lines: 0,
         used: 0,
+        entries: 0,
         budget: budget,
     };
     while p.at < book.len() {
-        p = check_line(book, &kinds, table, terms, w, limit, p);
+        p = check_line(book, &kinds, table, terms, index, w, limit, p);
         if p.code != 0 {
             return p;
         }

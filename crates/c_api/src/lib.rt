@@ -1,9 +1,9 @@
-// The check of a book for callers from C and Rust: include/aut68.h declares it. Such callers prove nothing, so it requires
-// nothing.
+// The calls for C and Rust: include/aut68.h declares them. Such callers prove nothing, so they require nothing.
 use constants::Cell;
 ghost use Rattle.aut68.specs.Language.{aut68};
 ghost use Rattle.aut68.specs.Stores.{stores};
 ghost use Rattle.aut68.specs.Demands.{Checks};
+ghost use Rattle.aut68.specs.Resting.{TellsRests};
 ghost use Rattle.names.specs.Known.{IdentifierPlaced};
 
 // Document 01's numbers of an outcome: code, line, steps.
@@ -14,7 +14,7 @@ pub struct Aut68Outcome {
     pub steps: u64,
 }
 
-// Checks a book under the budget N and the limit L, with the table, the term store and the working store lent.
+// Checks a book under the budget N and the limit L, with the table, the term store, the working store and the index lent.
 #[no_mangle]
 pub extern "C" fn aut68_check(
     book: &[u8],
@@ -23,16 +23,51 @@ pub extern "C" fn aut68_check(
     table: &mut [u32],
     terms: &mut [Cell],
     work: &mut [Cell],
+    index: &mut [u32],
 ) -> Aut68Outcome
-    ensures { λ r. ⌜ Checks aut68 (now (book .entry)) budget limit (stores (now (table .entry)) (now (terms .entry)) (now (work .entry))) (r .code) (r .line) (r .steps) (stores (now (table .exit)) (now (terms .exit)) (now (work .exit))) ⌝ }
+    ensures { λ r. ⌜ Checks aut68 (now (book .entry)) budget limit (stores (now (table .entry)) (now (terms .entry)) (now (work .entry)) (now (index .entry))) (r .code) (r .line) (r .steps) (stores (now (table .exit)) (now (terms .exit)) (now (work .exit)) (now (index .exit))) ⌝ }
 {
-    let o = verifier::check_book(book, budget, limit, table, terms, work);
+    let o = verifier::check_book(book, budget, limit, table, terms, work, index);
     let n = verifier::numbers_of(o);
     let steps = n.steps as u64;
     Aut68Outcome {
         code: n.code,
         line: n.line,
         steps: steps,
+    }
+}
+
+// The numbers of a call on a book other than its check: code, line, steps, and the length of the answer.
+#[repr(C)]
+pub struct Aut68Answer {
+    pub code: u32,
+    pub line: u32,
+    pub steps: u32,
+    pub length: u32,
+}
+
+// Tells what a line rests on: the `PN` lines reached from it, in the first cells of the answer.
+#[no_mangle]
+pub extern "C" fn aut68_rests_on(
+    book: &[u8],
+    budget: u32,
+    limit: u32,
+    table: &mut [u32],
+    terms: &mut [Cell],
+    work: &mut [Cell],
+    index: &mut [u32],
+    line: u32,
+    answer: &mut [u32],
+) -> Aut68Answer
+    ensures { λ r. ⌜ TellsRests aut68 (now (book .entry)) budget limit (stores (now (table .entry)) (now (terms .entry)) (now (work .entry)) (now (index .entry))) line (now (answer .entry)) (r .code) (r .line) (r .steps) (r .length) (stores (now (table .exit)) (now (terms .exit)) (now (work .exit)) (now (index .exit))) (now (answer .exit)) ⌝ }
+{
+    let a = verifier::rests_on(book, budget, limit, table, terms, work, index, line, answer);
+    let n = verifier::answer_numbers(a);
+    Aut68Answer {
+        code: n.code,
+        line: n.line,
+        steps: n.steps,
+        length: n.length,
     }
 }
 

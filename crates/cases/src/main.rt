@@ -21,8 +21,15 @@ const TEXT: usize = 131072;
 const TERMS: usize = 32768;
 
 // Checks the book and reports.
-fn check(h: Header, book: &[u8], table: &mut [u32], terms: &mut [Cell], work: &mut [Cell]) {
-    let o = verifier::check_book(book, h.budget, h.limit, table, terms, work);
+fn check(
+    h: Header,
+    book: &[u8],
+    table: &mut [u32],
+    terms: &mut [Cell],
+    work: &mut [Cell],
+    index: &mut [u32],
+) {
+    let o = verifier::check_book(book, h.budget, h.limit, table, terms, work, index);
     let r = verifier::numbers_of(o);
     let n = recorded(r);
     report::outcome(r);
@@ -32,7 +39,13 @@ fn check(h: Header, book: &[u8], table: &mut [u32], terms: &mut [Cell], work: &m
 }
 
 // A case, with the first cells of these stores, as many as its header gives.
-fn case_of(text: &[u8], table: &mut [u32], terms: &mut [Cell], work: &mut [Cell]) {
+fn case_of(
+    text: &[u8],
+    table: &mut [u32],
+    terms: &mut [Cell],
+    work: &mut [Cell],
+    index: &mut [u32],
+) {
     let h = header::read(text);
     let start = h.start;
     let rows = h.table;
@@ -56,6 +69,7 @@ fn case_of(text: &[u8], table: &mut [u32], terms: &mut [Cell], work: &mut [Cell]
         &mut table[..rows],
         &mut terms[..cells],
         &mut work[..room],
+        index,
     );
 }
 
@@ -66,7 +80,8 @@ fn run(fd: i32) {
     let mut table = [7u32; ROW_WIDTH * LINE_LIMIT];
     let mut terms: [Cell; TERMS] = [7; TERMS];
     let mut work: [Cell; WORK_UNITS * LARGEST_LIMIT + 1] = [7; WORK_UNITS * LARGEST_LIMIT + 1];
-    case_of(&text[..n], &mut table, &mut terms, &mut work);
+    let mut index = [7u32; 32768];
+    case_of(&text[..n], &mut table, &mut terms, &mut work, &mut index);
 }
 
 // The book or the case in the file that argument i names.

@@ -1,6 +1,6 @@
 -- The working store of workUnits × limit cells, in units of `limit` cells:
 --     0   23  hints of name lookup, in the first cells; the rest is free
---    23    1  the context of the line that is read
+--    23    1  the context of the line that is read; then, with unit 22 and the cell ahead of it, the lines that the line names
 --    24    2  the line's cells before storage; then the term cells that they displaced
 --    26   36  categories, one unit a level
 --    62   64  comparison: left and right side at each depth 1 to 32
@@ -20,6 +20,10 @@ unitAt limit k = k * limit
 -- the context of the line that is read
 abbrev pub contextUnit : ℕ
 contextUnit = 23
+
+-- the lines that the line names: 2 × limit + 1 cells ahead of its own
+abbrev pub namesAt : ℕ → ℕ
+namesAt limit = 22 * limit - 1
 
 -- the two units of the line's cells
 abbrev pub lineUnit : ℕ

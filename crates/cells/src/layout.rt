@@ -2,13 +2,16 @@
 ghost use mathlib.Core.Path.{_≡_};
 ghost use Prim.Native.Nat.{_≤_, _<_};
 ghost use Rattle.aut68.specs.Sizes.{largestLimit, workUnits, nesting};
-ghost use Rattle.cells.specs.Layout.{unitAt, levels, lineUnit, levelUnit, sideUnit, scratchUnit, resultUnit};
+ghost use Rattle.cells.specs.Layout.{unitAt, namesAt, levels, lineUnit, levelUnit, sideUnit, scratchUnit, resultUnit};
 use constants::LARGEST_LIMIT;
 use constants::NESTING;
 use constants::WORK_UNITS;
 
 // The context of the line that is read.
 pub const CONTEXT_UNIT: usize = 23;
+
+// The lines that the line names, in these two units and the cell ahead of them.
+const NAMES_UNIT: usize = 22;
 
 // The line's cells.
 pub const LINE_UNIT: usize = 24;
@@ -38,6 +41,17 @@ pub fn line_at(limit: usize) -> usize
     ensures { λ r. ⌜ (limit ≤ largestLimit → r ≡ unitAt limit lineUnit) ⌝ }
 {
     unit_at(limit, LINE_UNIT)
+}
+
+// Where the lines that the line names start: there are at most 2 × limit + 1 of them. 0 where there are no units.
+pub fn names_at(limit: usize) -> usize
+    ensures { λ r. ⌜ (1 ≤ limit → limit ≤ largestLimit → r ≡ namesAt limit) ⌝ }
+{
+    let end = unit_at(limit, NAMES_UNIT);
+    if end == 0 {
+        return 0;
+    }
+    end - 1
 }
 
 // Where the unit of a category's level starts; there are LEVELS of them.

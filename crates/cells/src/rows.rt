@@ -4,6 +4,7 @@ ghost use Prim.Native.Nat.{_<_, _^_};
 ghost use Rattle.aut68.specs.Lines.{rowCell};
 ghost use Rattle.aut68.specs.Sizes.{rowWidth};
 ghost use Rattle.cells.specs.Cells.{partsAfter};
+ghost use Rattle.cells.specs.Numbers.{namesLine};
 ghost use Rattle.cells.specs.Posts.{Skipped, Extent};
 use constants::CELL_FACTOR;
 use constants::CONTEXT_LENGTH;
@@ -39,6 +40,18 @@ pub fn kids(table: &[u32], x: Cell) -> usize
         4 => 2,
         5 => 2,
         _ => 0,
+    }
+}
+
+// Does the cell x name a line: is it a variable or a constant?
+pub fn names_line(x: Cell) -> bool
+    ensures { λ r. ⌜ r ≡ namesLine x ⌝ }
+{
+    let k = x % CELL_FACTOR;
+    match k {
+        1 => true,
+        3 => true,
+        _ => false,
     }
 }
 

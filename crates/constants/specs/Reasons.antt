@@ -1,5 +1,8 @@
--- The refusal that each reason of the code stands for.
+-- The refusal that each reason of the code stands for, and what each cause does.
 use Rattle.aut68.specs.Procedure.Answer.{Refusal, workTooSmall, limitOutOfRange, malformed, duplicate, unknownName, wrongArity, notFunction, notType, mismatch, tooLarge, outOfBudget, outOfSpace}
+use Rattle.aut68.specs.Procedure.Calls.{Decline, noSuchLine, answerTooLong}
+use Rattle.constants.specs.declared.codes.Cause.{Cause}
+use Rattle.constants.specs.declared.codes.Cause.the-variants.{NoSuchLine, AnswerTooLong}
 use Rattle.constants.specs.declared.codes.Reason.{Reason}
 use Rattle.constants.specs.declared.codes.Reason.the-variants.{WorkTooSmall, LimitOutOfRange, Malformed, Duplicate, UnknownName, WrongArity}
 use Rattle.constants.specs.declared.codes.Reason.the-variants.{NotFunction, NotType, Mismatch, TooLarge, OutOfBudget, OutOfSpace}
@@ -17,3 +20,7 @@ refusalOf Mismatch = mismatch
 refusalOf TooLarge = tooLarge
 refusalOf OutOfBudget = outOfBudget
 refusalOf OutOfSpace = outOfSpace
+
+abbrev pub declineOf : Cause → Decline
+declineOf NoSuchLine = noSuchLine
+declineOf AnswerTooLong = answerTooLong

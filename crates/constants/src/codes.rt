@@ -1,7 +1,8 @@
 // The codes of refusals, and the reasons that they stand for; 0 stands for no refusal. aut68's Answer has the same for the contracts.
 ghost use mathlib.Core.Path.{_≡_};
 ghost use Rattle.aut68.specs.Procedure.Answer.{Refusal, codeOf};
-ghost use Rattle.constants.specs.Reasons.{refusalOf};
+ghost use Rattle.aut68.specs.Procedure.Calls.{declineCode};
+ghost use Rattle.constants.specs.Reasons.{refusalOf, declineOf};
 
 pub const WORK_TOO_SMALL: u32 = 1;
 
@@ -26,6 +27,24 @@ pub const TOO_LARGE: u32 = 10;
 pub const OUT_OF_BUDGET: u32 = 11;
 
 pub const OUT_OF_SPACE: u32 = 12;
+
+pub const NO_SUCH_LINE: u32 = 13;
+
+// Why a call on a book that was admitted writes no answer.
+pub enum Cause {
+    NoSuchLine,
+    AnswerTooLong,
+}
+
+// The code of a cause.
+pub fn cause_code(cause: Cause) -> u32
+    ensures { λ r. ⌜ r ≡ declineCode (declineOf cause) ⌝ }
+{
+    match cause {
+        Cause::NoSuchLine => NO_SUCH_LINE,
+        Cause::AnswerTooLong => OUT_OF_SPACE,
+    }
+}
 
 // Why a book is refused.
 pub enum Reason {

@@ -2,10 +2,12 @@
 mod codes;
 mod sizes;
 
+pub use codes::Cause;
 pub use codes::DUPLICATE;
 pub use codes::LIMIT_OUT_OF_RANGE;
 pub use codes::MALFORMED;
 pub use codes::MISMATCH;
+pub use codes::NO_SUCH_LINE;
 pub use codes::NOT_FUNCTION;
 pub use codes::NOT_TYPE;
 pub use codes::OUT_OF_BUDGET;
@@ -15,6 +17,7 @@ pub use codes::TOO_LARGE;
 pub use codes::UNKNOWN_NAME;
 pub use codes::WORK_TOO_SMALL;
 pub use codes::WRONG_ARITY;
+pub use codes::cause_code;
 pub use codes::code_of;
 pub use codes::reason_of;
 pub use sizes::BOOK_LIMIT;

@@ -10,12 +10,14 @@ use outcomes::Numbers;
 use outcomes::recorded;
 ghost use Rattle.io.specs.Counts.{Counts};
 
-// The most bytes and lines of a book, the cells of its term store, the budget, the limit.
+// The most bytes and lines of a book, the cells of its term store and of its index, the budget, the limit.
 const BYTES: usize = 65536;
 
 const LINES: usize = 2048;
 
 const TERMS: usize = 32768;
+
+const INDEX: usize = 16384;
 
 const BUDGET: u32 = 100000;
 
@@ -37,6 +39,7 @@ fn listing(book: &[u8], out: &mut [u8]) -> usize {
     let mut table = [0u32; ROW_WIDTH * LINES];
     let mut terms: [Cell; TERMS] = [0; TERMS];
     let mut work: [Cell; WORK_UNITS * LIMIT] = [0; WORK_UNITS * LIMIT];
+    let mut index = [0u32; INDEX];
     let o = verifier::check_book(
         book,
         BUDGET,
@@ -44,6 +47,7 @@ fn listing(book: &[u8], out: &mut [u8]) -> usize {
         &mut table,
         &mut terms,
         &mut work,
+        &mut index,
     );
     let r = verifier::numbers_of(o);
     let n = recorded(r);

@@ -1,2 +1,3 @@
--- Document 01's numbers of an outcome.
+-- The numbers of an outcome and of an answer.
 pub mod Outcomes
+pub mod Answers

@@ -1,4 +1,11 @@
-// Outcomes of the check of a book, and document 01's numbers for them; specs/Outcomes gives the numbers of each case.
+// Outcomes of the check of a book, and document 01's numbers for them; specs/Outcomes gives the numbers of each case. Other calls on
+// a book: answers.rt.
+mod answers;
+
+pub use answers::Answer;
+pub use answers::AnswerNumbers;
+pub use answers::answer_numbers;
+pub use answers::pass_on;
 use constants::Reason;
 use constants::code_of;
 use constants::reason_of;

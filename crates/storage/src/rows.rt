@@ -12,20 +12,36 @@ ghost use lib.Seq.{sets};
 ghost use Rattle.aut68.specs.Sizes.{lineLimit, rowWidth};
 ghost use Rattle.cells.specs.Cells.{Below};
 
-// Is there room for one line more (room): fewer lines than LINE_LIMIT, its row in the table, its cells in the term store?
-pub fn has_room(table: usize, terms: usize, lines: usize, used: usize, size: usize) -> bool
-    ensures { λ r. ⌜ r ≡ (ltb (suc lines) lineLimit && leb (rowWidth * suc lines) table && leb (used + size) terms) ⌝ }
+// How many cells table, term store and index have; and how many of the last two the lines before have filled.
+pub struct Room {
+    pub table: usize,
+    pub terms: usize,
+    pub index: usize,
+    pub used: usize,
+    pub entries: usize,
+}
+
+// Is there room for one line more (room): fewer lines than LINE_LIMIT, its row in the table, its `size` cells in the term store, its
+// entry with so many names in the index?
+pub fn has_room(r: Room, lines: usize, size: usize, names: usize) -> bool
+    ensures { λ t. ⌜ t ≡ (ltb (suc lines) lineLimit && leb (rowWidth * suc lines) (r .table) && leb (r .used + size) (r .terms) && leb (r .entries + suc names) (r .index)) ⌝ }
 {
     if lines >= LAST_LINE {
         return false;
     }
-    if ROW_WIDTH * (lines + 1) > table {
+    if ROW_WIDTH * (lines + 1) > r.table {
         return false;
     }
-    if used > terms {
+    if r.used > r.terms {
         return false;
     }
-    size <= terms - used
+    if size > r.terms - r.used {
+        return false;
+    }
+    if r.entries >= r.index {
+        return false;
+    }
+    names < r.index - r.entries
 }
 
 // a + b, where it is below 2^32; a row has no larger number.

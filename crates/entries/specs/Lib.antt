@@ -1,0 +1,2 @@
+-- What the functions on entries of the index leave.
+pub mod Posts

@@ -1,0 +1,3 @@
+-- Marks on numbers.
+pub mod Marks
+pub mod MarkLaws

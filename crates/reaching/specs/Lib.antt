@@ -1,0 +1,2 @@
+-- What the functions that follow names leave.
+pub mod Posts

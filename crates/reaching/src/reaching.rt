@@ -1,0 +1,101 @@
+// Marks on the lines reached from a line, and the `PN` lines among them.
+use cells::field;
+use cells::names_line;
+use constants::CATEGORY_END;
+use constants::CELL_FACTOR;
+use constants::Cell;
+use constants::INDICATOR;
+use constants::KIND;
+use constants::MIDDLE_START;
+use copies::clear;
+use marks::is_marked;
+use marks::mark;
+ghost use Prim.Native.Nat.{_<_};
+ghost use Rattle.reaching.specs.Posts.{BeneathPost};
+
+// Marks the lines that the cells of the term store from `from` on and before `to` name.
+fn mark_cells(terms: &[Cell], from: usize, to: usize, w: &mut [Cell]) {
+    let mut i = from;
+    while i < to {
+        if i >= terms.len() {
+            return;
+        }
+        let x = terms[i];
+        if names_line(x) {
+            mark(w, (x / CELL_FACTOR) as usize);
+        }
+        i = i + 1;
+    }
+}
+
+// Marks the lines that line v names: its indicator, and those of its cells.
+fn mark_names(table: &[u32], terms: &[Cell], v: usize, w: &mut [Cell]) {
+    let indicator = field(table, v, INDICATOR);
+    if indicator > 0 {
+        mark(w, indicator);
+    }
+    let from = field(table, v, MIDDLE_START);
+    let to = field(table, v, CATEGORY_END);
+    mark_cells(terms, from, to, w);
+}
+
+// Is line v a `PN` line that is marked?
+fn is_beneath(table: &[u32], w: &[Cell], v: usize) -> bool {
+    if is_marked(w, v) {
+        return field(table, v, KIND) == 1;
+    }
+    false
+}
+
+// Marks the lines reached from `line`, in a store without marks; how many of them are `PN` lines.
+fn mark_reached(table: &[u32], terms: &[Cell], line: usize, w: &mut [Cell]) -> usize {
+    mark(w, line);
+    let mut count = 0;
+    let mut v = line;
+    while v > 0 {
+        if is_marked(w, v) {
+            mark_names(table, terms, v, w);
+            if field(table, v, KIND) == 1 {
+                count = count + 1;
+            }
+        }
+        v = v - 1;
+    }
+    count
+}
+
+// Writes the marked `PN` lines up to `line` in the first cells of the answer, ascending; what does not fit is left out.
+fn put_marked(table: &[u32], line: usize, w: &[Cell], answer: &mut [u32]) {
+    let mut n = 0;
+    let mut v = 1;
+    while v <= line {
+        if is_beneath(table, w, v) {
+            if n < answer.len() {
+                answer[n] = v as u32;
+                n = n + 1;
+            }
+        }
+        v = v + 1;
+    }
+}
+
+// Writes the `PN` lines reached from `line` in the first cells of the answer, ascending, unless they do not fit; how many they are. w is
+// there for marks, and is all zeros before and after.
+pub fn put_beneath(
+    table: &[u32],
+    terms: &[Cell],
+    line: usize,
+    w: &mut [Cell],
+    answer: &mut [u32],
+) -> usize
+    requires { ⌜ line < 4294967296 ⌝ }
+    ensures { λ r. ⌜ BeneathPost (now (table .entry)) (now (terms .entry)) line (now (w .entry)) (now (answer .entry)) r (now (w .exit)) (now (answer .exit)) ⌝ }
+{
+    let count = mark_reached(table, terms, line, w);
+    if count <= answer.len() {
+        put_marked(table, line, w, answer);
+    }
+    let n = w.len();
+    clear(w, n);
+    count
+}

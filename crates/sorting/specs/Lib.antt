@@ -1,0 +1,2 @@
+-- What sorting leaves.
+pub mod Posts

@@ -1,0 +1,4 @@
+// Cells in ascending order, each once. specs/Posts has the contracts.
+mod sorting;
+
+pub use sorting::sort;
