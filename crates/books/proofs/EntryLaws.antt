@@ -59,9 +59,9 @@ module _ {limit size indicator count : ℕ} {w w′ : List ℕ} (names : NamesPo
       }
 
   -- what lies below the names is as it was before the line was read
-  pub below-names : {w₀ w₂ : List ℕ} → Outside (contextUnit * limit) (readerUnits * limit) w₀ w → take (lineUnit * limit) w₂ ≡ take (lineUnit * limit) w′
+  pub below-names : {w₀ : List ℕ} (w₂ : List ℕ) → Outside (contextUnit * limit) (readerUnits * limit) w₀ w → take (lineUnit * limit) w₂ ≡ take (lineUnit * limit) w′
       → take (namesAt limit) w₂ ≡ take (namesAt limit) w₀
-  below-names {w₀} {w₂} o e =
+  below-names {w₀} w₂ o e =
       sym (take-take (namesAt limit) (lineUnit * limit) w₂ (omega arith))
       ∙ ap (take (namesAt limit)) e
       ∙ take-take (namesAt limit) (lineUnit * limit) w′ (omega arith)

@@ -54,7 +54,7 @@ module _ (tb row : List ℕ) (n : ℕ) where
   unfolding nameAt
   name-stays book v a b = ap₂ (partOf book) (row-stays v 0 a b (omega arith)) (row-stays v 1 a b (omega arith))
 
-module _ {limit : ℕ} (large : 16 ≤ limit) {book tb : List ℕ} {n : ℕ} {w w₂ : List ℕ} (enough : readerUnits * limit ≤ length w)
+module _ {limit : ℕ} (large : 16 ≤ limit) {book tb : List ℕ} {n : ℕ} (w w₂ : List ℕ) (enough : readerUnits * limit ≤ length w)
     (long : length w₂ ≡ length w) (same : take (namesAt limit) w₂ ≡ take (namesAt limit) w) where
   -- what is read, named and stored leaves the hints
   hints-kept : HintedIn limit book tb n w → HintedIn limit book tb n w₂

@@ -257,7 +257,7 @@ module _ {book : Bytes} {N limit : ℕ} {s₀ : Stores} {k : Recorded} {n used e
               (let i = room .entryFits in let q = j .entriesAre in omega (arith, index-same, size)) entry
               in
               let hinted =
-              hinted-on (f .large) (let e = f .enough in omega arith) (omega (arith, checked .long, names .long, post .outside .long)) (below-names names (post .outside) (checked .below (f .small)))
+              hinted-on (f .large) w w₂ (let e = f .enough in omega arith) (omega (arith, checked .long, names .long, post .outside .long)) (below-names names w₂ (post .outside) (checked .below (f .small)))
               (rowOf (at + p .before) used (p .line)) tables
               (let i = room .fewLines in let j = h .linesAre in omega arith) (let i = room .rowFits in let j = h .linesAre in omega (arith, table-same)) noted hints
               in

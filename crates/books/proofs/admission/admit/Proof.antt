@@ -40,16 +40,16 @@ slice-relend-prefix-check-lines : tie.Need-slice-relend-prefix-check-lines
 slice-relend-prefix-check-lines c = search needs
 
 slice-aggregate-check-lines : tie.Need-slice-aggregate-check-lines
-slice-aggregate-check-lines c = sym (length-take-le _ _ (c .before .before .before .before .if3 .left))
+slice-aggregate-check-lines c = sym (length-take-le _ _ (c .before .before .before .before .before .if3 .left))
 
 check-lines-requires : tie.Need-check-lines-requires
 check-lines-requires c κs =
-    let tests = c .before .before .before in
+    let tests = c .before .before .before .before in
     let room = tests .before .if3 .left in
     record {
       large = tests .before .before .before .if1 .left;
       small = tests .before .before .if2 .left;
-      enough = (let long = length-take-le _ (tests .before .before .before .before .before .before .before .before .args .work .now) room in omega (arith, room, long));
+      enough = (let long = length-take-le _ (tests .before .before .before .before .before .before .before .before .before .args .work .now) room in omega (arith, room, long));
       short = tests .if4 .left;
     }
 
@@ -71,18 +71,20 @@ same-length-3 c = search needs
 same-length-4 : tie.Need-same-length-4
 same-length-4 c = search needs
 
+same-length-5 : tie.Need-same-length-5
+same-length-5 c = search needs
+
 returns-5 : tie.Need-returns-5
 returns-5 c =
     let at-clear2 = c .before .before .before .before in
-    let earlier = at-clear2 .before .before .before .before .before .before .before .before in
-    let called = earlier in
-    let tests = called .before .before .before .before in
+    let called = at-clear2 .before .before .before .before .before .before .before .before .before .before in
+    let tests = called .before .before .before .before .before in
     let room = tests .before .if3 .left in
-    let post = called .check-lines .ensures (tests .before .before .before .before .before .before .before .before .args .work .now) in
+    let post = called .check-lines .ensures (tests .before .before .before .before .before .before .before .before .before .args .work .now) in
     let line = c .before .reported .ensures (post .few) in
     ended aut68 _ _ _ _ (tests .before .before .before .if1 .left) (tests .before .before .if2 .left) room
-    (called .check-lines .last .1 .1 .1 .0) (tests .if4 .left) post (line .0) (line .1) (c .spent .ensures)
-    (called .check-lines .kept .1 .1 .1 .0 ∙ length-take-le _ _ room) (at-clear2 .clear2 .ensures)
+    (called .check-lines .last .1 .1 .1 .1 .0) (tests .if4 .left) post (line .0) (line .1) (c .spent .ensures)
+    (called .check-lines .kept .1 .1 .1 .1 .0 ∙ length-take-le _ _ room) (at-clear2 .clear2 .ensures)
 
 pub admit-spec : {M : Type 1} → statement M
 admit-spec =
@@ -104,4 +106,5 @@ admit-spec =
     same-length-2
     same-length-3
     same-length-4
+    same-length-5
     returns-5)

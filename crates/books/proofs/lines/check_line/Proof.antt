@@ -1,4 +1,5 @@
 -- `check_line`: each of its four ends is one of LineLaws.
+use mathlib.Core.Path.{_∙_}
 use Prim.Native.Nat.{suc, _+_, _*_, _≤_, _<_}
 use native.Mathlib.Omega.{arith}
 use lib.ListN.{length}
@@ -13,13 +14,13 @@ line-end-requires : tie.Need-line-end-requires
 line-end-requires c κs = search needs
 
 sub-read-line : tie.Need-sub-read-line
-sub-read-line c = omega (arith, c .line-end .ensures .from (c .before .before .before .before .before .pre))
+sub-read-line c = omega (arith, c .line-end .ensures .from (c .before .before .before .before .before .before .pre))
 
 part-read-line-start : tie.Need-part-read-line-start
-part-read-line-start c = omega (arith, c .line-end .ensures .from (c .before .before .before .before .before .pre))
+part-read-line-start c = omega (arith, c .line-end .ensures .from (c .before .before .before .before .before .before .pre))
 
 part-read-line-end : tie.Need-part-read-line-end
-part-read-line-end c = c .line-end .ensures .within (omega (arith, c .before .before .before .before .before .pre))
+part-read-line-end c = c .line-end .ensures .within (omega (arith, c .before .before .before .before .before .before .pre))
 
 read-line-requires : tie.Need-read-line-requires
 read-line-requires c κs = search needs
@@ -37,15 +38,18 @@ returns : tie.Need-returns
 returns c =
     let at-read-line = c .before .before .before .before .before in
     let at-line-end = at-read-line .before .before .before .before in
-    let start = at-line-end .before .before .before .before .before in
+    let start = at-line-end .before .before .before .before .before .before in
     let a = start .args in
     let e = at-line-end .line-end in
     let r = at-read-line .read-line in
     line-as (c .stopped .ensures)
     (record {
       onward = λ z. absurd (c .before .if1 .taken z);
-      means = λ f t h i. ends-unread h (a .p .budget) (start .pre) (e .ensures) f t i (r .ensures) (c .before .if1 .taken);
+      means = λ f t h j i. ends-unread h j (a .p .budget) (start .pre) (e .ensures) f t i (r .ensures) (c .before .if1 .taken);
     })
+
+line-names-requires : tie.Need-line-names-requires
+line-names-requires c κs = search needs
 
 has-room-requires : tie.Need-has-room-requires
 has-room-requires c κs = search needs
@@ -61,17 +65,20 @@ same-length-4 c = search needs
 
 returns-2 : tie.Need-returns-2
 returns-2 c =
-    let at-if1 = c .before .before .before in
+    let at-names = c .before .before .before .before .before in
+    let at-if1 = at-names .before .before in
     let at-read-line = at-if1 .before .before .before .before in
     let at-line-end = at-read-line .before .before .before .before in
-    let start = at-line-end .before .before .before .before .before in
+    let start = at-line-end .before .before .before .before .before .before in
     let a = start .args in
     let e = at-line-end .line-end in
     let r = at-read-line .read-line in
     line-as (c .stopped2 .ensures)
     (record {
       onward = λ z. absurd (omega arith);
-      means = λ f t h i. ends-full h (a .p .budget) (start .pre) (e .ensures) f t i (r .ensures) (at-if1 .if1 .left) (c .before .if2 .taken) (c .before .before .has-room .ensures);
+      means =
+          λ f t h j i. ends-full h j (a .p .budget) (start .pre) (e .ensures) f t i (r .ensures) (at-if1 .if1 .left) (at-names .line-names .ensures)
+          (c .before .if2 .taken) (c .before .before .has-room .ensures);
     })
 
 sum-requires : tie.Need-sum-requires
@@ -79,16 +86,19 @@ sum-requires c κs = search needs
 
 -- what is known where there is room
 room-here : (c : tie.Else2)
-    → let at-read-line = c .before .before .before .before .before .before in
-    let a = at-read-line .before .before .before .before .before .before .before .before .before .args in
+    → let at-names = c .before .before .before .before in
+    let at-read-line = at-names .before .before .before .before .before .before in
+    let a = at-read-line .before .before .before .before .before .before .before .before .before .before .args in
     (suc (a .p .lines) < lineLimit)
     × (rowWidth * suc (a .p .lines) ≤ length (a .table .now))
     × (a .p .used + at-read-line .read-line .result .size ≤ length (a .terms .now))
+    × (a .p .entries + suc (at-names .line-names .result) ≤ length (a .index .now))
 room-here c =
-    let at-read-line = c .before .before .before .before .before .before in
-    let start = at-read-line .before .before .before .before .before .before .before .before .before in
-    let a = start .args in
-    room-facts (length (a .table .now)) (length (a .terms .now)) (a .p .lines) (a .p .used) (at-read-line .read-line .result .size) (c .if2 .left) (c .before .has-room .ensures)
+    let at-names = c .before .before .before .before in
+    let at-read-line = at-names .before .before .before .before .before .before in
+    let a = at-read-line .before .before .before .before .before .before .before .before .before .before .args in
+    room-facts (length (a .table .now)) (length (a .terms .now)) (length (a .index .now)) (a .p .lines) (a .p .used) (a .p .entries) (at-read-line .read-line .result .size)
+    (at-names .line-names .result) (c .if2 .left) (c .before .has-room .ensures)
 
 check-stored-requires : tie.Need-check-stored-requires
 check-stored-requires c κs = room-here (c .before .before .before .before) .2
@@ -103,7 +113,10 @@ same-length-6 : tie.Need-same-length-6
 same-length-6 c = search needs
 
 same-length-7 : tie.Need-same-length-7
-same-length-7 c = search needs
+same-length-7 c =
+    let at-check-stored = c .before .before .before .before .before .before .before .before .before in
+    let at-names = at-check-stored .before .before .before .before .before .before .before .before .before in
+    at-check-stored .check-stored .kept .1 .1 .0 ∙ at-names .line-names .kept .0 ∙ at-names .before .before .before .before .before .before .read-line .kept .1 .1 .1 .1 .1 .0
 
 returns-3 : tie.Need-returns-3
 returns-3 c =
@@ -111,10 +124,11 @@ returns-3 c =
     let at-sum = at-check-stored .before .before .before .before in
     let at-if2 = at-sum .before in
     let at-has-room = at-if2 .before in
-    let at-if1 = at-has-room .before in
+    let at-names = at-has-room .before .before .before in
+    let at-if1 = at-names .before .before in
     let at-read-line = at-if1 .before .before .before .before in
     let at-line-end = at-read-line .before .before .before .before in
-    let start = at-line-end .before .before .before .before .before in
+    let start = at-line-end .before .before .before .before .before .before in
     let a = start .args in
     let e = at-line-end .line-end in
     let r = at-read-line .read-line in
@@ -123,23 +137,39 @@ returns-3 c =
     (record {
       onward = λ z. absurd (c .before .if3 .taken z);
       means =
-          λ f t h i. ends-refused h (a .p .budget) (start .pre) (e .ensures) f t i (r .ensures) (at-if1 .if1 .left) (at-if2 .if2 .left) (at-has-room .has-room .ensures)
-          (at-sum .sum .ensures) (k .ensures) (c .before .if3 .taken);
+          λ f t h j i. ends-refused h j (a .p .budget) (start .pre) (e .ensures) f t i (r .ensures) (at-if1 .if1 .left) (at-names .line-names .ensures) (at-if2 .if2 .left)
+          (at-has-room .has-room .ensures) (at-sum .sum .ensures) (k .ensures) (c .before .if3 .taken);
     })
+
+names-at-requires : tie.Need-names-at-requires
+names-at-requires c κs = search needs
+
+put-entry-requires : tie.Need-put-entry-requires
+put-entry-requires c κs = search needs
 
 note-line-requires : tie.Need-note-line-requires
 note-line-requires c κs = search needs
 
-add-t25 : tie.Need-add-t25
-add-t25 c =
-    let earlier = c .before .before .before .before .before .before .before .before .before .before .before .before .before .before .before .before .before .before in
-    omega (arith, room-here earlier .0)
+add-t20 : tie.Need-add-t20
+add-t20 c = omega (arith, room-here (c .before .before .before .before .before .before .before .before .before .before .before .before .before .before .before .before .before .before .before .before .before .before .before .before) .0)
 
-add-t17 : tie.Need-add-t17
-add-t17 c =
-    let earlier = c .before .before .before .before .before .before .before .before .before .before .before .before .before .before .before .before .before .before .before in
-    let start = earlier .before .before .before .before .before .before .before .before .before .before .before .before .before .before .before in
-    omega (arith, start .good .1 .1 .1 .0 .0, room-here earlier .2)
+add-t30 : tie.Need-add-t30
+add-t30 c =
+    let room = c .before .before .before .before .before .before .before .before .before .before .before .before .before .before .before .before .before .before .before .before .before .before .before .before .before in
+    let start = room .before .before .before .before .before .before .before .before .before .before .before .before .before .before .before .before .before .before .before .before in
+    omega (arith, start .good .1 .1 .1 .0 .0, room-here room .2)
+
+add-t31 : tie.Need-add-t31
+add-t31 c =
+    let room = c .before .before .before .before .before .before .before .before .before .before .before .before .before .before .before .before .before .before .before .before .before .before .before .before .before .before in
+    let start = room .before .before .before .before .before .before .before .before .before .before .before .before .before .before .before .before .before .before .before .before in
+    omega (arith, start .good .1 .1 .1 .1 .0 .0, room-here room .3)
+
+add-t47 : tie.Need-add-t47
+add-t47 c =
+    let room = c .before .before .before .before .before .before .before .before .before .before .before .before .before .before .before .before .before .before .before .before .before .before .before .before .before .before in
+    let start = room .before .before .before .before .before .before .before .before .before .before .before .before .before .before .before .before .before .before .before .before in
+    omega (arith, start .good .1 .1 .1 .1 .0 .0, room-here room .3)
 
 same-length-8 : tie.Need-same-length-8
 same-length-8 c = search needs
@@ -150,18 +180,31 @@ same-length-9 c = search needs
 same-length-10 : tie.Need-same-length-10
 same-length-10 c = search needs
 
+same-length-11 : tie.Need-same-length-11
+same-length-11 c =
+    let at-note-line = c .before .before .before .before in
+    let at-check-stored = at-note-line .before .before .before .before .before .before .before .before .before .before .before .before .before .before .before .before .before in
+    let at-names = at-check-stored .before .before .before .before .before .before .before .before .before in
+    at-note-line .note-line .kept .1 .1 .1 .0
+    ∙ at-check-stored .check-stored .kept .1 .1 .0
+    ∙ at-names .line-names .kept .0
+    ∙ at-names .before .before .before .before .before .before .read-line .kept .1 .1 .1 .1 .1 .0
+
 returns-4 : tie.Need-returns-4
 returns-4 c =
-    let at-note-line = c .before .before .before in
-    let at-if3 = at-note-line .before .before .before in
+    let at-note-line = c .before .before .before .before in
+    let at-put = at-note-line .before .before .before .before .before in
+    let at-names-at = at-put .before in
+    let at-if3 = at-names-at .before .before .before in
     let at-check-stored = at-if3 .before .before .before .before .before .before .before .before in
     let at-sum = at-check-stored .before .before .before .before in
     let at-if2 = at-sum .before in
     let at-has-room = at-if2 .before in
-    let at-if1 = at-has-room .before in
+    let at-names = at-has-room .before .before .before in
+    let at-if1 = at-names .before .before in
     let at-read-line = at-if1 .before .before .before .before in
     let at-line-end = at-read-line .before .before .before .before in
-    let start = at-line-end .before .before .before .before .before in
+    let start = at-line-end .before .before .before .before .before .before in
     let a = start .args in
     let e = at-line-end .line-end in
     let r = at-read-line .read-line in
@@ -169,8 +212,9 @@ returns-4 c =
     record {
       onward = λ z. (e .ensures .from (start .pre), e .ensures .within (omega (arith, start .pre)));
       means =
-          λ f t h i. ends-passed h (a .p .budget) (start .pre) (e .ensures) f t i (r .ensures) (at-if1 .if1 .left) (at-if2 .if2 .left) (at-has-room .has-room .ensures)
-          (at-sum .sum .ensures) (k .ensures) (at-if3 .if3 .left) (at-note-line .note-line .ensures);
+          λ f t h j i. ends-passed h j (a .p .budget) (start .pre) (e .ensures) f t i (r .ensures) (at-if1 .if1 .left) (at-names .line-names .ensures) (at-if2 .if2 .left)
+          (at-has-room .has-room .ensures) (at-sum .sum .ensures) (k .ensures) (at-if3 .if3 .left) (at-names-at .names-at .ensures) (at-put .put-entry .ensures)
+          (at-note-line .note-line .ensures);
     }
 
 pub check-line-spec : {M : Type 1} → statement M
@@ -186,6 +230,7 @@ check-line-spec =
     same-length
     same-length-2
     returns
+    line-names-requires
     has-room-requires
     stopped-requires-2
     same-length-3
@@ -198,10 +243,15 @@ check-line-spec =
     same-length-6
     same-length-7
     returns-3
+    names-at-requires
+    put-entry-requires
     note-line-requires
-    add-t25
-    add-t17
+    add-t20
+    add-t30
+    add-t31
+    add-t47
     same-length-8
     same-length-9
     same-length-10
+    same-length-11
     returns-4)
