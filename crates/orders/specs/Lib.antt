@@ -18,3 +18,5 @@ pub mod Walking
 pub mod NewOrders
 -- The same on completed lines.
 pub mod CompletedOrders
+-- Deleting lines.
+pub mod Deleting

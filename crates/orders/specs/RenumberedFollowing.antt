@@ -16,6 +16,11 @@ use Rattle.lookup.specs.Following.{NamesBefore, HasLine, reaches-line}
 
 -- ---- what a renumbered line names
 
+positive-indicator : (v : ℕ) → 0 < v → mentionedAsIndicator v ≡ v ∷ []
+unfolding mentionedAsIndicator
+positive-indicator zero h = absurd (omega arith)
+positive-indicator (suc v) h = refl
+
 module _ (ρ : ℕ → ℕ) where
   mutual
     unfolding renumber mentioned
@@ -38,11 +43,6 @@ module _ (ρ : ℕ → ℕ) where
   middle-renumber variable = refl
   middle-renumber primitive = refl
   middle-renumber (abbreviation m) = mentioned-renumber m
-
-  positive-indicator : (v : ℕ) → 0 < v → mentionedAsIndicator v ≡ v ∷ []
-  unfolding mentionedAsIndicator
-  positive-indicator zero h = absurd (omega arith)
-  positive-indicator (suc v) h = refl
 
   indicator-renumber : (v : ℕ) → ((u : ℕ) → Member u (mentionedAsIndicator v) → 0 < ρ u) → mentionedAsIndicator (renumberIndicator ρ v) ≡ map ρ (mentionedAsIndicator v)
   unfolding renumberIndicator mentionedAsIndicator
@@ -86,9 +86,9 @@ module _ {ls ms : Lines} (before : NamesBefore ls) {v : ℕ} (positive : 1 ≤ v
 
   reaches-origin : {x : ℕ} → Reaches ms (ρ v) x → Origin x
   reaches-origin itself = (v, refl, itself)
-  reaches-origin (onward {w = y} {l = j} r i m) = at (reaches-origin r)
+  reaches-origin (onward {u = x} {w = y} r i m) = at (reaches-origin r)
     where
-      at : Origin _ → Origin y
+      at : Origin x → Origin y
       at o =
           let (l, k, e) = origin-line o i in
           let (w, q, n) = member-unmap ρ (mentionedBy l) (subst (Member y) (ap mentionedBy e ∙ names-renumbered (o .2) k) m) in
