@@ -8,7 +8,7 @@ ghost use Rattle.cells.specs.Posts.{cleared};
 use constants::Cell;
 
 // Does a store of `len` cells have n cells from index `from` on?
-fn whole(from: usize, n: usize, len: usize) -> bool
+pub fn whole(from: usize, n: usize, len: usize) -> bool
     ensures { λ r. ⌜ r ≡ leb (from + n) len ⌝ }
 {
     if from > len {

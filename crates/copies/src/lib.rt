@@ -7,3 +7,4 @@ pub use copies::load;
 pub use copies::move_cells;
 pub use copies::same_cells;
 pub use copies::same_run;
+pub use copies::whole;

@@ -20,7 +20,7 @@ use Rattle.aut68.specs.Procedure.Compare.{Next, same, byParts, stepLeft, stepRi
 use Rattle.aut68.specs.Procedure.Category.{nth, theLine, made, headForm, toFunction, servesAsType, opens, Search, secondChance, categoryAt, arguments, searches, category}
 use Rattle.aut68.specs.Procedure.Category
 use Rattle.aut68.specs.Procedure.CheckLine.{Passed, readLine, room, store, checkDomain, checkSupertype, checkWritten, checkMiddle, checkCategories, checkLine}
-use Rattle.aut68.specs.Procedure.Run.{Recorded, accepted, refusedAt, codeAt, lineAt, stepsAt, tableEnd, termsEnd, checkLines, nothing, run}
+use Rattle.aut68.specs.Procedure.Run.{Recorded, accepted, refusedAt, codeAt, lineAt, stepsAt, tableEnd, termsEnd, indexEnd, checkLines, nothing, run}
 use Rattle.aut68.specs.Demands.{Verdict, LargerLimits, Admitted}
 use Rattle.lookup.specs.Runs.{run-admitted, verdict-admitted, verdict-decides}
 use Rattle.lookup.specs.Answers.{Decides, large-undecided, spent-undecided, Kept, Grows, grows-give, grows-refuse, grows-then, grows-ensure, grows-size, grows-aside}
@@ -300,11 +300,11 @@ module _ (language : Language) (ls : Lines) {L L′ : ℕ} (hL : L ≤ L′) whe
   unfolding checkCategories
   grows-categories l = grows-then (grows-written (l .category)) (λ _. grows-middle (l .kind) (l .category))
 
--- a line, the table and the shelf being as long
+-- a line, the table, the shelf and the index being as long
 grows-line : (language : Language) (ls : Lines) (m m′ : Limits) → Larger m m′ → (bytes : Bytes) → Grows (checkLine language ls m bytes) (checkLine language ls m′ bytes)
 unfolding checkLine store room
 grows-line language ls m m′ h bytes =
-    rw (h .sameTable, h .sameTerms)
+    rw (h .sameTable, h .sameTerms, h .sameIndex)
     (grows-then (grows-read language ls (h .limit) bytes) λ p.
     grows-then (grows-ensure _ _) λ _.
     grows-then (grows-categories language ls (h .limit) (p .line)) λ _.
@@ -356,4 +356,5 @@ module _ (language : Language) where
         steps = ap stepsAt e;
         tableCells = ap (λ x. tableEnd x (s .table)) e;
         termsCells = ap (λ x. termsEnd x (s .terms)) e;
+        indexCells = ap (λ x. indexEnd x (s .index)) e;
       }

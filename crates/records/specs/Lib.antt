@@ -2,6 +2,7 @@
 pub mod Tables
 pub mod ReadLines
 pub mod Reached
+pub mod Indexed
 pub mod Runs
 pub mod Bounds
 pub mod OnRecord

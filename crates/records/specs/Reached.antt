@@ -16,6 +16,7 @@ use Rattle.aut68.specs.Stores.{Stores, Limits, limitsOf}
 use Rattle.aut68.specs.Bytes.{Bytes}
 use Rattle.aut68.specs.Expr.{cells}
 use Rattle.aut68.specs.Lines.{Line, Lines, kindCells, lineCells, termsOf, rowOf, rowsFrom, tableOf}
+use Rattle.aut68.specs.Index.{entryOf, indexOf}
 use Rattle.aut68.specs.Procedure.Answer.{done}
 use Rattle.aut68.specs.Procedure.CheckLine.{Passed, checkLine, room}
 use Rattle.aut68.specs.Procedure.Run.{Recorded, nothing, oneMore, over}
@@ -58,17 +59,21 @@ module _ (ls : Lines) (m : Limits) (l : Line) where
     pub fewLines : suc (length ls) < lineLimit
     pub rowFits : rowWidth * suc (length ls) ≤ m .table
     pub cellsFit : length (termsOf ls) + length (lineCells l) ≤ m .terms
+    pub entryFits : length (indexOf ls) + length (entryOf l) ≤ m .index
 
   pub room-is : room ls m l ≡ true → HasRoom
   unfolding room
-  room-is h = go (ltb (suc (length ls)) lineLimit) (leb (rowWidth * suc (length ls)) (m .table)) (leb (length (termsOf ls) + length (lineCells l)) (m .terms)) refl refl refl h
+  room-is h =
+      go (ltb (suc (length ls)) lineLimit) (leb (rowWidth * suc (length ls)) (m .table)) (leb (length (termsOf ls) + length (lineCells l)) (m .terms))
+      (leb (length (indexOf ls) + length (entryOf l)) (m .index)) refl refl refl refl h
     where
-      go : (a b c : Bool) → ltb (suc (length ls)) lineLimit ≡ a → leb (rowWidth * suc (length ls)) (m .table) ≡ b → leb (length (termsOf ls) + length (lineCells l)) (m .terms) ≡ c
-          → (a && b && c) ≡ true → HasRoom
-      go true true true p q r h = record { fewLines = ltb-true _ _ p; rowFits = leb-true _ _ q; cellsFit = leb-true _ _ r }
-      go false b c p q r h = absurd (false≢true h)
-      go true false c p q r h = absurd (false≢true h)
-      go true true false p q r h = absurd (false≢true h)
+      go : (a b c d : Bool) → ltb (suc (length ls)) lineLimit ≡ a → leb (rowWidth * suc (length ls)) (m .table) ≡ b → leb (length (termsOf ls) + length (lineCells l)) (m .terms) ≡ c
+          → leb (length (indexOf ls) + length (entryOf l)) (m .index) ≡ d → (a && b && c && d) ≡ true → HasRoom
+      go true true true true p q r s h = record { fewLines = ltb-true _ _ p; rowFits = leb-true _ _ q; cellsFit = leb-true _ _ r; entryFits = leb-true _ _ s }
+      go false b c d p q r s h = absurd (false≢true h)
+      go true false c d p q r s h = absurd (false≢true h)
+      go true true false d p q r s h = absurd (false≢true h)
+      go true true true false p q r s h = absurd (false≢true h)
 
 -- ---- parts of the book
 

@@ -9,13 +9,13 @@ use lib.ListN.{set}
 use lib.Seq.{sets}
 use Rattle.aut68.specs.Sizes.{lineLimit, rowWidth}
 use Rattle.cells.specs.CopyLaws.{and-false}
-use borrow.Author.Tests.{not-false, ltb-true, lt-ltb, le-ltb, le-leb, lt-leb, leb-true, leb-false}
+use borrow.Author.Tests.{not-true, not-false, ltb-true, lt-ltb, le-ltb, le-leb, lt-leb, leb-true}
 
 -- ---- room
 
-module _ (table terms lines used size : ℕ) where
+module _ (table terms index lines used entries size names : ℕ) where
   abbrev fits : Bool
-  fits = ltb (suc lines) lineLimit && leb (rowWidth * suc lines) table && leb (used + size) terms
+  fits = ltb (suc lines) lineLimit && leb (rowWidth * suc lines) table && leb (used + size) terms && leb (entries + suc names) index
 
   pub too-many-lines : lineLimit ≤ suc lines → false ≡ fits
   too-many-lines h = rw (le-ltb (suc lines) lineLimit (omega arith))
@@ -23,26 +23,34 @@ module _ (table terms lines used size : ℕ) where
   pub no-row : table < rowWidth * (lines + 1) → false ≡ fits
   no-row h = rw (lt-leb (rowWidth * suc lines) table (omega arith), and-false (ltb (suc lines) lineLimit))
 
-  pub no-cells : terms < used → false ≡ fits
-  no-cells h = rw (lt-leb (used + size) terms (omega arith), and-false (ltb (suc lines) lineLimit && leb (rowWidth * suc lines) table))
+  pub no-cells : {t : Bool} → not t ≡ true → t ≡ leb (used + size) terms → false ≡ fits
+  no-cells {t} h e = rw (← e, not-true t h, and-false (ltb (suc lines) lineLimit && leb (rowWidth * suc lines) table))
 
-  pub room-by-size : suc lines < lineLimit → rowWidth * (lines + 1) ≤ table → used ≤ terms → leb size (terms - used) ≡ fits
-  room-by-size h k l = rw (lt-ltb (suc lines) lineLimit (omega arith), le-leb (rowWidth * suc lines) table (omega arith)) (at (leb size (terms - used)) refl)
-    where
-      at : (t : Bool) → leb size (terms - used) ≡ t → leb size (terms - used) ≡ leb (used + size) terms
-      at true e = e ∙ sym (le-leb (used + size) terms (let q = leb-true size (terms - used) e in omega arith))
-      at false e = e ∙ sym (lt-leb (used + size) terms (let q = leb-false size (terms - used) e in omega arith))
+  pub no-entry : index ≤ names → false ≡ fits
+  no-entry h =
+      rw (
+        lt-leb (entries + suc names) index (omega arith),
+        and-false (ltb (suc lines) lineLimit && leb (rowWidth * suc lines) table && leb (used + size) terms),
+      )
+
+  pub room-by-entry : {t u : Bool} → suc lines < lineLimit → rowWidth * (lines + 1) ≤ table → not t ≡ false → t ≡ leb (used + size) terms → u ≡ leb (entries + (names + 1)) index → u ≡ fits
+  room-by-entry {t} h k f e g =
+      let n : names + 1 ≡ suc names = omega arith in
+      rw (lt-ltb (suc lines) lineLimit (omega arith), le-leb (rowWidth * suc lines) table (omega arith), ← e, not-false t f)
+      (g ∙ ap (λ (i : ℕ). leb (entries + i) index) n)
 
   -- what room means
-  pub room-facts : {t : Bool} → not t ≡ false → t ≡ fits → (suc lines < lineLimit) × (rowWidth * suc lines ≤ table) × (used + size ≤ terms)
-  room-facts {t} flag e = at (ltb (suc lines) lineLimit) (leb (rowWidth * suc lines) table) (leb (used + size) terms) refl refl refl (sym (not-false t flag) ∙ e)
+  pub room-facts : {t : Bool} → not t ≡ false → t ≡ fits → (suc lines < lineLimit) × (rowWidth * suc lines ≤ table) × (used + size ≤ terms) × (entries + suc names ≤ index)
+  room-facts {t} flag e =
+      at (ltb (suc lines) lineLimit) (leb (rowWidth * suc lines) table) (leb (used + size) terms) (leb (entries + suc names) index) refl refl refl refl (sym (not-false t flag) ∙ e)
     where
-      at : (a b c : Bool) → ltb (suc lines) lineLimit ≡ a → leb (rowWidth * suc lines) table ≡ b → leb (used + size) terms ≡ c → true ≡ (a && b && c)
-          → (suc lines < lineLimit) × (rowWidth * suc lines ≤ table) × (used + size ≤ terms)
-      at true true true p q r e = (ltb-true _ _ p, leb-true _ _ q, leb-true _ _ r)
-      at false b c p q r e = absurd (true≢false e)
-      at true false c p q r e = absurd (true≢false e)
-      at true true false p q r e = absurd (true≢false e)
+      at : (a b c d : Bool) → ltb (suc lines) lineLimit ≡ a → leb (rowWidth * suc lines) table ≡ b → leb (used + size) terms ≡ c → leb (entries + suc names) index ≡ d
+          → true ≡ (a && b && c && d) → (suc lines < lineLimit) × (rowWidth * suc lines ≤ table) × (used + size ≤ terms) × (entries + suc names ≤ index)
+      at true true true true p q r s e = (ltb-true _ _ p, leb-true _ _ q, leb-true _ _ r, leb-true _ _ s)
+      at false b c d p q r s e = absurd (true≢false e)
+      at true false c d p q r s e = absurd (true≢false e)
+      at true true false d p q r s e = absurd (true≢false e)
+      at true true true false p q r s e = absurd (true≢false e)
 
 -- ---- a row
 

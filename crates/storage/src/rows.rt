@@ -1,6 +1,7 @@
 // Rows of the table, and room for them.
 use constants::LAST_LINE;
 use constants::ROW_WIDTH;
+use copies::whole;
 use reader::Line;
 ghost use mathlib.Core.Path.{_≡_};
 ghost use mathlib.Core.Bool.{_&&_};
@@ -32,16 +33,13 @@ pub fn has_room(r: Room, lines: usize, size: usize, names: usize) -> bool
     if ROW_WIDTH * (lines + 1) > r.table {
         return false;
     }
-    if r.used > r.terms {
+    if !whole(r.used, size, r.terms) {
         return false;
     }
-    if size > r.terms - r.used {
+    if names >= r.index {
         return false;
     }
-    if r.entries >= r.index {
-        return false;
-    }
-    names < r.index - r.entries
+    whole(r.entries, names + 1, r.index)
 }
 
 // a + b, where it is below 2^32; a row has no larger number.

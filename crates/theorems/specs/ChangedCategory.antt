@@ -40,7 +40,7 @@ pub record Changed : Type 0 where
 derived : Derived aut68 [] (take 3 (lines numbers)) numberLines
 unfolding Recording numberLines
 derived =
-    subst (λ ls. Derived aut68 [] (take (length ls) (lines numbers)) ls) numbers-recorded (recorded-are-meanings aut68 numbers (record { budget = 0; limit = 16; table = 24; terms = 8; work = 2048 }))
+    subst (λ ls. Derived aut68 [] (take (length ls) (lines numbers)) ls) numbers-recorded (recorded-are-meanings aut68 numbers (record { budget = 0; limit = 16; table = 24; terms = 8; work = 2048; index = 16384 }))
 
 unfoldable nat : Expr
 nat = const 1 nil
