@@ -12,7 +12,7 @@ use Rattle.aut68.specs.Rules.Names.{IsLine, Member, here, there}
 use Rattle.aut68.specs.Rules.Following.{NamesLine, Reaches, itself, onward, Beneath, Ascends, none, one, more, RestsOn}
 use Rattle.lookup.specs.Lists.{member-map, member-unmap, member-left}
 use Rattle.lookup.specs.LineNumbers.{line-positive, line-unique}
-use Rattle.lookup.specs.Following.{NamesBefore, HasLine, reaches-line}
+use Rattle.lookup.specs.Following.{NamesBefore, reaches-line}
 
 -- ---- what a renumbered line names
 
