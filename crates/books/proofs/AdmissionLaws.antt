@@ -14,8 +14,9 @@ use Rattle.aut68.specs.Sizes.{smallestLimit, largestLimit, workUnits, bookLimit
 use Rattle.aut68.specs.Stores.{Stores, stores, Limits, limitsOf}
 use Rattle.aut68.specs.Bytes.{Bytes, lines}
 use Rattle.aut68.specs.Lines.{tableOf, rowsFrom, termsOf}
+use Rattle.aut68.specs.Index.{indexOf}
 use Rattle.aut68.specs.Procedure.Answer.{Refusal, codeOf, workTooSmall, limitOutOfRange, outOfSpace}
-use Rattle.aut68.specs.Procedure.Run.{Recorded, Ending, turnedAway, refusedAt, nothing, checkLines, run, over, codeAt, lineAt, stepsAt, recordedAt, tableEnd, termsEnd, workEnd}
+use Rattle.aut68.specs.Procedure.Run.{Recorded, Ending, turnedAway, refusedAt, nothing, checkLines, run, over, codeAt, lineAt, stepsAt, recordedAt, tableEnd, termsEnd, workEnd, indexEnd}
 use Rattle.aut68.specs.Demands.{Determined}
 use Rattle.lookup.specs.Runs.{LinesEnd, allPass, oneStops, lines-end, run-admitted}
 use Rattle.cells.specs.Posts.{cleared}
@@ -33,8 +34,8 @@ module _ (language : Language) (book : Bytes) (N L : ℕ) (s : Stores) where
 
   -- an ending at which nothing is recorded
   ends : {e : Ending} {w′ : List ℕ} → result ≡ e → recordedAt e ≡ nothing → w′ ≡ workEnd L e (s .work)
-      → Determined result L s (codeAt e) (lineAt e) (stepsAt e) (stores (s .table) (s .terms) w′)
-  unfolding tableEnd termsEnd nothing over tableOf termsOf rowsFrom
+      → Determined result L s (codeAt e) (lineAt e) (stepsAt e) (stores (s .table) (s .terms) w′ (s .index))
+  unfolding tableEnd termsEnd indexEnd nothing over tableOf termsOf rowsFrom indexOf
   ends {e} q n h =
       record {
         codeIs = sym (ap codeAt q);
@@ -43,11 +44,12 @@ module _ (language : Language) (book : Bytes) (N L : ℕ) (s : Stores) where
         tableIs = sym (ap (λ x. tableEnd x (s .table)) q ∙ ap (λ (k : Recorded). over (tableOf (k .firsts) (k .recorded)) (s .table)) n);
         termsAre = sym (ap (λ x. termsEnd x (s .terms)) q ∙ ap (λ (k : Recorded). over (termsOf (k .recorded)) (s .terms)) n);
         workIs = h ∙ sym (ap (λ x. workEnd L x (s .work)) q);
+        indexIs = sym (ap (λ x. indexEnd x (s .index)) q ∙ ap (λ (k : Recorded). over (indexOf (k .recorded)) (s .index)) n);
       }
 
   -- refused ahead of the lines
   abbrev EndsEarly : Refusal → List ℕ → Type 0
-  EndsEarly r w′ = Determined result L s (codeOf r) 0 0 (stores (s .table) (s .terms) w′)
+  EndsEarly r w′ = Determined result L s (codeOf r) 0 0 (stores (s .table) (s .terms) w′ (s .index))
 
   away : {r : Refusal} → result ≡ turnedAway r → EndsEarly r (s .work)
   unfolding codeAt lineAt stepsAt recordedAt workEnd
@@ -92,11 +94,11 @@ module _ (language : Language) (book : Bytes) (N L : ℕ) (s : Stores) where
       lines-clear (oneStops past bytes rest q x f) = refl
 
       -- the lines were checked, with the units of the working store lent
-      pub ended : {code n rest line steps : ℕ} {tb′ ts′ w′ : List ℕ} (front : List ℕ) → length book ≤ bookLimit
-          → LinesPost ofLines N (s .table) (s .terms) code n rest tb′ ts′
+      pub ended : {code n rest line steps : ℕ} {tb′ ts′ w′ ix′ : List ℕ} (front : List ℕ) → length book ≤ bookLimit
+          → LinesPost ofLines N (s .table) (s .terms) (s .index) code n rest tb′ ts′ ix′
           → (code ≡ 0 → line ≡ n) → (code ≢ 0 → line ≡ n + 1) → steps ≡ N - rest
           → length front ≡ workUnits * L → w′ ≡ cleared (workUnits * L) (front ++ drop (workUnits * L) (s .work))
-          → Determined result L s code line steps (stores tb′ ts′ w′)
+          → Determined result L s code line steps (stores tb′ ts′ w′ ix′)
       unfolding nothing
       ended {code} {line = line} front short post zero more taken long work =
           let q : result ≡ ofLines = run-admitted language book limits (record { atLeast = low; atMost = high; enough = enough; short = short }) in
@@ -107,6 +109,7 @@ module _ (language : Language) (book : Bytes) (N L : ℕ) (s : Stores) where
             stepsAre = taken ∙ post .stepsAre ∙ sym (ap stepsAt q);
             tableIs = post .tableIs ∙ sym (ap (λ x. tableEnd x (s .table)) q);
             termsAre = post .termsAre ∙ sym (ap (λ x. termsEnd x (s .terms)) q);
+            indexIs = post .indexIs ∙ sym (ap (λ x. indexEnd x (s .index)) q);
             workIs =
                 work
                 ∙ cleared-over (front ++ tail) (omega (arith, long, length-append front tail, length-drop (workUnits * L) (s .work))) (drop-at front tail (workUnits * L) long)

@@ -8,9 +8,8 @@ use lib.ListN.{length, take, drop, length-append, length-drop}
 use lib.Seq.{sets, length-sets, take-at, drop-at, take-take, length-take-le}
 use Rattle.aut68.specs.Lines.{identifierPart, partOf, rowCell}
 use Rattle.aut68.specs.Sizes.{lineLimit, rowWidth}
-use Rattle.cells.specs.Layout.{lineUnit, readerUnits}
-use Rattle.cells.specs.Cells.{Outside}
-use Rattle.cells.specs.Stores.{sets-elsewhere, outside-below}
+use Rattle.cells.specs.Layout.{namesAt, readerUnits}
+use Rattle.cells.specs.Stores.{sets-elsewhere}
 use Rattle.cells.specs.RowLaws.{row-cell-is}
 use Rattle.names.specs.Hints.{slots, Noted, nameAt}
 use Rattle.names.specs.HintLaws.{slots-fit, identifier-name, hinted-same, hinted-more}
@@ -55,27 +54,23 @@ module _ (tb row : List ℕ) (n : ℕ) where
   unfolding nameAt
   name-stays book v a b = ap₂ (partOf book) (row-stays v 0 a b (omega arith)) (row-stays v 1 a b (omega arith))
 
-module _ {limit : ℕ} (large : 16 ≤ limit) {book tb : List ℕ} {n : ℕ} {w w₁ : List ℕ} (w₂ : List ℕ) (enough : readerUnits * limit ≤ length w) where
-  -- what is read and stored leaves the hints
-  hints-kept : Outside (23 * limit) (readerUnits * limit) w w₁ → length w₂ ≡ length w₁ → take (lineUnit * limit) w₂ ≡ take (lineUnit * limit) w₁
-      → HintedIn limit book tb n w → HintedIn limit book tb n w₂
-  hints-kept o l e h =
+module _ {limit : ℕ} (large : 16 ≤ limit) {book tb : List ℕ} {n : ℕ} {w w₂ : List ℕ} (enough : readerUnits * limit ≤ length w)
+    (long : length w₂ ≡ length w) (same : take (namesAt limit) w₂ ≡ take (namesAt limit) w) where
+  -- what is read, named and stored leaves the hints
+  hints-kept : HintedIn limit book tb n w → HintedIn limit book tb n w₂
+  hints-kept h =
       let m : length (take (readerUnits * limit) w) ≡ readerUnits * limit = length-take-le (readerUnits * limit) w enough in
-      let m₂ : length (take (readerUnits * limit) w₂) ≡ readerUnits * limit = length-take-le (readerUnits * limit) w₂ (omega (arith, o .long)) in
-      hinted-same (23 * limit) (omega (arith, ap slots m, slots-fit limit large)) (m₂ ∙ sym m)
-      (take-take (23 * limit) (readerUnits * limit) w₂ (omega arith)
-      ∙ sym (take-take (23 * limit) (lineUnit * limit) w₂ (omega arith))
-      ∙ ap (take (23 * limit)) e
-      ∙ take-take (23 * limit) (lineUnit * limit) w₁ (omega arith)
-      ∙ outside-below {n = 23 * limit} (omega arith) o
-      ∙ sym (take-take (23 * limit) (readerUnits * limit) w (omega arith))) h
+      let m₂ : length (take (readerUnits * limit) w₂) ≡ readerUnits * limit = length-take-le (readerUnits * limit) w₂ (omega (arith, long)) in
+      hinted-same (namesAt limit) (omega (arith, ap slots m, slots-fit limit large)) (m₂ ∙ sym m)
+      (take-take (namesAt limit) (readerUnits * limit) w₂ (omega arith)
+      ∙ same
+      ∙ sym (take-take (namesAt limit) (readerUnits * limit) w (omega arith))) h
 
   -- and the line itself is noted
-  pub hinted-on : (row : List ℕ) {tb′ w₃ : List ℕ} → Outside (23 * limit) (readerUnits * limit) w w₁ → length w₂ ≡ length w₁ → take (lineUnit * limit) w₂ ≡ take (lineUnit * limit) w₁
-      → tb′ ≡ sets tb (rowWidth * n) row → suc n < lineLimit → rowWidth * suc n ≤ length tb → NotedLine book tb′ n limit w₂ w₃
+  pub hinted-on : (row : List ℕ) {tb′ w₃ : List ℕ} → tb′ ≡ sets tb (rowWidth * n) row → suc n < lineLimit → rowWidth * suc n ≤ length tb → NotedLine book tb′ n limit w₂ w₃
       → HintedIn limit book tb n w → HintedIn limit book tb′ (n + 1) w₃
-  hinted-on row {tb′} {w₃} o l e t few room noted h =
+  hinted-on row {tb′} {w₃} t few room noted h =
       let same : (v : ℕ) → 1 ≤ v → v ≤ n → nameAt book tb′ v ≡ nameAt book tb v = λ v a b. ap (λ (x : List ℕ). nameAt book x v) t ∙ name-stays tb row n book v a b in
-      let here = noted .noted few (omega (arith, ap length t, length-sets tb (rowWidth * n) row)) (omega (arith, o .long)) in
+      let here = noted .noted few (omega (arith, ap length t, length-sets tb (rowWidth * n) row)) (omega (arith, long)) in
       let q : suc n ≡ n + 1 = omega arith in
-      subst (λ (i : ℕ). HintedIn limit book tb′ i w₃) q (hinted-more same refl here (hints-kept o l e h))
+      subst (λ (i : ℕ). HintedIn limit book tb′ i w₃) q (hinted-more same refl here (hints-kept h))

@@ -15,6 +15,7 @@ use Rattle.aut68.specs.Stores.{Stores, Limits, limitsOf}
 use Rattle.aut68.specs.Bytes.{Bytes, lines}
 use Rattle.aut68.specs.Expr.{size, cells}
 use Rattle.aut68.specs.Lines.{kindCells, lineCells, termsOf, tableOf, rowOf}
+use Rattle.aut68.specs.Index.{entryOf, indexOf}
 use Rattle.aut68.specs.Procedure.Answer.{done, andThen, codeOf}
 use Rattle.aut68.specs.Procedure.CheckLine.{Passed, readLine, checkLine, room}
 use Rattle.aut68.specs.Procedure.Resolve.{found}
@@ -22,7 +23,7 @@ use Rattle.aut68.specs.Procedure.Run.{Recorded}
 use Rattle.lookup.specs.DerivedBooks.{right-contexts}
 use Rattle.calculus.specs.Resolved.{resolved-known, category-known}
 use Rattle.inclusion.specs.Derivations.{line-middle, line-category, category-ends}
-use Rattle.cells.specs.Layout.{lineUnit}
+use Rattle.cells.specs.Layout.{namesAt, lineUnit}
 use Rattle.cells.specs.Forests.{size-is-length}
 use Rattle.cells.specs.Results.{Result, passed, refused}
 use Rattle.kinds.specs.Kinds.{KindsTable}
@@ -34,24 +35,32 @@ use Rattle.categories.specs.Places.{LineCells}
 use Rattle.records.specs.Tables.{table-long, spelled-long, over-long}
 use Rattle.records.specs.OnRecord.{reached-known, reached-book}
 use Rattle.records.specs.ReadLines.{LineRead, line-read}
-use Rattle.records.specs.Reached.{Reached, HasRoom, room-is, reached-more, slice-is}
-use Rattle.records.specs.Bounds.{used-small, size-small, stored-cells, row-small}
+use Rattle.records.specs.Reached.{Reached, HasRoom, room-is, reached-more, slice-is, context-before}
+use Rattle.records.specs.Indexed.{Indexed, indexed-more}
+use Rattle.records.specs.Bounds.{used-small, line-cells-fit, size-small, stored-cells, row-small}
+use Rattle.entries.specs.Posts.{NamesPut, NamesPost, EntryPost}
 use Rattle.books.specs.Progress.{Fitting, ToStore, StoredPost, NotedLine, HintedIn, LineResult, LinePost, passed, refused}
 use Rattle.books.specs.Progress as P
+use Rattle.books.proofs.EntryLaws.{read-still, below-names, entry-long, entry-put}
 use Rattle.books.proofs.HintLaws.{hinted-on}
 use Rattle.books.proofs.ReadLaws.{result-done, result-stop, not-read, no-room, by-categories}
 
 -- where a line ends, and what is recorded, under other names
-pub line-as : {book ks : Bytes} {limit at n used budget : ℕ} {tb ts w : List ℕ} {code next n′ used′ left : ℕ} {tb′ ts′ w′ : List ℕ} {c a l u b : ℕ}
-    → (c ≡ code) × (a ≡ next) × (l ≡ n′) × (u ≡ used′) × (b ≡ left)
-    → LinePost book ks limit at n used budget tb ts w code next n′ used′ left tb′ ts′ w′ → LinePost book ks limit at n used budget tb ts w c a l u b tb′ ts′ w′
-line-as (p, q, r, s, t) h = rw (p, q, r, s, t) h
+pub line-as : {book ks : Bytes} {limit at n used entries budget : ℕ} {tb ts ix w : List ℕ} {code next n′ used′ entries′ left : ℕ} {tb′ ts′ ix′ w′ : List ℕ} {c a l u v b : ℕ}
+    → (c ≡ code) × (a ≡ next) × (l ≡ n′) × (u ≡ used′) × (v ≡ entries′) × (b ≡ left)
+    → LinePost book ks limit at n used entries budget tb ts ix w code next n′ used′ entries′ left tb′ ts′ ix′ w′
+    → LinePost book ks limit at n used entries budget tb ts ix w c a l u v b tb′ ts′ ix′ w′
+line-as (p, q, r, s, t, u) h = rw (p, q, r, s, t, u) h
 
 reached-as : {book : Bytes} {N limit : ℕ} {s : Stores} {k : Recorded} {n u u′ : ℕ} {tb tb′ ts ts′ : List ℕ} → u′ ≡ u → tb′ ≡ tb → ts′ ≡ ts
     → Reached aut68 book N limit s k n u tb ts → Reached aut68 book N limit s k n u′ tb′ ts′
 reached-as e f g h = rw (e, f, g) h
 
-module _ {book : Bytes} {N limit : ℕ} {s₀ : Stores} {k : Recorded} {n used : ℕ} {tb ts : List ℕ} (h : Reached aut68 book N limit s₀ k n used tb ts) where
+indexed-as : {s : Stores} {k : Recorded} {n n′ : ℕ} {ix ix′ : List ℕ} → n′ ≡ n → ix′ ≡ ix → Indexed s k n ix → Indexed s k n′ ix′
+indexed-as e f h = rw (e, f) h
+
+module _ {book : Bytes} {N limit : ℕ} {s₀ : Stores} {k : Recorded} {n used entries : ℕ} {tb ts ix : List ℕ} (h : Reached aut68 book N limit s₀ k n used tb ts)
+    (j : Indexed s₀ k entries ix) where
   abbrev limits : Limits
   limits = limitsOf N limit s₀
 
@@ -66,6 +75,12 @@ module _ {book : Bytes} {N limit : ℕ} {s₀ : Stores} {k : Recorded} {n used :
       let a = h .termsRoom in
       let q = h .usedIs in
       ap length (h .termsAre) ∙ over-long (termsOf (k .recorded)) (s₀ .terms) (omega arith)
+
+  index-same : length ix ≡ length (s₀ .index)
+  index-same =
+      let a = j .indexRoom in
+      let q = j .entriesAre in
+      ap length (j .indexIs) ∙ over-long (indexOf (k .recorded)) (s₀ .index) (omega arith)
 
   -- ---- read
 
@@ -135,81 +150,116 @@ module _ {book : Bytes} {N limit : ℕ} {s₀ : Stores} {k : Recorded} {n used :
     part = omega (arith, within, ends-at)
 
     -- the reading refuses it
-    pub ends-unread : x .code ≢ 0 → {used′ : ℕ} {w″ : List ℕ} → LineResult book N limit s₀ k at n budget tb ts (x .code) at n used′ budget tb ts w″
+    pub ends-unread : x .code ≢ 0 → {used′ entries′ : ℕ} {w″ : List ℕ} → LineResult book N limit s₀ k at n budget tb ts ix (x .code) at n used′ entries′ budget tb ts ix w″
     ends-unread c =
         let (r, e, q) = result-stop c (line-result part f table hints post) in
-        P.refused cut (not-read aut68 (k .recorded) limits bytes budget e) q refl refl refl
+        P.refused cut (not-read aut68 (k .recorded) limits bytes budget e) q refl refl refl refl
 
-    module _ (read : x .code ≡ 0) where
+    module _ (read : x .code ≡ 0) {count : ℕ} {w₁ : List ℕ} (names : NamesPost limit (x .size) (x .indicator) w′ w₁ count) where
       abbrev Is : Passed → Type 0
-      Is p = Reader.LineRead bytes w′ (lineUnit * limit) x p
+      Is p = Reader.LineRead bytes w₁ (lineUnit * limit) x p
 
-      room-same : {p : Passed} → Is p → (ltb (suc n) lineLimit && leb (rowWidth * suc n) (length tb) && leb (used + x .size) (length ts)) ≡ room (k .recorded) limits (p .line)
+      is-read : {p : Passed} → readLine aut68 (k .recorded) limit bytes tt ≡ found p → LineRead aut68 (k .recorded) limit bytes p
+      is-read d = line-read aut68 (k .recorded) limit bytes (right-contexts (h .derived)) d
+
+      -- the line that was read, and what it names
+      record Line-here : Type 0 where
+        passed : Passed
+        found : readLine aut68 (k .recorded) limit bytes tt ≡ found passed
+        is : Is passed
+        named : NamesPut (passed .line) limit count w₁
+
+      here : Line-here
+      here =
+          let (p, d, a) = result-done read (line-result part f table hints post) in
+          let R = is-read d in
+          let z = a .sizeIs in
+          let i = a .indicatorIs in
+          let s : x .size ≤ 2 * limit = omega (arith, z, line-cells-fit R) in
+          record {
+            passed = p;
+            found = d;
+            is = read-still names s a;
+            named =
+                names .means (f .large) (f .small) (let e = f .enough in omega (arith, post .outside .long)) (a .cellsAt) z s i
+                (let c = context-before (R .reading .contextIs) in let q = h .few in let l = h .linesAre in omega arith);
+          }
+
+      long : workUnits * limit ≤ length w₁
+      long = let e = f .enough in omega (arith, names .long, post .outside .long)
+
+      abbrev fitting : Bool
+      fitting = ltb (suc n) lineLimit && leb (rowWidth * suc n) (length tb) && leb (used + x .size) (length ts) && leb (entries + suc count) (length ix)
+
+      room-same : fitting ≡ room (k .recorded) limits (here .passed .line)
       unfolding room
-      room-same a =
-          λ i. ltb (suc (h .linesAre i)) lineLimit && leb (rowWidth * suc (h .linesAre i)) (table-same i) && leb (h .usedIs i + a .sizeIs i) (terms-same i)
+      room-same =
+          λ i. ltb (suc (h .linesAre i)) lineLimit && leb (rowWidth * suc (h .linesAre i)) (table-same i) && leb (h .usedIs i + here .is .sizeIs i) (terms-same i)
+          && leb (j .entriesAre i + entry-long (let l = f .large in omega arith) long (here .named) i) (index-same i)
 
       -- there is no room for it
-      pub ends-full : {t : Bool} → not t ≡ true → t ≡ (ltb (suc n) lineLimit && leb (rowWidth * suc n) (length tb) && leb (used + x .size) (length ts)) → {used′ : ℕ} {w″ : List ℕ}
-          → LineResult book N limit s₀ k at n budget tb ts 12 at n used′ budget tb ts w″
+      pub ends-full : {t : Bool} → not t ≡ true → t ≡ fitting → {used′ entries′ : ℕ} {w″ : List ℕ}
+          → LineResult book N limit s₀ k at n budget tb ts ix 12 at n used′ entries′ budget tb ts ix w″
       unfolding codeOf
-      ends-full {t} flag e =
-          let (p, d, a) = result-done read (line-result part f table hints post) in
-          P.refused cut (no-room aut68 (k .recorded) limits bytes budget d (sym (room-same a) ∙ sym e ∙ not-true t flag)) refl refl refl refl
+      ends-full {t} flag e = P.refused cut (no-room aut68 (k .recorded) limits bytes budget (here .found) (sym room-same ∙ sym e ∙ not-true t flag)) refl refl refl refl refl
 
-      module _ {t : Bool} (flag : not t ≡ false) (fits : t ≡ (ltb (suc n) lineLimit && leb (rowWidth * suc n) (length tb) && leb (used + x .size) (length ts))) where
-        has-room : {p : Passed} → Is p → room (k .recorded) limits (p .line) ≡ true
-        has-room a = sym (room-same a) ∙ sym fits ∙ not-false t flag
+      module _ {t : Bool} (flag : not t ≡ false) (fits : t ≡ fitting) where
+        has-room : room (k .recorded) limits (here .passed .line) ≡ true
+        has-room = sym room-same ∙ sym fits ∙ not-false t flag
 
-        is-read : {p : Passed} → readLine aut68 (k .recorded) limit bytes tt ≡ found p → LineRead aut68 (k .recorded) limit bytes p
-        is-read d = line-read aut68 (k .recorded) limit bytes (right-contexts (h .derived)) d
+        its-room : HasRoom (k .recorded) limits (here .passed .line)
+        its-room = room-is (k .recorded) limits (here .passed .line) has-room
 
-        stores : {p : Passed} → readLine aut68 (k .recorded) limit bytes tt ≡ found p → Is p → ToStore (k .recorded) (p .line) limit used (x .middle) (x .size) tb ts w′
-        stores {p} d a =
-            to-store (is-read d) (room-is (k .recorded) limits (p .line) (has-room a)) (f .small)
-            (let e = f .enough in let o = post .outside .long in omega arith) a
+        stores : ToStore (k .recorded) (here .passed .line) limit used (x .middle) (x .size) tb ts w₁
+        stores = to-store (is-read (here .found)) its-room (f .small) long (here .is)
 
         module _ {start left code′ : ℕ} {tb′ ts′ w₂ : List ℕ} (sum : at + x .first < 4294967296 → start ≡ at + x .first)
             (checked : StoredPost limit n used (x .middle) (x .size)
-            (start ∷ x .len ∷ x .indicator ∷ x .context ∷ x .kind ∷ used ∷ (used + x .middle) ∷ (used + x .size) ∷ []) budget tb ts w′ tb′ ts′ w₂ code′ left) where
+            (start ∷ x .len ∷ x .indicator ∷ x .context ∷ x .kind ∷ used ∷ (used + x .middle) ∷ (used + x .size) ∷ []) budget tb ts w₁ tb′ ts′ w₂ code′ left) where
           abbrev row : List ℕ
           row = start ∷ x .len ∷ x .indicator ∷ x .context ∷ x .kind ∷ used ∷ (used + x .middle) ∷ (used + x .size) ∷ []
 
           -- its categories refuse it
-          pub ends-refused : code′ ≢ 0 → {used′ : ℕ} {w″ : List ℕ} → LineResult book N limit s₀ k at n budget tb ts code′ at n used′ left tb′ ts′ w″
+          pub ends-refused : code′ ≢ 0 → {used′ entries′ : ℕ} {w″ : List ℕ} → LineResult book N limit s₀ k at n budget tb ts ix code′ at n used′ entries′ left tb′ ts′ ix w″
           unfolding andThen
           ends-refused c =
-              let (p, d, a) = result-done read (line-result part f table hints post) in
-              let s = stores d a in
-              let (r, e, q) = result-stop c (checked .means s) in
-              let (t, u) = checked .restored s c in
-              P.refused cut (by-categories aut68 (k .recorded) limits bytes budget d (has-room a) ∙ ap (andThen _) e) q refl t u
+              let (r, e, q) = result-stop c (checked .means stores) in
+              let (t, u) = checked .restored stores c in
+              P.refused cut (by-categories aut68 (k .recorded) limits bytes budget (here .found) has-room ∙ ap (andThen _) e) q refl t u refl
 
-          row-same : {p : Passed} → Is p → start ≡ at + x .first → row ≡ rowOf (at + p .before) used (p .line)
+          row-same : start ≡ at + x .first → row ≡ rowOf (at + here .passed .before) used (here .passed .line)
           unfolding rowOf
-          row-same a e =
+          row-same e =
+              let a = here .is in
               λ i. (e ∙ ap (λ (j : ℕ). at + j) (a .firstIs)) i ∷ a .lenIs i ∷ a .indicatorIs i ∷ a .contextIs i ∷ a .kindIs i ∷ used ∷ (used + a .middleIs i) ∷ (used + a .sizeIs i) ∷ []
 
           -- it is recorded
-          pub ends-passed : code′ ≡ 0 → {w₃ : List ℕ} → NotedLine book tb′ n limit w₂ w₃
-              → LineResult book N limit s₀ k at n budget tb ts 0 next (n + 1) (used + x .size) left tb′ ts′ w₃
+          pub ends-passed : code′ ≡ 0 → {w₃ ix′ : List ℕ} {to : ℕ} → (1 ≤ limit → limit ≤ largestLimit → to ≡ namesAt limit) → EntryPost ix entries w₂ to count ix′ → NotedLine book tb′ n limit w₂ w₃
+              → LineResult book N limit s₀ k at n budget tb ts ix 0 next (n + 1) (used + x .size) (entries + count + 1) left tb′ ts′ ix′ w₃
           unfolding andThen
-          ends-passed c noted =
-              let (p, d, a) = result-done read (line-result part f table hints post) in
-              let s = stores d a in
-              let (t, e, z) = result-done c (checked .means s) in
-              let R = is-read d in
-              let room = room-is (k .recorded) limits (p .line) (has-room a) in
-              let done : checkLine aut68 (k .recorded) limits bytes budget ≡ done p left = by-categories aut68 (k .recorded) limits bytes budget d (has-room a) ∙ ap (andThen _) e in
+          ends-passed c {to = to} place entry noted =
+              let (t, e, z) = result-done c (checked .means stores) in
+              let p = here .passed in
+              let R = is-read (here .found) in
+              let room = its-room in
+              let done : checkLine aut68 (k .recorded) limits bytes budget ≡ done p left = by-categories aut68 (k .recorded) limits bytes budget (here .found) has-room ∙ ap (andThen _) e in
               let short : at + length bytes ≤ bookLimit = let s = f .short in omega (arith, s, within, ends-at) in
-              let here : start ≡ at + x .first = sum (let i = R .named .within in let j = a .firstIs in omega arith) in
-              let is = row-same a here in
+              let one : 1 ≤ limit = let l = f .large in omega arith in
+              let starts : start ≡ at + x .first = sum (let i = R .named .within in let j = here .is .firstIs in omega arith) in
+              let is = row-same starts in
               let tables : tb′ ≡ sets tb (rowWidth * n) (rowOf (at + p .before) used (p .line)) =
               z .tableIs (let i = room .fewLines in let j = h .linesAre in omega arith) (rw is (row-small h R at (f .small) short)) ∙ ap (sets tb (rowWidth * n)) is
               in
               let more = reached-more h at next bytes p (within) (let x = end .from inside in omega arith) bytes-are R room budget left done in
+              let size : suc count ≡ length (entryOf (p .line)) = entry-long one long (here .named) in
+              let index =
+              entry-put one long (here .named) ix entries (place one (f .small)) (checked .long) (checked .below (f .small)) (f .small)
+              (let i = room .entryFits in let q = j .entriesAre in omega (arith, index-same, size)) entry
+              in
               let hinted =
-              hinted-on (f .large) w₂ (let e = f .enough in omega arith) (rowOf (at + p .before) used (p .line)) (post .outside) (checked .long) (checked .below (f .small)) tables
+              hinted-on (f .large) (let e = f .enough in omega arith) (omega (arith, checked .long, names .long, post .outside .long)) (below-names names (post .outside) (checked .below (f .small)))
+              (rowOf (at + p .before) used (p .line)) tables
               (let i = room .fewLines in let j = h .linesAre in omega arith) (let i = room .rowFits in let j = h .linesAre in omega (arith, table-same)) noted hints
               in
-              P.passed cut ends-at done refl (reached-as (ap (λ (i : ℕ). used + i) (a .sizeIs)) tables (z .termsAre) more) hinted
+              P.passed cut ends-at done refl (reached-as (ap (λ (i : ℕ). used + i) (here .is .sizeIs)) tables (z .termsAre) more)
+              (indexed-as (omega (arith, size)) index (indexed-more j at p (room .entryFits))) hinted

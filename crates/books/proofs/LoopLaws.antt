@@ -10,11 +10,12 @@ use Rattle.aut68.specs.Stores.{Stores, limitsOf}
 use Rattle.aut68.specs.Bytes.{Bytes, lines}
 use Rattle.aut68.specs.Procedure.Answer.{done, stop, Refusal}
 use Rattle.aut68.specs.Procedure.CheckLine.{Passed, checkLine}
-use Rattle.aut68.specs.Procedure.Run.{Recorded, Ending, refusedAt, nothing, oneMore, checkLines, codeAt, lineAt, stepsAt, recordedAt, tableEnd, termsEnd}
+use Rattle.aut68.specs.Procedure.Run.{Recorded, Ending, refusedAt, nothing, oneMore, checkLines, codeAt, lineAt, stepsAt, recordedAt, tableEnd, termsEnd, indexEnd}
 use Rattle.cells.specs.Layout.{readerUnits}
 use Rattle.cells.specs.Results.{code-nonzero}
 use Rattle.names.specs.HintLaws.{no-line-hinted}
 use Rattle.records.specs.Reached.{reached-nothing}
+use Rattle.records.specs.Indexed.{indexed-nothing}
 use Rattle.books.specs.Progress.{LineResult, passed, refused, Going, LinesPost, Fitting}
 
 module _ (book : Bytes) (N limit : ℕ) (s : Stores) where
@@ -34,18 +35,19 @@ module _ (book : Bytes) (N limit : ℕ) (s : Stores) where
   unfolding checkLines
   one-stops k at b bytes more e = rw (e, checkLines) refl
 
-  pub going-starts : (w : List ℕ) → Going book N limit s 0 0 0 N (s .table) (s .terms) w
+  pub going-starts : (w : List ℕ) → Going book N limit s 0 0 0 0 N (s .table) (s .terms) (s .index) w
   going-starts w =
-      record { recorded = nothing; reached = reached-nothing aut68 book N limit s; hinted = no-line-hinted book (s .table) (take (readerUnits * limit) w); goes = refl }
+      record { recorded = nothing; reached = reached-nothing aut68 book N limit s; indexed = indexed-nothing s; hinted = no-line-hinted book (s .table) (take (readerUnits * limit) w); goes = refl }
 
-  module _ {at n used b : ℕ} {tb ts w : List ℕ} (g : Going book N limit s at n used b tb ts w) where
+  module _ {at n used entries b : ℕ} {tb ts ix w : List ℕ} (g : Going book N limit s at n used entries b tb ts ix w) where
     -- a line that passes
-    pub going-on : {code next n′ used′ left : ℕ} {tb′ ts′ w′ : List ℕ} → code ≡ 0
-        → LineResult book N limit s (g .recorded) at n b tb ts code next n′ used′ left tb′ ts′ w′ → Going book N limit s next n′ used′ left tb′ ts′ w′
-    going-on {next = next} {left = left} z (passed {bytes} {p} cut e d c r i) =
+    pub going-on : {code next n′ used′ entries′ left : ℕ} {tb′ ts′ ix′ w′ : List ℕ} → code ≡ 0
+        → LineResult book N limit s (g .recorded) at n b tb ts ix code next n′ used′ entries′ left tb′ ts′ ix′ w′ → Going book N limit s next n′ used′ entries′ left tb′ ts′ ix′ w′
+    going-on {next = next} {left = left} z (passed {bytes} {p} cut e d c r x i) =
         record {
           recorded = oneMore (g .recorded) at p;
           reached = r;
+          indexed = x;
           hinted = i;
           goes =
               g .goes
@@ -53,14 +55,14 @@ module _ (book : Bytes) (N limit : ℕ) (s : Stores) where
               ∙ one-passes (g .recorded) at b bytes (lines (drop next book)) d
               ∙ ap (λ (x : ℕ). from (oneMore (g .recorded) at p) x left (lines (drop next book))) (sym e);
         }
-    going-on z (refused {r = r} cut d c l t u) = absurd (code-nonzero r (sym c ∙ z))
+    going-on z (refused {r = r} cut d c l t u x) = absurd (code-nonzero r (sym c ∙ z))
 
     -- a line that is refused
-    pub going-stops : {code next n′ used′ left : ℕ} {tb′ ts′ w′ : List ℕ} → code ≢ 0
-        → LineResult book N limit s (g .recorded) at n b tb ts code next n′ used′ left tb′ ts′ w′ → LinesPost ending N (s .table) (s .terms) code n′ left tb′ ts′
-    unfolding codeAt lineAt stepsAt tableEnd termsEnd recordedAt
-    going-stops z (passed cut e d c r i) = absurd (z c)
-    going-stops z (refused {bytes} {more} {r} cut d c l t u) =
+    pub going-stops : {code next n′ used′ entries′ left : ℕ} {tb′ ts′ ix′ w′ : List ℕ} → code ≢ 0
+        → LineResult book N limit s (g .recorded) at n b tb ts ix code next n′ used′ entries′ left tb′ ts′ ix′ w′ → LinesPost ending N (s .table) (s .terms) (s .index) code n′ left tb′ ts′ ix′
+    unfolding codeAt lineAt stepsAt tableEnd termsEnd indexEnd recordedAt
+    going-stops z (passed cut e d c r x i) = absurd (z c)
+    going-stops z (refused {bytes} {more} {r} cut d c l t u v) =
         let R = g .reached in
         let q = g .goes ∙ ap (from (g .recorded) at b) cut ∙ one-stops (g .recorded) at b bytes more d in
         record {
@@ -71,11 +73,12 @@ module _ (book : Bytes) (N limit : ℕ) (s : Stores) where
           stepsAre = sym (ap stepsAt q);
           tableIs = t ∙ R .tableIs ∙ sym (ap (λ e. tableEnd e (s .table)) q);
           termsAre = u ∙ R .termsAre ∙ sym (ap (λ e. termsEnd e (s .terms)) q);
+          indexIs = v ∙ g .indexed .indexIs ∙ sym (ap (λ e. indexEnd e (s .index)) q);
         }
 
     -- no line is left
-    pub going-ends : length book ≤ at → LinesPost ending N (s .table) (s .terms) 0 n b tb ts
-    unfolding codeAt lineAt stepsAt tableEnd termsEnd recordedAt checkLines lines
+    pub going-ends : length book ≤ at → LinesPost ending N (s .table) (s .terms) (s .index) 0 n b tb ts ix
+    unfolding codeAt lineAt stepsAt tableEnd termsEnd indexEnd recordedAt checkLines lines
     going-ends h =
         let R = g .reached in
         let q = g .goes ∙ ap (λ (x : Bytes). from (g .recorded) at b (lines x)) (drop-of-length-le book h) in
@@ -87,10 +90,12 @@ module _ (book : Bytes) (N limit : ℕ) (s : Stores) where
           stepsAre = sym (ap stepsAt q);
           tableIs = R .tableIs ∙ sym (ap (λ e. tableEnd e (s .table)) q);
           termsAre = R .termsAre ∙ sym (ap (λ e. termsEnd e (s .terms)) q);
+          indexIs = g .indexed .indexIs ∙ sym (ap (λ e. indexEnd e (s .index)) q);
         }
 
 -- the same code, under another name
-pub ends-as : {e : Ending} {N : ℕ} {tb ts : List ℕ} {code n left : ℕ} {tb′ ts′ : List ℕ} → code ≡ 0 → LinesPost e N tb ts 0 n left tb′ ts′ → LinesPost e N tb ts code n left tb′ ts′
+pub ends-as : {e : Ending} {N : ℕ} {tb ts ix : List ℕ} {code n left : ℕ} {tb′ ts′ ix′ : List ℕ} → code ≡ 0 → LinesPost e N tb ts ix 0 n left tb′ ts′ ix′
+    → LinesPost e N tb ts ix code n left tb′ ts′ ix′
 ends-as z p = rw z p
 
 -- a working store of the same length serves as well

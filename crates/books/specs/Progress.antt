@@ -12,7 +12,7 @@ use Rattle.aut68.specs.Bytes.{Bytes, lines}
 use Rattle.aut68.specs.Lines.{Line, Lines, lineCells}
 use Rattle.aut68.specs.Procedure.Answer.{done, stop, Refusal, codeOf}
 use Rattle.aut68.specs.Procedure.CheckLine.{Passed, checkCategories, checkLine}
-use Rattle.aut68.specs.Procedure.Run.{Recorded, Ending, nothing, oneMore, checkLines, codeAt, lineAt, stepsAt, tableEnd, termsEnd}
+use Rattle.aut68.specs.Procedure.Run.{Recorded, Ending, nothing, oneMore, checkLines, codeAt, lineAt, stepsAt, tableEnd, termsEnd, indexEnd}
 use Rattle.cells.specs.Cells.{At, Below}
 use Rattle.cells.specs.Layout.{lineUnit, readerUnits}
 use Rattle.cells.specs.Results.{Result}
@@ -21,6 +21,7 @@ use Rattle.names.specs.Hints.{Hinted, Noted, nameAt}
 use Rattle.heads.specs.Book.{Book}
 use Rattle.categories.specs.Places.{LineCells}
 use Rattle.records.specs.Reached.{Reached}
+use Rattle.records.specs.Indexed.{Indexed}
 
 -- ---- a line whose cells are stored and checked
 
@@ -72,36 +73,37 @@ abbrev pub HintedIn : ℕ → Bytes → List ℕ → ℕ → List ℕ → Type 0
 HintedIn limit book tb n w = Hinted book tb n (take (readerUnits * limit) w)
 
 -- The line that begins at `at`, after what is recorded in k, with the stores s lent under N and the limit: if it passes, it is
--- recorded and hinted as well; if it is refused, table and term store are as they were.
-pub data LineResult (book : Bytes) (N limit : ℕ) (s : Stores) (k : Recorded) (at n budget : ℕ) (tb ts : List ℕ) (code next n′ used′ left : ℕ) (tb′ ts′ w′ : List ℕ) : Type 0 where
+-- recorded, indexed and hinted as well; if it is refused, table, term store and index are as they were.
+pub data LineResult (book : Bytes) (N limit : ℕ) (s : Stores) (k : Recorded) (at n budget : ℕ) (tb ts ix : List ℕ) (code next n′ used′ entries′ left : ℕ) (tb′ ts′ ix′ w′ : List ℕ) : Type 0 where
   passed : {bytes : Bytes} {p : Passed}
       → lines (drop at book) ≡ bytes ∷ lines (drop next book) → next ≡ at + length bytes
       → checkLine aut68 (k .recorded) (limitsOf N limit s) bytes budget ≡ done p left
-      → code ≡ 0 → Reached aut68 book N limit s (oneMore k at p) n′ used′ tb′ ts′ → HintedIn limit book tb′ n′ w′
-      → LineResult book N limit s k at n budget tb ts code next n′ used′ left tb′ ts′ w′
+      → code ≡ 0 → Reached aut68 book N limit s (oneMore k at p) n′ used′ tb′ ts′ → Indexed s (oneMore k at p) entries′ ix′ → HintedIn limit book tb′ n′ w′
+      → LineResult book N limit s k at n budget tb ts ix code next n′ used′ entries′ left tb′ ts′ ix′ w′
   refused : {bytes : Bytes} {more : List Bytes} {r : Refusal}
       → lines (drop at book) ≡ bytes ∷ more
       → checkLine aut68 (k .recorded) (limitsOf N limit s) bytes budget ≡ stop r left
-      → code ≡ codeOf r → n′ ≡ n → tb′ ≡ tb → ts′ ≡ ts
-      → LineResult book N limit s k at n budget tb ts code next n′ used′ left tb′ ts′ w′
+      → code ≡ codeOf r → n′ ≡ n → tb′ ≡ tb → ts′ ≡ ts → ix′ ≡ ix
+      → LineResult book N limit s k at n budget tb ts ix code next n′ used′ entries′ left tb′ ts′ ix′ w′
 
-pub record LinePost (book ks : Bytes) (limit at n used budget : ℕ) (tb ts w : List ℕ) (code next n′ used′ left : ℕ) (tb′ ts′ w′ : List ℕ) : Type 0 where
+pub record LinePost (book ks : Bytes) (limit at n used entries budget : ℕ) (tb ts ix w : List ℕ) (code next n′ used′ entries′ left : ℕ) (tb′ ts′ ix′ w′ : List ℕ) : Type 0 where
   -- the next line begins behind this one
   pub onward : code ≡ 0 → (at < next) × (next ≤ length book)
-  pub means : {N : ℕ} {s : Stores} {k : Recorded} → Fitting book limit w → KindsTable ks → Reached aut68 book N limit s k n used tb ts → HintedIn limit book tb n w
-      → LineResult book N limit s k at n budget tb ts code next n′ used′ left tb′ ts′ w′
+  pub means : {N : ℕ} {s : Stores} {k : Recorded} → Fitting book limit w → KindsTable ks → Reached aut68 book N limit s k n used tb ts → Indexed s k entries ix → HintedIn limit book tb n w
+      → LineResult book N limit s k at n budget tb ts ix code next n′ used′ entries′ left tb′ ts′ ix′ w′
 
 -- ---- all lines
 
 -- what is recorded when the check has come to the byte `at`, and that the lines from there on decide how the book ends
-pub record Going (book : Bytes) (N limit : ℕ) (s : Stores) (at n used budget : ℕ) (tb ts w : List ℕ) : Type 0 where
+pub record Going (book : Bytes) (N limit : ℕ) (s : Stores) (at n used entries budget : ℕ) (tb ts ix w : List ℕ) : Type 0 where
   pub recorded : Recorded
   pub reached : Reached aut68 book N limit s recorded n used tb ts
+  pub indexed : Indexed s recorded entries ix
   pub hinted : HintedIn limit book tb n w
   pub goes : checkLines aut68 (limitsOf N limit s) nothing 0 N (lines book) ≡ checkLines aut68 (limitsOf N limit s) recorded at budget (lines (drop at book))
 
 -- The lines of the book end so: with code 0 after n lines, else at line n + 1.
-pub record LinesPost (e : Ending) (N : ℕ) (tb ts : List ℕ) (code n left : ℕ) (tb′ ts′ : List ℕ) : Type 0 where
+pub record LinesPost (e : Ending) (N : ℕ) (tb ts ix : List ℕ) (code n left : ℕ) (tb′ ts′ ix′ : List ℕ) : Type 0 where
   pub codeIs : code ≡ codeAt e
   pub acceptedLine : code ≡ 0 → n ≡ lineAt e
   pub refusedLine : code ≢ 0 → n + 1 ≡ lineAt e
@@ -109,3 +111,4 @@ pub record LinesPost (e : Ending) (N : ℕ) (tb ts : List ℕ) (code n left : �
   pub stepsAre : N - left ≡ stepsAt e
   pub tableIs : tb′ ≡ tableEnd e tb
   pub termsAre : ts′ ≡ termsEnd e ts
+  pub indexIs : ix′ ≡ indexEnd e ix

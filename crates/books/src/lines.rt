@@ -102,8 +102,8 @@ fn note_line(book: &[u8], table: &[u32], lines: usize, w: &mut [Cell], limit: us
     note(&mut w[..n], word, v);
 }
 
-// The line that starts at p.at (checkLine), behind the first p.lines lines. Passed: its row and its cells are written, and
-// every other cell of table and terms is as it was. Refused: table and terms are as they were.
+// The line that starts at p.at (checkLine), behind the first p.lines lines. Passed: its row, its cells and its entry are written, and
+// every other cell of table, terms and index is as it was. Refused: table, terms and index are as they were.
 fn check_line(
     book: &[u8],
     kinds: &[u8; 256],
@@ -115,7 +115,7 @@ fn check_line(
     p: Progress,
 ) -> Progress
     requires { ⌜ p .at < length (now book) ⌝ }
-    ensures { λ r. ⌜ LinePost (now (book .entry)) (now (kinds .entry)) limit (p .at) (p .lines) (p .used) (p .budget) (now (table .entry)) (now (terms .entry)) (now (w .entry)) (r .code) (r .at) (r .lines) (r .used) (r .budget) (now (table .exit)) (now (terms .exit)) (now (w .exit)) ⌝ }
+    ensures { λ r. ⌜ LinePost (now (book .entry)) (now (kinds .entry)) limit (p .at) (p .lines) (p .used) (p .entries) (p .budget) (now (table .entry)) (now (terms .entry)) (now (index .entry)) (now (w .entry)) (r .code) (r .at) (r .lines) (r .used) (r .entries) (r .budget) (now (table .exit)) (now (terms .exit)) (now (index .exit)) (now (w .exit)) ⌝ }
 {
     let at = p.at;
     let lines = p.lines;
@@ -166,7 +166,7 @@ pub fn check_lines(
     budget: u32,
 ) -> Progress
     requires { ⌜ Fitting (now book) limit (now w) ⌝ }
-    ensures { λ r. ⌜ ((work : List ℕ) → LinesPost (checkLines aut68 (limitsOf budget limit (stores (now (table .entry)) (now (terms .entry)) work)) nothing 0 budget (lines (now (book .entry)))) budget (now (table .entry)) (now (terms .entry)) (r .code) (r .lines) (r .budget) (now (table .exit)) (now (terms .exit))) ⌝ }
+    ensures { λ r. ⌜ ((work : List ℕ) → LinesPost (checkLines aut68 (limitsOf budget limit (stores (now (table .entry)) (now (terms .entry)) work (now (index .entry)))) nothing 0 budget (lines (now (book .entry)))) budget (now (table .entry)) (now (terms .entry)) (now (index .entry)) (r .code) (r .lines) (r .budget) (now (table .exit)) (now (terms .exit)) (now (index .exit))) ⌝ }
 {
     let kinds = kinds_of_bytes();
     let hints = line_at(limit);

@@ -13,7 +13,7 @@ use borrow.Author.Tests.{le-leb, leb-true, leb-false}
 use Rattle.aut68.specs.Lines.{identifierPart}
 use Rattle.aut68.specs.Bytes.{Bytes}
 use Rattle.aut68.specs.Sizes.{smallestLimit, rowWidth}
-use Rattle.cells.specs.Layout.{contextUnit, readerUnits}
+use Rattle.cells.specs.Layout.{namesAt, readerUnits}
 use Rattle.names.specs.Hints.{mixed, hashOf, slots, slotOf, nameAt, HintBetween, Met, Hinted, Noted, put, full, probes, mostSlots}
 
 -- ---- numbers
@@ -43,8 +43,8 @@ slots-inside n = split (leb (n - n / 4) mostSlots) refl
     split true e = omega arith
     split false e = omega (arith, leb-false (n - n / 4) mostSlots e)
 
--- the cells of all searches in the store of the reader, below those that note a context
-pub slots-fit : (limit : ℕ) → smallestLimit ≤ limit → slots (readerUnits * limit) + probes ≤ contextUnit * limit
+-- the cells of all searches in the store of the reader, below those for the lines that a line names
+pub slots-fit : (limit : ℕ) → smallestLimit ≤ limit → slots (readerUnits * limit) + probes ≤ namesAt limit
 slots-fit limit l = omega (arith, slots-inside (readerUnits * limit))
 
 -- where a product with a number below 2 to the 32 lands, scaled back

@@ -37,6 +37,10 @@ terms-bound L (l ∷ ls) h =
     let c = line-cells-bound L l (h 1 l first) in
     omega (arith, r, c, length-append (lineCells l) (termsOf ls), add-mul 1 (length ls) (2 * L))
 
+-- a line that is read has at most two units of cells
+pub line-cells-fit : {language : Language} {ls : Lines} {L : ℕ} {bytes : Bytes} {p : Passed} → LineRead language ls L bytes p → length (lineCells (p .line)) ≤ 2 * L
+line-cells-fit {L = L} {p = p} r = line-cells-bound L (p .line) (record { middleSize = r .middleFits; categorySize = r .categoryFits })
+
 -- ---- contexts
 
 context-short : {ls : Lines} {v : ℕ} {vs : List ℕ} → IndicatorsBefore ls → Context ls v vs → length vs ≤ v
@@ -68,7 +72,7 @@ module _ {language : Language} {book : Bytes} {N L : ℕ} {s : Stores} {k : Reco
   module _ {bytes : Bytes} {p : Passed} (r : LineRead language (k .recorded) L bytes p) where
     pub size-small : L ≤ largestLimit → length (lineCells (p .line)) ≤ 2 * largestLimit
     size-small l =
-        let c = line-cells-bound L (p .line) (record { middleSize = r .middleFits; categorySize = r .categoryFits }) in
+        let c = line-cells-fit r in
         omega arith
 
     -- the term store with the line's cells, cut behind them

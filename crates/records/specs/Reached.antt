@@ -77,7 +77,7 @@ module _ (ls : Lines) (m : Limits) (l : Line) where
 
 -- ---- parts of the book
 
-take-drop : (m n : ℕ) (l : List ℕ) → take m (drop n l) ≡ drop n (take (n + m) l)
+pub take-drop : (m n : ℕ) (l : List ℕ) → take m (drop n l) ≡ drop n (take (n + m) l)
 take-drop m zero l = ap (λ (k : ℕ). take k l) (zero-plus m)
   where
     zero-plus : (m : ℕ) → m ≡ 0 + m
