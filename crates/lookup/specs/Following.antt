@@ -79,7 +79,7 @@ named-before d = derived-before d (λ v l u i m. absurd (no-line i))
 
 -- ---- the lines reached
 
-pub reaches-trans : {ls : Lines} {v u w : ℕ} → Reaches ls v u → Reaches ls u w → Reaches ls v w
+reaches-trans : {ls : Lines} {v u w : ℕ} → Reaches ls v u → Reaches ls u w → Reaches ls v w
 reaches-trans r itself = r
 reaches-trans r (onward s i m) = onward (reaches-trans r s) i m
 
