@@ -9,13 +9,13 @@ use lib.ListN.{length}
 use Rattle.aut68.specs.Language.{Language}
 use Rattle.aut68.specs.Bytes.{Bytes}
 use Rattle.aut68.specs.Lines.{Line, Lines}
+use Rattle.aut68.specs.Renumbering.{renumberLine}
 use Rattle.aut68.specs.Rules.Names.{IsLine, anEarlier}
 use Rattle.aut68.specs.Rules.Orders.{Names}
 use Rattle.lookup.specs.Identifiers.{denotes-line, unused-named}
 use Rattle.aut68.specs.Rules.Derivation.{Derivation, Derived, noMore, line}
 use Rattle.lookup.specs.LineNumbers.{line-append, line-seam, line-behind, line-cases, line-map, line-unmap}
 use Rattle.lookup.specs.DerivedBooks.{derived-append, derived-extends}
-use Rattle.orders.specs.Renumbering.{renumberLine}
 use Rattle.orders.specs.RenumberedSteps.{Renumbered}
 use Rattle.orders.specs.RenumberedNames.{KeptName, derivation-renumbered}
 use Rattle.orders.specs.Appending.{Any, line-any}

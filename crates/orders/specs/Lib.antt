@@ -5,11 +5,11 @@ pub mod Renumbering
 pub mod RenumberedSteps
 pub mod RenumberedCategories
 pub mod RenumberedNames
+pub mod RenumberedFollowing
 -- Its instances: appending lines, joining books, and any selection or order of a book's lines.
 pub mod Appending
 pub mod Joining
 pub mod Standing
-pub mod Mentioning
 pub mod Rearranging
 pub mod Selecting
 -- New orders.
@@ -18,3 +18,5 @@ pub mod Walking
 pub mod NewOrders
 -- The same on completed lines.
 pub mod CompletedOrders
+-- Deleting lines.
+pub mod Deleting
