@@ -30,6 +30,7 @@ told {e} d h =
       tableIs = d .tableIs;
       termsAre = d .termsAre;
       workIs = d .workIs;
+      indexIs = d .indexIs;
     }
 
 admit-requires : tie.Need-admit-requires
@@ -47,10 +48,13 @@ same-length-2 c = search needs
 same-length-3 : tie.Need-same-length-3
 same-length-3 c = search needs
 
+same-length-4 : tie.Need-same-length-4
+same-length-4 c = search needs
+
 returns : tie.Need-returns
-returns c = checks aut68 _ _ _ _ (told (c .before .before .before .before .before .before .before .admit .ensures) (c .outcome-of .ensures))
+returns c = checks aut68 _ _ _ _ (told (c .before .before .before .before .before .before .before .before .before .admit .ensures) (c .outcome-of .ensures))
 
 pub check-book-spec : {M : Type 1} → statement M
 check-book-spec =
     tie.close
-    (tie.spec admit-requires outcome-of-requires same-length same-length-2 same-length-3 returns)
+    (tie.spec admit-requires outcome-of-requires same-length same-length-2 same-length-3 same-length-4 returns)

@@ -1,0 +1,121 @@
+-- What a line rests on, told from the stores that the admission left.
+use mathlib.Core.Path.{_≡_, refl, sym, ap, _∙_, subst}
+use mathlib.Core.Logic.{_⊎_, _≢_, inl, inr}
+use mathlib.Core.List.{List, _++_}
+use Prim.Native.Nat.{ℕ, _*_, _≤_, _<_}
+use native.Mathlib.Omega.{arith}
+use lib.ListN.{length, take, drop, replicate, length-replicate, length-take, take-append-drop}
+use lib.Seq.{take-at, drop-at}
+use Rattle.aut68.specs.Language.{aut68}
+use Rattle.aut68.specs.Sizes.{workUnits}
+use Rattle.aut68.specs.Stores.{Stores, stores, limitsOf}
+use Rattle.aut68.specs.Bytes.{Bytes}
+use Rattle.aut68.specs.Lines.{Lines}
+use Rattle.aut68.specs.Procedure.Answer.{Refusal, codeOf}
+use Rattle.aut68.specs.Procedure.Calls.{declineCode, noSuchLine, answerTooLong}
+use Rattle.aut68.specs.Procedure.Run.{Ending, turnedAway, accepted, refusedAt, run, codeAt, lineAt, recordedAt, over, workEnd}
+use Rattle.aut68.specs.Demands.{Verdict, Accepted, Determined}
+use Rattle.aut68.specs.Resting.{Told, noLine, tooLong, written, TellsRests}
+use Rattle.lookup.specs.Answers.{code-positive}
+use Rattle.lookup.specs.Following.{named-before}
+use Rattle.lookup.specs.Runs.{verdict-admitted}
+use Rattle.records.specs.OnRecord.{on-record}
+use Rattle.cells.specs.Rows.{Rows, Stored}
+use Rattle.reaching.specs.Posts.{BeneathPost}
+use Rattle.reaching.specs.Posts as P
+use Rattle.theorems.specs.Resting.{accepted-lines, tells-rests}
+
+-- the code of a refusal
+pub refusal-code : {e : Ending} {L : ℕ} {s s′ : Stores} {code line steps x : ℕ} → Determined e L s code line steps s′ → code ≢ 0 → ((r : Refusal) → code ≡ codeOf r → x ≡ code) → x ≡ code
+unfolding codeAt
+refusal-code {e} {code = code} {x = x} d n h = of e (d .codeIs)
+  where
+    of : (e : Ending) → code ≡ codeAt e → x ≡ code
+    of (turnedAway r) q = h r q
+    of (accepted m k) q = absurd (n q)
+    of (refusedAt r l m k) q = h r q
+
+module _ (book : Bytes) (N L : ℕ) (s : Stores) {code line steps : ℕ} {tb ts w ix : List ℕ}
+    (d : Determined (run aut68 book (limitsOf N L s)) L s code line steps (stores tb ts w ix)) (accept : code ≡ 0) where
+  abbrev ending : Ending
+  ending = run aut68 book (limitsOf N L s)
+
+  accepted-code : codeAt ending ≡ 0
+  accepted-code = sym (d .codeIs) ∙ accept
+
+  verdict : Verdict ending
+  unfolding Verdict Accepted
+  verdict = inl accepted-code
+
+  -- the reported line is the last one
+  last-line : line ≡ length (recordedAt ending .recorded)
+  last-line = d .lineIs ∙ accepted-lines aut68 book N L s accepted-code .0
+
+  -- there is no such line
+  pub tells-no-line : {v : ℕ} {old : List ℕ} → (v ≡ 0) ⊎ (line < v) → TellsRests aut68 book N L s v old (declineCode noSuchLine) 0 0 0 (stores tb ts w ix) old
+  tells-no-line {v} {old} h = tells-rests aut68 book N L s d accept (noLine (at h) refl refl refl)
+    where
+      at : (v ≡ 0) ⊎ (line < v) → (v ≡ 0) ⊎ (length (recordedAt ending .recorded) < v)
+      at (inl z) = inl z
+      at (inr l) = inr (omega (arith, last-line))
+
+  -- the first cells of the working store are zeros
+  work-zeros : w ≡ over (replicate (workUnits * L) 0) (s .work)
+  unfolding workEnd codeAt
+  work-zeros = d .workIs ∙ of ending accepted-code
+    where
+      of : (e : Ending) → codeAt e ≡ 0 → workEnd L e (s .work) ≡ over (replicate (workUnits * L) 0) (s .work)
+      of (turnedAway r) z = absurd (omega (arith, z, code-positive r))
+      of (accepted n k) z = refl
+      of (refusedAt r l n k) z = refl
+
+  front-zeros : take (workUnits * L) w ≡ replicate (workUnits * L) 0
+  unfolding over
+  front-zeros = ap (take (workUnits * L)) work-zeros ∙ take-at (replicate (workUnits * L) 0) (drop (length (replicate (workUnits * L) 0)) (s .work)) (workUnits * L) (length-replicate (workUnits * L) 0)
+
+  front-long : length (take (workUnits * L) w) ≡ workUnits * L
+  front-long = ap length front-zeros ∙ length-replicate (workUnits * L) 0
+
+  -- the working store has them
+  pub work-fits : workUnits * L ≤ length w
+  work-fits = omega (arith, front-long, length-take (workUnits * L) w)
+
+  module _ {v count : ℕ} {old w′ new : List ℕ} (first : 1 ≤ v) (last : v ≤ line) (post : BeneathPost tb ts v (take (workUnits * L) w) old count w′ new) where
+    -- the marks are gone
+    work-same : w′ ++ drop (workUnits * L) w ≡ w
+    unfolding over
+    work-same =
+        ap (λ (x : List ℕ). x ++ drop (workUnits * L) w) (post .zeros ∙ ap (λ (n : ℕ). replicate n 0) front-long)
+        ∙ ap (λ (x : List ℕ). x ++ drop (workUnits * L) w) (sym front-zeros)
+        ∙ take-append-drop (workUnits * L) w
+
+    lines-told : P.Told (recordedAt ending .recorded) v old count new
+    lines-told =
+        let o = on-record aut68 book N L s verdict in
+        let a = verdict-admitted aut68 book (limitsOf N L s) verdict .atLeast in
+        let few = o .held .few in
+        let e = last-line in
+        post .tells (recordedAt ending .recorded) (subst (Rows (recordedAt ending .recorded)) (sym (d .tableIs)) (o .held .rows))
+        (stored-as (sym (d .tableIs)) (sym (d .termsAre)) (o .held .stored)) (named-before (o .derived)) first (omega arith) (omega (arith, front-long))
+        (front-zeros ∙ ap (λ (n : ℕ). replicate n 0) (sym front-long))
+      where
+        stored-as : {ls : Lines} {tb tb′ ts ts′ : List ℕ} → tb ≡ tb′ → ts ≡ ts′ → Stored ls tb ts → Stored ls tb′ ts′
+        stored-as e f h = rw (← e, ← f) h
+
+    -- with the stores as the admission left them
+    stores-same : stores tb ts (w′ ++ drop (workUnits * L) w) ix ≡ stores tb ts w ix
+    stores-same = ap (λ (x : List ℕ). stores tb ts x ix) work-same
+
+    pub tells-too-long : length old < count → TellsRests aut68 book N L s v old (declineCode answerTooLong) 0 0 0 (stores tb ts (w′ ++ drop (workUnits * L) w) ix) new
+    tells-too-long h =
+        let t = lines-told in
+        let e = t .countIs in
+        rw stores-same
+        (tells-rests aut68 book N L s d accept (tooLong (t .list) first (omega (arith, last-line)) (t .restsOn) (omega arith) refl refl (t .untouched (omega arith))))
+
+    pub tells-list : count ≤ length old → {k : ℕ} → k ≡ count → TellsRests aut68 book N L s v old 0 0 0 k (stores tb ts (w′ ++ drop (workUnits * L) w) ix) new
+    tells-list h q =
+        let t = lines-told in
+        let e = t .countIs in
+        rw stores-same
+        (tells-rests aut68 book N L s d accept (written (t .list) first (omega (arith, last-line)) (t .restsOn) (omega arith) refl (q ∙ e) (t .written (omega arith))))
