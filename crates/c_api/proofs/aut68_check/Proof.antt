@@ -34,11 +34,14 @@ same-length-2 c = search needs
 same-length-3 : tie.Need-same-length-3
 same-length-3 c = search needs
 
+same-length-4 : tie.Need-same-length-4
+same-length-4 c = search needs
+
 returns : tie.Need-returns
 returns c =
     equal-numbers
     (c .before .numbers-of .ensures)
-    (c .before .before .before .before .before .before .before .before .check-book .ensures)
+    (c .before .before .before .before .before .before .before .before .before .before .check-book .ensures)
 
 pub aut68-check-spec : {M : Type 1} → statement M
 aut68-check-spec =
@@ -50,4 +53,5 @@ aut68-check-spec =
     same-length
     same-length-2
     same-length-3
+    same-length-4
     returns)
