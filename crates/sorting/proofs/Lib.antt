@@ -1,0 +1,3 @@
+mod Slices
+mod InsertLaws
+mod FewLaws
