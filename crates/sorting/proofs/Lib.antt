@@ -1,3 +1,6 @@
 mod Slices
+mod RunLaws
+mod LeastLaws
 mod InsertLaws
 mod FewLaws
+mod MergeLaws

@@ -1,14 +1,15 @@
 -- Laws: parts of a store, put together, and after changes elsewhere.
 use mathlib.Core.Path.{_≡_, refl, sym, ap, ap₂, _∙_}
 use mathlib.Core.Logic.{_⊎_, inl, inr, ⊎-elim}
-use mathlib.Core.List.{List, [], _∷_, _++_}
+use mathlib.Core.List.{List, [], _∷_, _++_, append-assoc}
 use Prim.Native.Nat.{ℕ, suc, _+_, _-_, _≤_, _<_, min}
 use native.Mathlib.Omega.{arith}
 use lib.ListN.{length, getD, take, drop, set, length-take, length-drop, length-set, take-append-drop}
 use lib.Seq.{slice, slice-cons, slice-empty, ext-getD, getD-take, getD-drop, take-take, drop-drop, drop-append-le, getD-set-same}
 use Rattle.cells.specs.Cells.{Outside, moveCells}
 use Rattle.cells.specs.SameCells.{run-is-slice}
-use Rattle.cells.specs.Stores.{outside-sets}
+use Rattle.cells.specs.Stores.{outside-sets, at-taken, at-of-taken}
+use Rattle.cells.specs.CopyLaws.{copied-length, move-at}
 
 -- ---- parts of one store
 
@@ -65,3 +66,15 @@ pub slice-set : (a k x : ℕ) (w : List ℕ) → a + k < length w → slice a (a
 slice-set a k x w l =
     slice-snoc a k (set w (a + k) x) (omega (arith, length-set w (a + k) x))
     ∙ ap₂ (λ (p : List ℕ) (y : ℕ). p ++ (y ∷ [])) (slice-outside a (a + k) (outside-sets w (x ∷ []) (a + k)) (inl (omega arith))) (getD-set-same w (a + k) x 0 l)
+
+pub slice-put : (a k x : ℕ) (w l : List ℕ) → a + k < length w → slice a (a + k) w ++ (x ∷ l) ≡ slice a (a + (k + 1)) (set w (a + k) x) ++ l
+slice-put a k x w l h = sym (append-assoc (slice a (a + k) w) (x ∷ []) l) ∙ ap (λ (p : List ℕ). p ++ l) (sym (slice-set a k x w h))
+
+-- a run of cells moved elsewhere
+pub slice-moved : (w : List ℕ) (from n to : ℕ) → from + n ≤ length w → to + n ≤ length w → (to ≤ from) ⊎ (from + n ≤ to)
+    → slice to (to + n) (moveCells w from n to) ≡ slice from (from + n) w
+slice-moved w from n to h k d =
+    let l : length (take n (drop from w)) ≡ n = copied-length w from n w to h in
+    run-is-slice to n (moveCells w from n to)
+    ∙ rw l at (at-taken (move-at w from to (at-of-taken w from n (take n (drop from w)) refl) (omega arith) (rw l k) (rw l d)))
+    ∙ sym (run-is-slice from n w)
