@@ -4,3 +4,4 @@ mod LeastLaws
 mod InsertLaws
 mod FewLaws
 mod MergeLaws
+mod SortLaws
