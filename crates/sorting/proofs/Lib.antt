@@ -1,4 +1,4 @@
-mod Slices
+mod SliceLaws
 mod RunLaws
 mod LeastLaws
 mod InsertLaws
