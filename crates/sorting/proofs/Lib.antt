@@ -1,0 +1,7 @@
+mod SliceLaws
+mod RunLaws
+mod LeastLaws
+mod InsertLaws
+mod FewLaws
+mod MergeLaws
+mod SortLaws
