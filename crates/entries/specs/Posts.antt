@@ -17,7 +17,7 @@ pub record NamesPost (limit size indicator : ℕ) (w w′ : List ℕ) (count : �
   pub ahead : take (namesAt limit) w′ ≡ take (namesAt limit) w
   pub cellsStay : slice (lineUnit * limit) (lineUnit * limit + 2 * limit) w′ ≡ slice (lineUnit * limit) (lineUnit * limit + 2 * limit) w
   pub few : count ≤ 2 * largestLimit + 1
-  pub means : {l : Line} {rest : List ℕ} → smallestLimit ≤ limit → limit ≤ largestLimit → workUnits * limit ≤ length w
+  pub means : (l : Line) {rest : List ℕ} → smallestLimit ≤ limit → limit ≤ largestLimit → workUnits * limit ≤ length w
       → At w (lineUnit * limit) (lineCells l) rest → size ≡ length (lineCells l) → size ≤ 2 * limit → indicator ≡ l .indicator → indicator < lineLimit
       → slice (namesAt limit) (namesAt limit + count) w′ ≡ namesOf l
 
