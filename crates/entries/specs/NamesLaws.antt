@@ -44,28 +44,56 @@ names-none limit size indicator w h = record {
 
 -- ---- the steps, one after the other
 
-module _ (limit size indicator : ℕ) {w w₁ w₂ w₃ w₄ : List ℕ} {n m r : ℕ} (large : smallestLimit ≤ limit) (small : limit ≤ largestLimit) (short : size ≤ 2 * limit)
-    (empties : Emptied w w₁ (readerUnits * limit))
-    (first : Adds w₁ w₂ (namesAt limit) 0 (readerUnits * limit) (mentionedAsIndicator indicator) n)
-    (others : Adds w₂ w₃ (namesAt limit) n (readerUnits * limit) (numbersIn (slice (lineUnit * limit) (lineUnit * limit + size) w₂)) m)
-    (sorts : SortPost w₃ w₄ (namesAt limit) m (readerUnits * limit) r) where
-  at : ℕ
-  at = namesAt limit
+-- the store has the units, the numbers fit, and the names, the line's cells and the slots are in their units
+pub record Placed (limit size indicator : ℕ) (w : List ℕ) (at from slots : ℕ) : Type 0 where
+  pub large : smallestLimit ≤ limit
+  pub small : limit ≤ largestLimit
+  pub room : workUnits * limit ≤ length w
+  pub short : size ≤ 2 * limit
+  pub isLine : indicator < lineLimit
+  pub atIs : at ≡ namesAt limit
+  pub fromIs : from ≡ lineUnit * limit
+  pub slotsIs : slots ≡ readerUnits * limit
 
-  from : ℕ
-  from = lineUnit * limit
+module _ (limit size indicator at from slots : ℕ) {w w₁ w₂ w₃ w₄ : List ℕ} {n m r : ℕ} (placed : Placed limit size indicator w at from slots)
+    (empties : Emptied w w₁ slots) (first : Adds w₁ w₂ at 0 slots (mentionedAsIndicator indicator) n)
+    (others : Adds w₂ w₃ at n slots (numbersIn (slice from (from + size) w₂)) m) (sorts : SortPost w₃ w₄ at m slots r) where
+  some : at + m ≤ from
+  some = omega (arith, first .few, indicator-few indicator, others .few, run-few w₂ from size)
 
-  slots : ℕ
-  slots = readerUnits * limit
+  sparedFirst : Spared w w₂ at from slots
+  sparedFirst = spared-then (empties .spared at from (omega arith)) (first .spared from (omega (arith, some)))
 
-  one : n ≤ 1
-  one = omega (arith, first .few, indicator-few indicator)
+  sparedAll : Spared w w₃ at from slots
+  sparedAll = spared-then sparedFirst (others .spared from some)
 
-  many : m ≤ n + size
-  many = omega (arith, others .few, run-few w₂ from size)
+  sparedSorted : Spared w₃ w₄ at (at + m) slots
+  sparedSorted = record { long = sorts .long; ahead = sorts .ahead; between = sorts .between }
 
-  spared₂ : Spared w w₂ (namesAt limit) (lineUnit * limit) (readerUnits * limit)
-  spared₂ = spared-then (empties .spared (namesAt limit) (lineUnit * limit) (omega arith)) (first .spared (lineUnit * limit) (omega (arith, one)))
+  cells-kept : slice from (from + 2 * limit) w₄ ≡ slice from (from + 2 * limit) w
+  cells-kept = spared-run from (2 * limit) some (omega arith) sparedSorted ∙ spared-run from (2 * limit) (omega arith) (omega arith) sparedAll
 
-  spared₃ : Spared w w₃ (namesAt limit) (lineUnit * limit) (readerUnits * limit)
-  spared₃ = spared-then spared₂ (others .spared (lineUnit * limit) (omega (arith, one, many)))
+  named : (l : Line) {rest : List ℕ} → At w from (lineCells l) rest → size ≡ length (lineCells l) → indicator ≡ l .indicator
+      → mentionedAsIndicator indicator ++ numbersIn (slice from (from + size) w₂) ≡ mentionedBy l
+  unfolding mentionedBy
+  named l p e i =
+      ap₂ (λ (v : ℕ) (xs : List ℕ). mentionedAsIndicator v ++ numbersIn xs) i
+      (spared-run from size (omega arith) (omega arith) sparedFirst
+      ∙ run-is-slice from size w
+      ∙ ap (λ (k : ℕ). take k (drop from w)) e
+      ∙ at-taken p)
+      ∙ ap (_++_ (mentionedAsIndicator (l .indicator))) (numbers-line l)
+
+  pub names-put : NamesPost limit size indicator w w₄ r
+  unfolding namesOf
+  names-put = record {
+    long = sorts .long ∙ sparedAll .long;
+    ahead = rw (sym (placed .atIs)) (sorts .ahead ∙ sparedAll .ahead);
+    cellsStay = rw (sym (placed .fromIs)) cells-kept;
+    few = omega (arith, some);
+    means = λ l a b c p e d i k.
+        rw (sym (placed .atIs))
+        (sorts .sorted
+        ∙ ascending-same (λ v. others .adds (first .adds (empties .none at)) .same v)
+        ∙ ap ascending (named l (rw (sym (placed .fromIs)) at p) e i));
+  }
