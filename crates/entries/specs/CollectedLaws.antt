@@ -1,19 +1,17 @@
 -- Laws: lines collected behind others.
 use mathlib.Core.Path.{_≡_, refl, sym, ap, _∙_}
-use mathlib.Core.Logic.{_↔_, _⊎_, _≢_, inl, inr, ⊎-elim}
+use mathlib.Core.Logic.{_⊎_, _≢_, inl, inr}
 use mathlib.Core.Bool.{Bool, true, false}
 use mathlib.Core.List.{List, [], _∷_, _++_, append-assoc, append-nil}
-use Prim.Native.Nat.{ℕ, zero, suc, _+_, _-_, _*_, _/_, _%_, _≤_, _<_}
+use Prim.Native.Nat.{ℕ, suc, _+_, _-_, _/_, _%_, _≤_, _<_}
 use native.Mathlib.Nat.{add-zero}
 use native.Mathlib.Decide.{ℕ-discrete}
-use native.Mathlib.Numerals.{add-one}
 use native.Mathlib.Omega.{arith}
 use lib.ListN.{length, getD, take, drop, set, length-set, length-append}
-use lib.Seq.{slice, slice-empty, length-slice, take-set-le, take-set-lt, drop-set-lt, take-suc, take-suc-set, drop-append-le, length-take-le, take-take, drop-drop, getD-take, getD-drop, getD-set-same, getD-set-other}
+use lib.Seq.{slice, slice-empty, take-set-le, take-set-lt, drop-set-lt, take-suc, take-suc-set, drop-append-le, length-take-le, take-take, drop-drop, getD-take, getD-drop, getD-set-same, getD-set-other}
 use Rattle.aut68.specs.Sizes.{cellFactor}
-use Rattle.aut68.specs.Index.{mentionedAsIndicator}
 use Rattle.aut68.specs.Rules.Names.{Member, here}
-use Rattle.lookup.specs.Lists.{member-left, member-right, member-append, member-snoc}
+use Rattle.lookup.specs.Lists.{member-left, member-right, member-snoc}
 use Rattle.cells.specs.Numbers.{namesLine, numbersIn, numbers-append}
 use Rattle.cells.specs.SameCells.{run-is-slice}
 use Rattle.entries.specs.Collected.{slotCount, noLine, Collected, Spared, Emptied, Adds}
@@ -91,7 +89,7 @@ emptied {w′ = w′} s h = record {
 pub adds-none : {w : List ℕ} {at n slots : ℕ} → Adds w w at n slots [] n
 adds-none = record { more = omega arith; few = omega arith; spared = λ end l. spared-same; adds = λ {us} c. rw (append-nil us) c }
 
-pub adds-then : {w w′ w″ : List ℕ} {at n m r slots : ℕ} {us vs : List ℕ} → Adds w w′ at n slots us m → Adds w′ w″ at m slots vs r
+adds-then : {w w′ w″ : List ℕ} {at n m r slots : ℕ} {us vs : List ℕ} → Adds w w′ at n slots us m → Adds w′ w″ at m slots vs r
     → Adds w w″ at n slots (us ++ vs) r
 adds-then {us = us} {vs} p q = record {
   more = omega arith;
@@ -166,12 +164,6 @@ module _ (w : List ℕ) (at n v slots : ℕ) where
           go (no f) =
               let q : getD w₂ (slots + j) 0 ≡ getD w (slots + j) 0 = same ∙ getD-set-other w (slots + v % slotCount) (slots + j) v 0 (λ e. f (omega arith)) in
               rw q (member-left (v ∷ []) (c .slotted j b (λ z. d (q ∙ z))))
-
--- an indicator that is not 0
-pub indicator-named : (v : ℕ) → v ≢ 0 → mentionedAsIndicator v ≡ v ∷ []
-unfolding mentionedAsIndicator
-indicator-named zero d = absurd (d refl)
-indicator-named (suc v) d = refl
 
 -- ---- the lines that cells name
 

@@ -1,7 +1,8 @@
 -- Laws: the lines that a line names, collected and sorted.
 use mathlib.Core.Path.{_≡_, refl, sym, ap, ap₂, _∙_}
+use mathlib.Core.Logic.{_≢_}
 use mathlib.Core.List.{List, [], _∷_, _++_}
-use Prim.Native.Nat.{ℕ, zero, suc, _+_, _-_, _*_, _≤_, _<_, min}
+use Prim.Native.Nat.{ℕ, zero, suc, _+_, _-_, _*_, _≤_, _<_}
 use native.Mathlib.Omega.{arith}
 use lib.ListN.{length, take, drop, length-take, length-drop}
 use lib.Seq.{slice}
@@ -16,15 +17,22 @@ use Rattle.cells.specs.SameCells.{run-is-slice}
 use Rattle.cells.specs.Stores.{at-taken}
 use Rattle.sorting.specs.Posts.{SortPost}
 use Rattle.entries.specs.Collected.{Spared, Emptied, Adds}
-use Rattle.entries.specs.CollectedLaws.{spared-then, spared-run, adds-then, numbers-few}
+use Rattle.entries.specs.CollectedLaws.{spared-then, spared-run, numbers-few}
 use Rattle.entries.specs.Posts.{NamesPost}
 
--- ---- how many there are
+-- ---- an indicator
+
+pub indicator-named : (v : ℕ) → v ≢ 0 → mentionedAsIndicator v ≡ v ∷ []
+unfolding mentionedAsIndicator
+indicator-named zero d = absurd (d refl)
+indicator-named (suc v) d = refl
 
 pub indicator-few : (v : ℕ) → length (mentionedAsIndicator v) ≤ 1
 unfolding mentionedAsIndicator
 indicator-few zero = omega arith
 indicator-few (suc v) = omega arith
+
+-- ---- how many there are
 
 pub run-few : (w : List ℕ) (from size : ℕ) → length (numbersIn (slice from (from + size) w)) ≤ size
 run-few w from size = omega (arith, numbers-few (slice from (from + size) w), length-drop from (take (from + size) w), length-take (from + size) w)

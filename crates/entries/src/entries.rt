@@ -61,7 +61,8 @@ pub fn put_entry(index: &mut [u32], used: usize, w: &[Cell], at: usize, n: usize
     if n > 4294967295 {
         return;
     }
-    index[used] = n as u32;
+    let count = n as u32;
+    index[used] = count;
     let mut i = 0;
     while i < n {
         index[used + 1 + i] = w[at + i] as u32;

@@ -1,6 +1,7 @@
 use native.Mathlib.Omega.{arith}
 use Rattle.aut68.specs.Index.{mentionedAsIndicator}
-use Rattle.entries.specs.CollectedLaws.{adds-none, indicator-named}
+use Rattle.entries.specs.CollectedLaws.{adds-none}
+use Rattle.entries.specs.NamesLaws.{indicator-named}
 use Rattle.entries.proofs.collecting.add_indicator.Statement.{statement}
 use Rattle.entries.proofs.collecting.add_indicator.Tie as tie
 

@@ -10,10 +10,6 @@ use Rattle.entries.specs.Collected.{slotCount, Adds}
 use Rattle.entries.specs.CollectedLaws.{adds-start, adds-turn, adds-same}
 use Rattle.entries.proofs.collecting.collect.Statement.{statement}
 use Rattle.entries.proofs.collecting.collect.Tie as tie
-use Rattle.entries.proofs.collecting.collect.Reads as reads
-use Rattle.entries.proofs.collecting.collect.Lts as lts
-use Rattle.cells.proofs.names_line.Reads as names-line-reads
-use Rattle.entries.proofs.collecting.add.Reads as add-reads
 
 -- i cells are passed
 abbrev Passed : List ℕ → ℕ → ℕ → ℕ → ℕ → List ℕ → ℕ → ℕ → Type 0

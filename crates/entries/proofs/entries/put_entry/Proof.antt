@@ -8,7 +8,7 @@ use Rattle.entries.proofs.entries.put_entry.Statement.{statement}
 use Rattle.entries.proofs.entries.put_entry.Tie as tie
 
 abbrev Inv-loop : tie.InvT-loop
-Inv-loop index₀ used w at n i₀ index i =
+Inv-loop index₀ used w at n count i₀ index i =
     (i ≤ n)
     × (used + suc n ≤ length index₀)
     × (at + n ≤ length w)
@@ -16,7 +16,7 @@ Inv-loop index₀ used w at n i₀ index i =
     × (index ≡ copied w at i index₀ (used + 1))
 
 abbrev μ-loop : tie.MeasureT-loop
-μ-loop index₀ used w at n i₀ index i = n - i
+μ-loop index₀ used w at n count i₀ index i = n - i
 
 returns : tie.Need-returns Inv-loop μ-loop
 returns c = record { put = λ a b k. absurd (omega arith) }
@@ -39,8 +39,8 @@ returns-4 c = record { put = λ a b k. absurd (omega arith) }
 returns-5 : tie.Need-returns-5 Inv-loop μ-loop
 returns-5 c = record { put = λ a b k. absurd (omega arith) }
 
-cast-index : tie.Need-cast-index Inv-loop μ-loop
-cast-index c = omega arith
+cast-count : tie.Need-cast-count Inv-loop μ-loop
+cast-count c = omega arith
 
 mul-index : tie.Need-mul-index Inv-loop μ-loop
 mul-index c = omega arith
@@ -60,8 +60,8 @@ mul-index-2 c = omega arith
 shared-slice-read-index : tie.Need-shared-slice-read-index Inv-loop μ-loop
 shared-slice-read-index c = omega arith
 
-cast-index-2 : tie.Need-cast-index-2 Inv-loop μ-loop
-cast-index-2 c = omega (arith, c .shared-slice-known .given (c .before .before .before .before .before .before .before .before .args .at + c .before .before .loop .i))
+cast-index : tie.Need-cast-index Inv-loop μ-loop
+cast-index c = omega (arith, c .shared-slice-known .given (c .before .before .before .before .before .before .before .before .args .at + c .before .before .loop .i))
 
 add-index-2 : tie.Need-add-index-2 Inv-loop μ-loop
 add-index-2 c = omega arith
@@ -107,14 +107,14 @@ put-entry-spec =
     sub-if4
     returns-4
     returns-5
-    cast-index
+    cast-count
     mul-index
     slice-write-index
     loop-holds
     add-index
     mul-index-2
     shared-slice-read-index
-    cast-index-2
+    cast-index
     add-index-2
     add-index-3
     mul-index-3
