@@ -1,5 +1,5 @@
 -- Laws: lines collected behind others.
-use mathlib.Core.Path.{_≡_, refl, sym, ap, _∙_}
+use mathlib.Core.Path.{_≡_, refl, sym, ap, ap₂, _∙_}
 use mathlib.Core.Logic.{_⊎_, _≢_, inl, inr}
 use mathlib.Core.Bool.{Bool, true, false}
 use mathlib.Core.List.{List, [], _∷_, _++_, append-assoc, append-nil}
@@ -8,13 +8,34 @@ use native.Mathlib.Nat.{add-zero}
 use native.Mathlib.Decide.{ℕ-discrete}
 use native.Mathlib.Omega.{arith}
 use lib.ListN.{length, getD, take, drop, set, length-set, length-append}
-use lib.Seq.{slice, slice-empty, take-set-le, take-set-lt, drop-set-lt, take-suc, take-suc-set, drop-append-le, length-take-le, take-take, drop-drop, getD-take, getD-drop, getD-set-same, getD-set-other}
+use lib.Seq.{slice, slice-empty, take-set-le, take-set-lt, drop-set-lt, take-suc, drop-append-le, length-take-le, take-take, drop-drop, getD-take, getD-drop, getD-set-same, getD-set-other}
 use Rattle.aut68.specs.Sizes.{cellFactor}
 use Rattle.aut68.specs.Rules.Names.{Member, here}
 use Rattle.lookup.specs.Lists.{member-left, member-right, member-snoc}
 use Rattle.cells.specs.Numbers.{namesLine, numbersIn, numbers-append}
 use Rattle.cells.specs.SameCells.{run-is-slice}
 use Rattle.entries.specs.Collected.{slotCount, noLine, Collected, Spared, Emptied, Adds}
+
+-- ---- parts of a store
+
+-- no cell, and one cell more
+slice-none : (w : List ℕ) (a : ℕ) → slice a (a + 0) w ≡ []
+slice-none w a = ap (λ (m : ℕ). slice a m w) (add-zero a) ∙ slice-empty a w
+
+slice-more : (w : List ℕ) (a n : ℕ) → a + n < length w → slice a (a + (n + 1)) w ≡ slice a (a + n) w ++ (getD w (a + n) 0 ∷ [])
+slice-more w a n h =
+    let e : a + (n + 1) ≡ suc (a + n) = omega arith in
+    ap (λ (m : ℕ). slice a m w) e
+    ∙ ap (drop a) (take-suc w (a + n) 0 h)
+    ∙ drop-append-le a (take (a + n) w) (getD w (a + n) 0 ∷ []) (omega (arith, length-take-le (a + n) w (omega arith)))
+
+-- a part of a part
+slice-in : (w : List ℕ) (end slots f n : ℕ) → end ≤ f → f + n ≤ slots → slice f (f + n) w ≡ take n (drop (f - end) (slice end slots w))
+slice-in w end slots f n h k =
+    let e : f ≡ end + (f - end) = omega arith in
+    ap (drop f) (sym (take-take (f + n) slots w k))
+    ∙ run-is-slice f n (take slots w)
+    ∙ ap (take n) (ap (λ (m : ℕ). drop m (take slots w)) e ∙ sym (drop-drop (f - end) end (take slots w)))
 
 -- ---- what is spared
 
@@ -40,15 +61,7 @@ module _ (w : List ℕ) (at end slots i x : ℕ) where
     between = ap (drop end) (take-set-lt slots w i x k) ∙ drop-set-lt end (take slots w) i x h;
   }
 
--- a run of cells in what is spared
-slice-in : (w : List ℕ) (end slots f n : ℕ) → end ≤ f → f + n ≤ slots → slice f (f + n) w ≡ take n (drop (f - end) (slice end slots w))
-slice-in w end slots f n h k =
-    let e : f ≡ end + (f - end) = omega arith in
-    ap (drop f) (sym (take-take (f + n) slots w k))
-    ∙ run-is-slice f n (take slots w)
-    ∙ ap (take n)
-    (ap (λ (m : ℕ). drop m (take slots w)) e ∙ sym (drop-drop (f - end) end (take slots w)))
-
+-- runs and cells in what is spared
 pub spared-run : {w w′ : List ℕ} {at end slots : ℕ} (f n : ℕ) → end ≤ f → f + n ≤ slots → Spared w w′ at end slots
     → slice f (f + n) w′ ≡ slice f (f + n) w
 spared-run {w} {w′} {end = end} {slots} f n h k s =
@@ -64,9 +77,6 @@ spared-read {w} {w′} {end = end} {slots} i h k s =
         getD-drop end (take slots l) (i - end) 0 ∙ ap (λ (m : ℕ). getD (take slots l) m 0) e ∙ getD-take slots l i 0 k
 
 -- ---- no line is collected
-
-slice-none : (w : List ℕ) (at : ℕ) → slice at (at + 0) w ≡ []
-slice-none w at = ap (λ (m : ℕ). slice at m w) (add-zero at) ∙ slice-empty at w
 
 -- a turn of the loop that empties the slots, and its end
 pub emptied-turn : (w : List ℕ) (slots i x : ℕ) → ((k : ℕ) → k < i → getD w (slots + k) 0 ≡ x) → slots + i < length w
@@ -135,16 +145,14 @@ module _ (w : List ℕ) (at n v slots : ℕ) where
       w₂ : List ℕ
       w₂ = set w₁ (at + n) v
 
-      inside : at + n < length w₁
-      inside = omega (arith, length-set w (slots + v % slotCount) v)
-
       longer : slice at (at + (n + 1)) w₂ ≡ slice at (at + n) w ++ (v ∷ [])
       longer =
-          let e : at + (n + 1) ≡ suc (at + n) = omega arith in
-          ap (λ (m : ℕ). slice at m w₂) e
-          ∙ ap (drop at) (take-suc-set w₁ (at + n) v inside)
-          ∙ drop-append-le at (take (at + n) w₁) (v ∷ []) (omega (arith, length-take-le (at + n) w₁ (omega (arith, inside))))
-          ∙ ap (λ (l : List ℕ). drop at l ++ (v ∷ [])) (take-set-le (at + n) w (slots + v % slotCount) v (omega arith))
+          let l₁ : at + n < length w₁ = omega (arith, length-set w (slots + v % slotCount) v) in
+          let l₂ : at + n < length w₂ = omega (arith, length-set w₁ (at + n) v) in
+          slice-more w₂ at n l₂
+          ∙ ap₂ (λ (l : List ℕ) (x : ℕ). drop at l ++ (x ∷ []))
+          (take-set-le (at + n) w₁ (at + n) v (omega arith) ∙ take-set-le (at + n) w (slots + v % slotCount) v (omega arith))
+          (getD-set-same w₁ (at + n) v 0 l₁)
 
       or-last : {xs ys : List ℕ} {u : ℕ} → (Member u xs → Member u ys) → Member u xs ⊎ (u ≡ v) → Member u (ys ++ (v ∷ []))
       or-last f (inl m) = member-left (v ∷ []) (f m)
@@ -186,12 +194,7 @@ module _ (w : List ℕ) (from i : ℕ) (inside : from + i < length w) where
   -- one cell more
   numbers-next : numbersIn (slice from (from + (i + 1)) w) ≡ numbersIn (slice from (from + i) w) ++ numbersIn (getD w (from + i) 0 ∷ [])
   numbers-next =
-      let e : from + (i + 1) ≡ suc (from + i) = omega arith in
-      ap numbersIn
-      (ap (λ (m : ℕ). slice from m w) e
-      ∙ ap (drop from) (take-suc w (from + i) 0 inside)
-      ∙ drop-append-le from (take (from + i) w) (getD w (from + i) 0 ∷ []) (omega (arith, length-take-le (from + i) w (omega arith))))
-      ∙ numbers-append (slice from (from + i) w) (getD w (from + i) 0 ∷ [])
+      ap numbersIn (slice-more w from i inside) ∙ numbers-append (slice from (from + i) w) (getD w (from + i) 0 ∷ [])
 
   module _ {w′ : List ℕ} {at n count slots : ℕ} (before : Adds w w′ at n slots (numbersIn (slice from (from + i) w)) count)
       (behind : at + count ≤ from + i) (below : from + i < slots) where

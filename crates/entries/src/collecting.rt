@@ -57,14 +57,7 @@ pub fn add_indicator(w: &mut [Cell], at: usize, indicator: usize, slots: usize) 
 }
 
 // Collects the lines that the `size` cells from `from` on name, behind the n from `at` on; how many they are then.
-pub fn collect(
-    w: &mut [Cell],
-    from: usize,
-    size: usize,
-    at: usize,
-    n: usize,
-    slots: usize,
-) -> usize
+pub fn collect(w: &mut [Cell], from: usize, size: usize, at: usize, n: usize, slots: usize) -> usize
     requires { ⌜ (at + n + size ≤ from) × (from + size ≤ slots) × (slots + slotCount ≤ length (now w)) ⌝ }
     ensures { λ r. ⌜ Adds (now (w .entry)) (now (w .exit)) at n slots (numbersIn (slice from (from + size) (now (w .entry)))) r ⌝ }
 {
