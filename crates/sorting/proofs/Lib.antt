@@ -1,0 +1,7 @@
+mod Slices
+mod RunLaws
+mod LeastLaws
+mod InsertLaws
+mod FewLaws
+mod MergeLaws
+mod SortLaws
