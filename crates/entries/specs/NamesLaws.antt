@@ -20,22 +20,20 @@ use Rattle.entries.specs.Collected.{Spared, Emptied, Adds}
 use Rattle.entries.specs.CollectedLaws.{spared-then, spared-run, numbers-few}
 use Rattle.entries.specs.Posts.{NamesPost}
 
--- ---- an indicator
-
 pub indicator-named : (v : ℕ) → v ≢ 0 → mentionedAsIndicator v ≡ v ∷ []
 unfolding mentionedAsIndicator
 indicator-named zero d = absurd (d refl)
 indicator-named (suc v) d = refl
 
-pub indicator-few : (v : ℕ) → length (mentionedAsIndicator v) ≤ 1
-unfolding mentionedAsIndicator
-indicator-few zero = omega arith
-indicator-few (suc v) = omega arith
-
 -- ---- how many there are
 
-pub run-few : (w : List ℕ) (from size : ℕ) → length (numbersIn (slice from (from + size) w)) ≤ size
-run-few w from size = omega (arith, numbers-few (slice from (from + size) w), length-drop from (take (from + size) w), length-take (from + size) w)
+pub first-few : (indicator : ℕ) {w w′ : List ℕ} {at slots n : ℕ} → Adds w w′ at 0 slots (mentionedAsIndicator indicator) n → n ≤ 1
+unfolding mentionedAsIndicator
+first-few zero a = omega (arith, a .few)
+first-few (suc v) a = omega (arith, a .few)
+
+pub others-few : (from size : ℕ) {w w′ : List ℕ} {at n slots m : ℕ} → Adds w w′ at n slots (numbersIn (slice from (from + size) w)) m → m ≤ n + size
+others-few from size {w} a = omega (arith, a .few, numbers-few (slice from (from + size) w), length-drop from (take (from + size) w), length-take (from + size) w)
 
 -- ---- nothing is written
 
@@ -67,7 +65,7 @@ module _ (limit size indicator at from slots : ℕ) {w w₁ w₂ w₃ w₄ : Lis
     (empties : Emptied w w₁ slots) (first : Adds w₁ w₂ at 0 slots (mentionedAsIndicator indicator) n)
     (others : Adds w₂ w₃ at n slots (numbersIn (slice from (from + size) w₂)) m) (sorts : SortPost w₃ w₄ at m slots r) where
   some : at + m ≤ from
-  some = omega (arith, first .few, indicator-few indicator, others .few, run-few w₂ from size)
+  some = omega (arith, first-few indicator first, others-few from size others)
 
   sparedFirst : Spared w w₂ at from slots
   sparedFirst = spared-then (empties .spared at from (omega arith)) (first .spared from (omega (arith, some)))

@@ -1,7 +1,7 @@
 use mathlib.Core.Path.{_∙_}
 use native.Mathlib.Omega.{arith}
 use Rattle.cells.specs.Layout.{unitAt}
-use Rattle.entries.specs.NamesLaws.{Placed, indicator-few, run-few, names-none, names-put}
+use Rattle.entries.specs.NamesLaws.{Placed, first-few, others-few, names-none, names-put}
 use Rattle.entries.proofs.entries.line_names.Statement.{statement}
 use Rattle.entries.proofs.entries.line_names.Tie as tie
 
@@ -57,22 +57,18 @@ add-indicator-requires c κs = omega (arith, placed (c .before .before .before .
 
 collect-requires : tie.Need-collect-requires
 collect-requires c κs =
-    let a = c .before .before .before .before .before .before .before .before .before .before .before .before .before .before .before .before .before .before .args in
-    omega (arith, placed (c .before .before .before .before .before .before .before .before .before), c .before .before .before .before .before .before .before .empty .kept .0, c .before .before .before .add-indicator .kept .0, c .before .before .before .add-indicator .ensures .few, indicator-few (a .indicator))
+    omega (arith, placed (c .before .before .before .before .before .before .before .before .before), c .before .before .before .before .before .before .before .empty .kept .0, c .before .before .before .add-indicator .kept .0, first-few _ (c .before .before .before .add-indicator .ensures))
 
 sort-requires : tie.Need-sort-requires
 sort-requires c κs =
-    let a = c .before .before .before .before .before .before .before .before .before .before .before .before .before .before .before .before .before .before .before .before .before .before .args in
     omega (
       arith,
       placed (c .before .before .before .before .before .before .before .before .before .before .before .before .before),
       c .before .before .before .before .before .before .before .before .before .before .before .empty .kept .0,
       c .before .before .before .before .before .before .before .add-indicator .kept .0,
-      c .before .before .before .before .before .before .before .add-indicator .ensures .few,
-      indicator-few (a .indicator),
+      first-few _ (c .before .before .before .before .before .before .before .add-indicator .ensures),
       c .before .before .before .collect .kept .0,
-      c .before .before .before .collect .ensures .few,
-      run-few (c .before .before .before .before .before .before .before .add-indicator .last .0) (c .before .before .before .before .before .before .before .before .before .before .before .before .before .before .line-at .result) (a .size),
+      others-few (c .before .before .before .before .before .before .before .before .before .before .before .before .before .before .line-at .result) (c .before .before .before .before .before .before .before .before .before .before .before .before .before .before .before .before .before .before .before .before .before .before .args .size) (c .before .before .before .collect .ensures),
     )
 
 same-length : tie.Need-same-length
