@@ -1,5 +1,5 @@
 // An entry of the index.
-use crate::collecting::add;
+use crate::collecting::add_indicator;
 use crate::collecting::collect;
 use crate::collecting::empty;
 use cells::level_at;
@@ -37,10 +37,7 @@ pub fn line_names(w: &mut [Cell], limit: usize, size: usize, indicator: usize) -
     let from = line_at(limit);
     let spare = level_at(limit, 0);
     empty(w, spare);
-    let mut n = 0;
-    if indicator > 0 {
-        n = add(w, at, 0, indicator as Cell, spare);
-    }
+    let n = add_indicator(w, at, indicator, spare);
     let count = collect(w, from, size, at, n, spare);
     sort(w, at, count, spare)
 }
@@ -64,7 +61,8 @@ pub fn put_entry(index: &mut [u32], used: usize, w: &[Cell], at: usize, n: usize
     if n > 4294967295 {
         return;
     }
-    index[used] = n as u32;
+    let count = n as u32;
+    index[used] = count;
     let mut i = 0;
     while i < n {
         index[used + 1 + i] = w[at + i] as u32;
