@@ -8,7 +8,7 @@ use native.Mathlib.Decide.{ℕ-discrete}
 use native.Mathlib.Omega.{arith}
 use lib.Dec.{eqb}
 use lib.ListN.{length, replicate}
-use borrow.Author.Tests.{eqb-true, eq-eqb}
+use borrow.Author.Tests.{eqb-true, eq-eqb, ne-eqb}
 use Rattle.aut68.specs.Sizes.{atKind}
 use Rattle.aut68.specs.Lines.{Line, Lines, Kind, variable, primitive, abbreviation, kindNumber, rowCell}
 use Rattle.aut68.specs.Rules.Names.{IsLine, Member}
@@ -20,9 +20,9 @@ use Rattle.lookup.specs.Reaching.{HasLine, line-at, reaches-within}
 use Rattle.lookup.specs.Tests.{and-true}
 use Rattle.marks.specs.Marks.{cellMarks, marked, MarkPost}
 use Rattle.marks.specs.MarkLaws.{none-marked}
-use Rattle.reaching.specs.Adding.{AddsMarks, adds-other}
+use Rattle.reaching.specs.Adding.{AddsMarks, adds-none, adds-other}
 use Rattle.reaching.specs.RowNames.{rowNames, row-names}
-use Rattle.reaching.specs.Primitives.{isMarkedPrimitive, markedPrimitives, oneIf, primitives-length, primitives-same, primitive-within, primitive-member, primitives-ascend}
+use Rattle.reaching.specs.Primitives.{marked-kind, unmarked-primitive, isMarkedPrimitive, markedPrimitives, oneIf, primitives-length, primitives-same, primitive-within, primitive-member, primitives-ascend}
 use Rattle.reaching.specs.Posts.{visited, VisitPost, Followable, Followed}
 
 unmarked : {t : Bool} {A : Type 0} → t ≡ false → t ≡ true → A
@@ -47,13 +47,43 @@ module _ (tb w : List ℕ) (v : ℕ) where
   primitive-marked a b = rw (a, eq-eqb (rowCell tb v atKind) 1 b, isMarkedPrimitive)
 
 module _ (tb ts w : List ℕ) (v : ℕ) where
-  pub visited-marked : marked w v ≡ true → visited tb ts w v ≡ rowNames tb ts v
+  visited-marked : marked w v ≡ true → visited tb ts w v ≡ rowNames tb ts v
   unfolding visited
   visited-marked e = rw (e, visited)
 
-  pub visited-unmarked : marked w v ≡ false → visited tb ts w v ≡ []
+  visited-unmarked : marked w v ≡ false → visited tb ts w v ≡ []
   unfolding visited
   visited-unmarked e = rw (e, visited)
+
+  module _ {w′ : List ℕ} {k : ℕ} (e : marked w v ≡ true) (a : AddsMarks (rowNames tb ts v) w w′) (f : k ≡ rowCell tb v atKind) where
+    pub visit-primitive : k ≡ 1 → VisitPost tb ts v w 1 w′
+    unfolding oneIf
+    visit-primitive q =
+        record {
+          adds = subst (λ xs. AddsMarks xs w w′) (sym (visited-marked e)) a;
+          countIs = ap oneIf (sym (eq-eqb k 1 q) ∙ sym (marked-kind tb w v e f));
+        }
+
+    pub visit-other : (k ≡ 1 → ⊥) → VisitPost tb ts v w 0 w′
+    unfolding oneIf
+    visit-other q =
+        record {
+          adds = subst (λ xs. AddsMarks xs w w′) (sym (visited-marked e)) a;
+          countIs = ap oneIf (sym (ne-eqb k 1 q) ∙ sym (marked-kind tb w v e f));
+        }
+
+  pub visit-unmarked : marked w v ≡ false → VisitPost tb ts v w 0 w
+  unfolding oneIf
+  visit-unmarked e =
+      record { adds = subst (λ xs. AddsMarks xs w w) (sym (visited-unmarked e)) adds-none; countIs = ap oneIf (sym (unmarked-primitive tb w v e)) }
+
+pub visit-few : {tb ts w w′ : List ℕ} {v count : ℕ} → VisitPost tb ts v w count w′ → count ≤ 1
+unfolding oneIf
+visit-few {tb} {w = w} {v = v} p = at (isMarkedPrimitive tb w v) (p .countIs)
+  where
+    at : {n : ℕ} (t : Bool) → n ≡ oneIf t → n ≤ 1
+    at true e = omega arith
+    at false e = omega arith
 
 module _ {ls : Lines} {tb ts : List ℕ} {line size : ℕ} (can : Followable ls tb ts line size) where
   pub follow-begin : {w w′ : List ℕ} → length w ≡ size → w ≡ replicate (length w) 0 → MarkPost w w′ line → Followed ls tb line line w′ 0

@@ -28,6 +28,15 @@ unfoldable pub oneIf : Bool → ℕ
 oneIf true = 1
 oneIf false = 0
 
+module _ (tb w : List ℕ) (v : ℕ) where
+  pub marked-kind : {k : ℕ} → marked w v ≡ true → k ≡ rowCell tb v atKind → isMarkedPrimitive tb w v ≡ eqb k 1
+  unfolding isMarkedPrimitive
+  marked-kind {k} e f = rw (e, isMarkedPrimitive) (ap (λ (n : ℕ). eqb n 1) (sym f))
+
+  pub unmarked-primitive : marked w v ≡ false → isMarkedPrimitive tb w v ≡ false
+  unfolding isMarkedPrimitive
+  unmarked-primitive e = rw (e, isMarkedPrimitive)
+
 -- ---- by the next line
 
 module _ (tb w : List ℕ) (v n : ℕ) where

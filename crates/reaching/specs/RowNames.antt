@@ -1,36 +1,22 @@
 -- The lines that a line names, as its row and its cells say.
-use mathlib.Core.Path.{_≡_, refl, sym, ap, ap₂, _∙_}
-use mathlib.Core.Logic.{_⊎_, ⊎-elim}
-use mathlib.Core.List.{List, [], _∷_, _++_, append-assoc}
-use Prim.Native.Nat.{ℕ, suc, _+_, _≤_, _<_}
+use mathlib.Core.Path.{_≡_, refl, sym, subst, ap, ap₂, _∙_}
+use mathlib.Core.List.{List, _++_, append-assoc}
+use Prim.Native.Nat.{ℕ, _+_}
 use native.Mathlib.Omega.{arith}
-use native.Mathlib.Numerals.{add-one}
-use lib.ListN.{length, length-append, length-take, getD, take, drop, drop-of-length-le}
-use lib.Seq.{slice, drop-cons, drop-drop, getD-take, drop-at, take-at}
+use lib.ListN.{length, length-append, take, drop}
+use lib.Seq.{slice, drop-drop, drop-at, take-at}
 use Rattle.aut68.specs.Sizes.{atIndicator, atMiddle, atEnd}
-use Rattle.aut68.specs.Expr.{cells}
-use Rattle.aut68.specs.Lines.{Line, Lines, kindCells, lineCells, rowCell}
+use Rattle.aut68.specs.Lines.{Line, Lines, lineCells, rowCell}
 use Rattle.aut68.specs.Index.{mentionedAsIndicator, mentionedBy}
 use Rattle.aut68.specs.Rules.Names.{IsLine}
 use Rattle.cells.specs.Cells.{At}
 use Rattle.cells.specs.Numbers.{numbersIn, numbers-line}
 use Rattle.cells.specs.SameCells.{run-is-slice}
 use Rattle.cells.specs.Rows.{Rows, Stored}
+use Rattle.reaching.specs.Adding.{AddsMarks, adds-append}
 
 unfoldable pub rowNames : List ℕ → List ℕ → ℕ → List ℕ
 rowNames tb ts v = mentionedAsIndicator (rowCell tb v atIndicator) ++ numbersIn (slice (rowCell tb v atMiddle) (rowCell tb v atEnd) ts)
-
--- ---- the cells from one place to another, one after the other
-
-pub cells-none : (i to : ℕ) (ts : List ℕ) → (to ≤ i) ⊎ (length ts ≤ i) → slice i to ts ≡ []
-cells-none i to ts h = drop-of-length-le (take to ts) {i = i} (rw length-take (⊎-elim (λ k. omega arith) (λ k. omega arith) h))
-
-pub cells-next : (i to : ℕ) (ts : List ℕ) → i < to → i < length ts → slice i to ts ≡ getD ts i 0 ∷ slice (i + 1) to ts
-cells-next i to ts h k =
-    drop-cons (take to ts) i 0 (rw length-take (omega arith))
-    ∙ ap₂ (λ (x j : ℕ). x ∷ slice j to ts) (getD-take to ts i 0 h) (sym (add-one i))
-
--- ---- the cells of a line
 
 line-slice : {ts : List ℕ} {m c e : ℕ} {xs ys after rest : List ℕ} → At ts m xs after → c ≡ m + length xs → At ts c ys rest → e ≡ c + length ys
     → slice m e ts ≡ xs ++ ys
@@ -47,3 +33,12 @@ row-names {l = l} r s i =
     let k = s .cellsOf i in
     ap₂ _++_ (ap mentionedAsIndicator (r .row i .indicatorIs))
     (ap numbersIn (line-slice (k .middleAt) (k .middleEnds) (k .categoryAt) (k .categoryEnds)) ∙ numbers-line l)
+
+-- marks for the indicator, then for the cells
+pub adds-row : (tb ts : List ℕ) (v : ℕ) {w u w′ : List ℕ} {i m e : ℕ} → i ≡ rowCell tb v atIndicator → m ≡ rowCell tb v atMiddle → e ≡ rowCell tb v atEnd
+    → AddsMarks (mentionedAsIndicator i) w u → AddsMarks (numbersIn (slice m e ts)) u w′ → AddsMarks (rowNames tb ts v) w w′
+unfolding rowNames
+adds-row tb ts v {w} {u} {w′} {e = e} p q r a b =
+    adds-append
+    (subst (λ n. AddsMarks (mentionedAsIndicator n) w u) p a)
+    (subst (λ n. AddsMarks (numbersIn (slice (rowCell tb v atMiddle) n ts)) u w′) r (subst (λ n. AddsMarks (numbersIn (slice n e ts)) u w′) q b))

@@ -106,15 +106,15 @@ fn put_marked(table: &[u32], line: usize, w: &[Cell], answer: &mut [u32])
     ensures { λ _. ⌜ MarkedPost (now (table .entry)) line (now (w .entry)) (now (answer .entry)) (now (answer .exit)) ⌝ }
 {
     let mut n = 0;
-    let mut v = 1;
-    while v <= line {
+    let mut v = 0;
+    while v < line {
+        v = v + 1;
         if is_marked_primitive(table, w, v) {
             if n < answer.len() {
                 answer[n] = v as u32;
                 n = n + 1;
             }
         }
-        v = v + 1;
     }
 }
 
