@@ -23,7 +23,7 @@ use Rattle.marks.specs.MarkLaws.{none-marked}
 use Rattle.reaching.specs.Adding.{AddsMarks, adds-none, adds-other}
 use Rattle.reaching.specs.RowNames.{rowNames, row-names}
 use Rattle.reaching.specs.Primitives.{marked-kind, unmarked-primitive, isMarkedPrimitive, markedPrimitives, oneIf, primitives-length, primitives-same, primitive-within, primitive-member, primitives-ascend}
-use Rattle.reaching.specs.Posts.{visited, VisitPost, Followable, Followed}
+use Rattle.reaching.specs.Posts.{visited, VisitPost, Followable, Followed, ReachedPost, MarkedPost, Told, BeneathPost}
 
 unmarked : {t : Bool} {A : Type 0} → t ≡ false → t ≡ true → A
 unmarked {t} e f =
@@ -165,7 +165,7 @@ module _ {ls : Lines} {tb ts : List ℕ} {line size : ℕ} (can : Followable ls 
     all-marked itself = f .itself
     all-marked (onward {u} {w = x} {l} r i m) = f .onward u x l (line-positive i) (all-marked r) i m
 
-    pub follow-end : RestsOn ls line (markedPrimitives tb w 0 line)
+    follow-end : RestsOn ls line (markedPrimitives tb w 0 line)
     unfolding kindNumber
     follow-end = record { ascends = primitives-ascend tb w 0 line; exactly = λ u. (to u, from u) }
       where
@@ -181,3 +181,26 @@ module _ {ls : Lines} {tb ts : List ℕ} {line size : ℕ} (can : Followable ls 
             let k = reaches-within (can .before) (b .reached) in
             primitive-member tb w 0 line (line-positive (b .isLine)) (omega arith)
             (primitive-marked tb w u (all-marked (b .reached)) (can .rows .row (b .isLine) .kindIs ∙ ap kindNumber (b .isPrimitive)))
+
+    told : {old new : List ℕ} → (count ≤ length old → MarkedPost tb line w old new) → (length old < count → new ≡ old) → Told ls line old count new
+    told put not =
+        let e = f .countIs line (omega arith) in
+        record {
+          list = markedPrimitives tb w 0 line;
+          restsOn = follow-end;
+          countIs = e;
+          written = λ h. put (omega arith) .written h;
+          untouched = λ h. not (omega arith);
+        }
+
+-- the store is w when the names are followed, then u, then cleared
+pub beneath-post : {tb ts w u w′ old new : List ℕ} {line count : ℕ} → ReachedPost tb ts line w count u → (count ≤ length old → MarkedPost tb line u old new)
+    → (length old < count → new ≡ old) → w′ ≡ replicate (length u) 0 → BeneathPost tb ts line w old count w′ new
+beneath-post {tb} {ts} {w} {line = line} r put not z =
+    record {
+      zeros = z ∙ ap (λ (n : ℕ). replicate n 0) (r .long);
+      few = r .few;
+      tells = λ ls rows stored before positive within room e.
+          let can : Followable ls tb ts line (length w) = record { rows = rows; stored = stored; before = before; positive = positive; within = within; room = room } in
+          told can (r .followed ls can e) put not;
+    }
