@@ -18,18 +18,9 @@ line-at [] (suc v) h k = absurd (omega arith)
 line-at (l ∷ ls) (suc zero) h k = (l, first)
 line-at (l ∷ ls) (suc (suc v)) h k = let (m, i) = line-at ls (suc v) (omega arith) (omega arith) in (m, later i)
 
-module _ {ls : Lines} (before : NamesBefore ls) where
-  pub reaches-within : {v u : ℕ} → Reaches ls v u → u ≤ v
-  reaches-within itself = omega arith
-  reaches-within (onward r i m) =
-      let p = reaches-within r in
-      let q = before _ _ _ i m .1 in
-      omega arith
-
-  -- a line reached is a line
-  pub reaches-line : {v u : ℕ} → 1 ≤ v → v ≤ length ls → Reaches ls v u → HasLine ls u
-  reaches-line {v} h k r = line-at ls _ (positive r) (let p = reaches-within r in omega arith)
-    where
-      positive : {u : ℕ} → Reaches ls v u → 1 ≤ u
-      positive itself = h
-      positive (onward r i m) = before _ _ _ i m .0
+pub reaches-within : {ls : Lines} → NamesBefore ls → {v u : ℕ} → Reaches ls v u → u ≤ v
+reaches-within before itself = omega arith
+reaches-within before (onward r i m) =
+    let p = reaches-within before r in
+    let q = before _ _ _ i m .1 in
+    omega arith

@@ -1,9 +1,9 @@
 -- Marks added to a store.
 use mathlib.Core.Path.{_≡_, refl, sym, subst, _∙_}
 use mathlib.Core.Logic.{_⊎_, inl, inr, ⊎-elim}
-use mathlib.Core.Bool.{Bool, true, false}
+use mathlib.Core.Bool.{Bool, true, false, false≢true}
 use mathlib.Core.List.{List, [], _∷_, _++_}
-use Prim.Native.Nat.{ℕ, _*_, _/_, _<_}
+use Prim.Native.Nat.{ℕ, _*_, _<_}
 use native.Mathlib.Decide.{decLt, ℕ-discrete}
 use native.Mathlib.Omega.{arith}
 use lib.ListN.{length}
@@ -28,10 +28,7 @@ marked-within w v m = at (decLt v (cellMarks * length w))
   where
     at : Dec (v < cellMarks * length w) → v < cellMarks * length w
     at (yes h) = h
-    at (no h) =
-        let e : false ≡ true = sym (past-marked w v (omega arith)) ∙ m in
-        let z : _≡_ {A = ℕ} 0 1 = cc in
-        absurd (omega arith)
+    at (no h) = absurd (false≢true (sym (past-marked w v (omega arith)) ∙ m))
 
 pub adds-one : {w w′ : List ℕ} {v : ℕ} → MarkPost w w′ v → AddsMarks (v ∷ []) w w′
 adds-one {w} {w′} {v} p =

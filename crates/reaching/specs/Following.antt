@@ -1,9 +1,9 @@
 -- Following names downwards, a line a turn: the beginning, a turn, and what is known at the end.
 use mathlib.Core.Path.{_≡_, refl, sym, subst, ap, _∙_}
 use mathlib.Core.Logic.{⊎-elim}
-use mathlib.Core.Bool.{Bool, true, false}
+use mathlib.Core.Bool.{Bool, true, false, false≢true}
 use mathlib.Core.List.{List, []}
-use Prim.Native.Nat.{ℕ, zero, suc, _+_, _*_, _≤_, _<_}
+use Prim.Native.Nat.{ℕ, zero, suc, _+_, _≤_, _<_}
 use native.Mathlib.Decide.{ℕ-discrete}
 use native.Mathlib.Omega.{arith}
 use lib.Dec.{eqb}
@@ -18,17 +18,12 @@ use Rattle.lookup.specs.Lists.{no-member}
 use Rattle.lookup.specs.LineNumbers.{line-positive, line-unique}
 use Rattle.lookup.specs.Reaching.{HasLine, line-at, reaches-within}
 use Rattle.lookup.specs.Tests.{and-true}
-use Rattle.marks.specs.Marks.{cellMarks, marked, MarkPost}
+use Rattle.marks.specs.Marks.{marked, MarkPost}
 use Rattle.marks.specs.MarkLaws.{none-marked}
 use Rattle.reaching.specs.Adding.{AddsMarks, adds-none, adds-other}
 use Rattle.reaching.specs.RowNames.{rowNames, row-names}
 use Rattle.reaching.specs.Primitives.{marked-kind, unmarked-primitive, isMarkedPrimitive, markedPrimitives, oneIf, primitives-length, primitives-same, primitive-within, primitive-member, primitives-ascend}
 use Rattle.reaching.specs.Posts.{visited, VisitPost, Followable, Followed, ReachedPost, MarkedPost, Told, BeneathPost}
-
-unmarked : {t : Bool} {A : Type 0} → t ≡ false → t ≡ true → A
-unmarked {t} e f =
-    let z : _≡_ {A = ℕ} 0 1 = cc in
-    absurd (omega arith)
 
 -- the kind on a row
 one-is-primitive : (k : Kind) → kindNumber k ≡ 1 → k ≡ primitive
@@ -98,7 +93,7 @@ module _ {ls : Lines} {tb ts : List ℕ} {line size : ℕ} (can : Followable ls 
     where
       at : (u : ℕ) → marked w′ u ≡ true → Dec (u ≡ line) → Reaches ls line u
       at u m (yes e) = subst (Reaches ls line) (sym e) itself
-      at u m (no n) = unmarked (p .others u n ∙ ap (λ (x : List ℕ). marked x u) z ∙ none-marked (length w) u) m
+      at u m (no n) = absurd (false≢true (sym (p .others u n ∙ ap (λ (x : List ℕ). marked x u) z ∙ none-marked (length w) u) ∙ m))
 
       counted : (n : ℕ) → line + n ≡ line → 0 ≡ length (markedPrimitives tb w′ line n)
       counted zero e = refl

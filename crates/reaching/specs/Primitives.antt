@@ -1,7 +1,7 @@
 -- The marked `PN` lines, as the rows say.
 use mathlib.Core.Path.{_≡_, refl, sym, subst, ap, ap₂, _∙_}
 use mathlib.Core.Logic.{⊎-elim}
-use mathlib.Core.Bool.{Bool, true, false, _&&_}
+use mathlib.Core.Bool.{Bool, true, false, _&&_, false≢true}
 use mathlib.Core.List.{List, [], _∷_}
 use Prim.Native.Nat.{ℕ, zero, suc, _+_, _≤_, _<_}
 use native.Mathlib.Decide.{ℕ-discrete}
@@ -81,10 +81,7 @@ module _ (tb w : List ℕ) where
       at : (t : Bool) → isMarkedPrimitive tb w (suc v) ≡ t → Dec (u ≡ suc v) → (suc v < u → Member u (markedPrimitives tb w (suc v) n)) → Member u (markedPrimitives tb w v (suc n))
       at true e (yes q) f = subst (Member u) (sym (primitives-yes tb w v n e)) (subst (λ x. Member u (x ∷ markedPrimitives tb w (suc v) n)) q here)
       at true e (no q) f = subst (Member u) (sym (primitives-yes tb w v n e)) (there (f (omega arith)))
-      at false e (yes q) f =
-          let r : false ≡ true = sym e ∙ ap (isMarkedPrimitive tb w) (sym q) ∙ p in
-          let z : _≡_ {A = ℕ} 0 1 = cc in
-          absurd (omega arith)
+      at false e (yes q) f = absurd (false≢true (sym e ∙ ap (isMarkedPrimitive tb w) (sym q) ∙ p))
       at false e (no q) f = subst (Member u) (sym (primitives-no tb w v n e)) (f (omega arith))
 
   pub primitives-ascend : (v n : ℕ) → Ascends (markedPrimitives tb w v n)
@@ -92,12 +89,12 @@ module _ (tb w : List ℕ) where
   primitives-ascend v zero = none
   primitives-ascend v (suc n) = at (isMarkedPrimitive tb w (suc v)) refl (primitives-ascend (suc v) n)
     where
-      in-front : {x : ℕ} (xs : List ℕ) → ((u : ℕ) → Member u xs → x < u) → Ascends xs → Ascends (x ∷ xs)
-      in-front [] h a = one
-      in-front (y ∷ xs) h a = more (h y here) a
+      ascends-cons : {x : ℕ} (xs : List ℕ) → ((u : ℕ) → Member u xs → x < u) → Ascends xs → Ascends (x ∷ xs)
+      ascends-cons [] h a = one
+      ascends-cons (y ∷ xs) h a = more (h y here) a
 
       at : (t : Bool) → isMarkedPrimitive tb w (suc v) ≡ t → Ascends (markedPrimitives tb w (suc v) n) → Ascends (markedPrimitives tb w v (suc n))
-      at true e a = subst Ascends (sym (primitives-yes tb w v n e)) (in-front _ (λ u m. primitive-within (suc v) n m .0) a)
+      at true e a = subst Ascends (sym (primitives-yes tb w v n e)) (ascends-cons _ (λ u m. primitive-within (suc v) n m .0) a)
       at false e a = subst Ascends (sym (primitives-no tb w v n e)) a
 
 -- they depend on the marks behind line v

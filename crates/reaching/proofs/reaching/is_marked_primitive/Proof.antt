@@ -1,5 +1,5 @@
 -- `is_marked_primitive`: the mark, and the kind on the row.
-use mathlib.Core.Path.{sym, ap, _∙_}
+use mathlib.Core.Path.{sym, _∙_}
 use borrow.Author.Needs.{needs}
 use Rattle.reaching.specs.Primitives.{marked-kind, unmarked-primitive}
 use Rattle.reaching.proofs.reaching.is_marked_primitive.Statement.{statement}

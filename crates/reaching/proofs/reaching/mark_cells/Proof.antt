@@ -6,7 +6,6 @@ use Prim.Native.Nat.{ℕ, _-_}
 use native.Mathlib.Omega.{arith}
 use lib.ListN.{length}
 use lib.Seq.{slice}
-use borrow.Author.Needs.{needs}
 use Rattle.cells.specs.Numbers.{numbersIn}
 use Rattle.reaching.specs.Adding.{AddsMarks}
 use Rattle.reaching.specs.Cellwise.{adds-end, adds-turn}

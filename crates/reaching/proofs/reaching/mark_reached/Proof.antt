@@ -1,6 +1,6 @@
 -- `mark_reached`, a line a turn, downwards. The invariant: names are followed to the lines behind line v.
 use mathlib.Core.Path.{_≡_, refl, sym, subst, _∙_}
-use Prim.Native.Nat.{ℕ, suc, _+_, _-_, _≤_}
+use Prim.Native.Nat.{_+_, _-_, _≤_}
 use native.Mathlib.Omega.{arith}
 use lib.ListN.{length}
 use Rattle.aut68.specs.Lines.{Lines}
