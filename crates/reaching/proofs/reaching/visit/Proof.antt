@@ -1,5 +1,6 @@
 -- `visit`: by whether the line is marked, and by its kind.
 use mathlib.Core.Path.{sym, _∙_}
+use native.Mathlib.Omega.{arith}
 use borrow.Author.Needs.{needs}
 use Rattle.reaching.specs.Following.{visit-primitive, visit-other, visit-unmarked}
 use Rattle.reaching.proofs.reaching.visit.Statement.{statement}
@@ -9,13 +10,13 @@ returns : tie.Need-returns
 returns c =
     let a = c .before .before .before .before in
     let b = a .before .before in
-    visit-primitive _ _ _ _ (sym (b .before .is-marked .ensures) ∙ b .if1 .taken) (a .mark-names .ensures) (c .before .field .ensures .0) (c .if2 .taken)
+    visit-primitive _ _ _ _ (sym (b .before .is-marked .ensures) ∙ b .if1 .taken) (a .mark-names .ensures) (c .before .field .ensures .0) (omega arith)
 
 returns-2 : tie.Need-returns-2
 returns-2 c =
     let a = c .before .before .before .before in
     let b = a .before .before in
-    visit-other _ _ _ _ (sym (b .before .is-marked .ensures) ∙ b .if1 .taken) (a .mark-names .ensures) (c .before .field .ensures .0) (c .if2 .left)
+    visit-other _ _ _ _ (sym (b .before .is-marked .ensures) ∙ b .if1 .taken) (a .mark-names .ensures) (c .before .field .ensures .0) (λ q. omega arith)
 
 returns-3 : tie.Need-returns-3
 returns-3 c = visit-unmarked _ _ _ _ (sym (c .before .is-marked .ensures) ∙ c .if1 .left)
