@@ -25,7 +25,8 @@ use Rattle.reaching.specs.RowNames.{rowNames, row-names}
 use Rattle.reaching.specs.Primitives.{marked-kind, unmarked-primitive, isMarkedPrimitive, markedPrimitives, oneIf, primitives-length, primitives-same, primitive-within, primitive-member, primitives-ascend}
 use Rattle.reaching.specs.Posts.{visited, VisitPost, Followable, Followed, ReachedPost, MarkedPost, Told, BeneathPost}
 
--- the kind on a row
+-- ---- the kind on a row
+
 one-is-primitive : (k : Kind) → kindNumber k ≡ 1 → k ≡ primitive
 unfolding kindNumber
 one-is-primitive variable e = absurd (omega arith)
@@ -41,6 +42,8 @@ module _ (tb w : List ℕ) (v : ℕ) where
   unfolding isMarkedPrimitive
   primitive-marked a b = rw (a, eq-eqb (rowCell tb v atKind) 1 b, isMarkedPrimitive)
 
+-- ---- a visit
+
 module _ (tb ts w : List ℕ) (v : ℕ) where
   visited-marked : marked w v ≡ true → visited tb ts w v ≡ rowNames tb ts v
   unfolding visited
@@ -51,21 +54,17 @@ module _ (tb ts w : List ℕ) (v : ℕ) where
   visited-unmarked e = rw (e, visited)
 
   module _ {w′ : List ℕ} {k : ℕ} (e : marked w v ≡ true) (a : AddsMarks (rowNames tb ts v) w w′) (f : k ≡ rowCell tb v atKind) where
+    visit-marked : {count : ℕ} → count ≡ oneIf (eqb k 1) → VisitPost tb ts v w count w′
+    visit-marked c =
+        record { adds = subst (λ xs. AddsMarks xs w w′) (sym (visited-marked e)) a; countIs = c ∙ ap oneIf (sym (marked-kind tb w v e f)) }
+
     pub visit-primitive : k ≡ 1 → VisitPost tb ts v w 1 w′
     unfolding oneIf
-    visit-primitive q =
-        record {
-          adds = subst (λ xs. AddsMarks xs w w′) (sym (visited-marked e)) a;
-          countIs = ap oneIf (sym (eq-eqb k 1 q) ∙ sym (marked-kind tb w v e f));
-        }
+    visit-primitive q = visit-marked (ap oneIf (sym (eq-eqb k 1 q)))
 
     pub visit-other : (k ≡ 1 → ⊥) → VisitPost tb ts v w 0 w′
     unfolding oneIf
-    visit-other q =
-        record {
-          adds = subst (λ xs. AddsMarks xs w w′) (sym (visited-marked e)) a;
-          countIs = ap oneIf (sym (ne-eqb k 1 q) ∙ sym (marked-kind tb w v e f));
-        }
+    visit-other q = visit-marked (ap oneIf (sym (ne-eqb k 1 q)))
 
   pub visit-unmarked : marked w v ≡ false → VisitPost tb ts v w 0 w
   unfolding oneIf
@@ -79,6 +78,8 @@ visit-few {tb} {w = w} {v = v} p = at (isMarkedPrimitive tb w v) (p .countIs)
     at : {n : ℕ} (t : Bool) → n ≡ oneIf t → n ≤ 1
     at true e = omega arith
     at false e = omega arith
+
+-- ---- the pass
 
 module _ {ls : Lines} {tb ts : List ℕ} {line size : ℕ} (can : Followable ls tb ts line size) where
   pub follow-begin : {w w′ : List ℕ} → length w ≡ size → w ≡ replicate (length w) 0 → MarkPost w w′ line → Followed ls tb line line w′ 0
@@ -156,6 +157,7 @@ module _ {ls : Lines} {tb ts : List ℕ} {line size : ℕ} (can : Followable ls 
             )
 
   module _ {w : List ℕ} {count : ℕ} (f : Followed ls tb line 0 w count) where
+    -- what is reached is marked
     all-marked : {u : ℕ} → Reaches ls line u → marked w u ≡ true
     all-marked itself = f .itself
     all-marked (onward {u} {w = x} {l} r i m) = f .onward u x l (line-positive i) (all-marked r) i m
