@@ -181,7 +181,7 @@ module _ {book : Bytes} {N limit : ℕ} {s₀ : Stores} {k : Recorded} {n used e
             found = d;
             is = read-still names s a;
             named =
-                names .means (f .large) (f .small) (let e = f .enough in omega (arith, post .outside .long)) (a .cellsAt) z s i
+                names .means (p .line) (f .large) (f .small) (let e = f .enough in omega (arith, post .outside .long)) (a .cellsAt) z s i
                 (let c = context-before (R .reading .contextIs) in let q = h .few in let l = h .linesAre in omega arith);
           }
 

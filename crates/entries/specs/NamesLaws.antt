@@ -44,7 +44,6 @@ names-none limit size indicator w h = record {
   long = refl;
   ahead = refl;
   cellsStay = refl;
-  few = omega arith;
   means = λ l a b c p e d i k. absurd (h a b c d k);
 }
 
@@ -96,10 +95,12 @@ module _ (limit size indicator at from slots : ℕ) {w w₁ w₂ w₃ w₄ : Lis
     long = sorts .long ∙ sparedAll .long;
     ahead = rw (sym (placed .atIs)) (sorts .ahead ∙ sparedAll .ahead);
     cellsStay = rw (sym (placed .fromIs)) cells-kept;
-    few = omega (arith, some);
-    means = λ l a b c p e d i k.
-        rw (sym (placed .atIs))
-        (sorts .sorted
-        ∙ ascending-same (λ v. others .adds (first .adds (empties .none at)) .same v)
-        ∙ ap ascending (named l (rw (sym (placed .fromIs)) at p) e i));
+    means = λ l a b c p e d i k. record {
+      fits = omega (arith, some, sorts .few);
+      are =
+          rw (sym (placed .atIs))
+          (sorts .sorted
+          ∙ ascending-same (λ v. others .adds (first .adds (empties .none at)) .same v)
+          ∙ ap ascending (named l (rw (sym (placed .fromIs)) at p) e i));
+    };
   }

@@ -1,3 +1,4 @@
 -- Marks on numbers.
 pub mod Marks
+pub mod BitLaws
 pub mod MarkLaws
