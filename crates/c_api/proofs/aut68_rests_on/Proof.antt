@@ -38,7 +38,7 @@ same-length-5 : tie.Need-same-length-5
 same-length-5 c = search needs
 
 returns : tie.Need-returns
-returns c = ?
+returns c = equal-numbers (c .answer-numbers .ensures) (c .before .before .before .before .before .before .before .before .before .before .before .rests-on .ensures)
 
 pub aut68-rests-on-spec : {M : Type 1} → statement M
 aut68-rests-on-spec =
