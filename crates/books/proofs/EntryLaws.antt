@@ -1,10 +1,10 @@
 -- The lines that a line names, from where they are collected to their entry in the index.
 use mathlib.Core.Path.{_≡_, sym, ap, _∙_}
-use mathlib.Core.List.{List, _∷_, _++_}
+use mathlib.Core.List.{List, _∷_}
 use Prim.Native.Nat.{ℕ, suc, _+_, _-_, _*_, _≤_}
 use native.Mathlib.Omega.{arith}
-use lib.ListN.{length, take, drop, take-append-drop}
-use lib.Seq.{slice, sets, take-take, take-at, length-slice}
+use lib.ListN.{length, take, drop}
+use lib.Seq.{slice, sets, take-take, length-slice}
 use Rattle.aut68.specs.Sizes.{largestLimit, workUnits}
 use Rattle.aut68.specs.Bytes.{Bytes}
 use Rattle.aut68.specs.Lines.{lineCells}
@@ -12,33 +12,23 @@ use Rattle.aut68.specs.Lines as L
 use Rattle.aut68.specs.Index.{namesOf, entryOf}
 use Rattle.aut68.specs.Procedure.CheckLine.{Passed}
 use Rattle.cells.specs.Cells.{At, Outside}
-use Rattle.cells.specs.Stores.{outside-below}
+use Rattle.cells.specs.Stores.{outside-below, at-taken, at-of-taken}
+use Rattle.cells.specs.Slices.{run-is-slice, slice-inside}
 use Rattle.cells.specs.Layout.{namesAt, lineUnit, readerUnits, contextUnit}
 use Rattle.reader.specs.Posts.{LineRead}
 use Rattle.reader.specs.declared.lines.Line.{Line}
-use Rattle.records.specs.Reached.{take-drop}
 use Rattle.entries.specs.Posts.{NamesPut, NamesPost, EntryPost}
 
 -- ---- the line's cells stay while its names are collected
 
--- the first cells of a part, where the part is the same
-part-same : (i n m : ℕ) (w w′ : List ℕ) → n ≤ m → slice i (i + m) w′ ≡ slice i (i + m) w → take n (drop i w′) ≡ take n (drop i w)
-part-same i n m w w′ h e = sym (of w′) ∙ ap (take n) e ∙ of w
-  where
-    of : (x : List ℕ) → take n (slice i (i + m) x) ≡ take n (drop i x)
-    of x = take-drop n i (take (i + m) x) ∙ ap (drop i) (take-take (i + n) (i + m) x (omega arith)) ∙ sym (take-drop n i x)
-
-at-same : (i m : ℕ) {w w′ xs rest : List ℕ} → length xs ≤ m → slice i (i + m) w′ ≡ slice i (i + m) w → At w i xs rest → At w′ i xs (drop (length xs) (drop i w′))
+at-same : (i m : ℕ) {w w′ xs rest : List ℕ} → length xs ≤ m → slice i (i + m) w′ ≡ slice i (i + m) w → At w i xs rest → At w′ i xs (drop (i + length xs) w′)
 at-same i m {w} {w′} {xs} {rest} h e a =
     let n = length xs in
-    record {
-      is =
-          sym (take-append-drop n (drop i w′))
-          ∙ ap (λ (x : List ℕ). x ++ drop n (drop i w′)) (part-same i n m w w′ h e ∙ ap (take n) (a .is) ∙ take-at xs rest n refl-length);
-    }
-  where
-    refl-length : length xs ≡ length xs
-    refl-length = omega arith
+    at-of-taken w′ i n xs
+    (sym (run-is-slice i n w′)
+    ∙ slice-inside w w′ i (i + m) i (i + n) e (omega arith) (omega arith) (omega arith)
+    ∙ run-is-slice i n w
+    ∙ at-taken a)
 
 module _ {limit size indicator count : ℕ} {w w′ : List ℕ} (names : NamesPost limit size indicator w w′ count) where
   -- the line that was read is still there
@@ -54,7 +44,7 @@ module _ {limit size indicator count : ℕ} {w w′ : List ℕ} (names : NamesPo
         kindIs = a .kindIs;
         middleIs = a .middleIs;
         sizeIs = a .sizeIs;
-        after = drop (length (lineCells (p .line))) (drop (lineUnit * limit) w′);
+        after = drop (lineUnit * limit + length (lineCells (p .line))) w′;
         cellsAt = at-same (lineUnit * limit) (2 * limit) (let q = a .sizeIs in omega arith) (names .cellsStay) (a .cellsAt);
       }
 

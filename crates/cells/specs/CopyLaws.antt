@@ -9,13 +9,14 @@ use native.Mathlib.Numerals.{add-one}
 use native.Mathlib.Omega.{arith}
 use lib.Dec.{leb}
 use lib.ListN.{length, getD, take, drop, set, replicate, length-drop, length-replicate, replicate-append-replicate}
-use lib.Seq.{sets, sets-eq, take-suc, getD-drop, length-take-le}
+use lib.Seq.{slice, sets, sets-eq, take-suc, getD-drop, length-take-le}
 use borrow.Author.Tests.{le-leb, lt-leb, leb-true, leb-false}
 use Rattle.aut68.specs.Procedure.Run.{over}
 use Rattle.cells.specs.Cells.{At, Outside, copyCells, moveCells}
 use Rattle.cells.specs.Forests.{at-length}
 use Rattle.cells.specs.Posts.{cleared}
-use Rattle.cells.specs.Stores.{sets-append, sets-elsewhere, outside-of, outside-sets, at-sets, at-taken}
+use Rattle.cells.specs.Stores.{sets-append, sets-elsewhere, outside-of, outside-sets, at-sets, at-taken, at-of-taken}
+use Rattle.cells.specs.Slices.{run-is-slice}
 
 pub and-false : (b : Bool) → (b && false) ≡ false
 and-false true = refl
@@ -148,6 +149,15 @@ module _ (w : List ℕ) (from n to : ℕ) where
 pub move-at : (w : List ℕ) (from to : ℕ) {xs rest : List ℕ} → At w from xs rest → from ≤ length w → to + length xs ≤ length w
     → (to ≤ from) ⊎ (from + length xs ≤ to) → At (moveCells w from (length xs) to) to xs (drop (to + length xs) w)
 move-at w from to {xs} a l h d = rw (move-apart w from (length xs) to d) (copy-at w from w to a l h)
+
+-- a run of cells moved elsewhere
+pub slice-moved : (w : List ℕ) (from n to : ℕ) → from + n ≤ length w → to + n ≤ length w → (to ≤ from) ⊎ (from + n ≤ to)
+    → slice to (to + n) (moveCells w from n to) ≡ slice from (from + n) w
+slice-moved w from n to h k d =
+    let l : length (take n (drop from w)) ≡ n = copied-length w from n w to h in
+    run-is-slice to n (moveCells w from n to)
+    ∙ rw l at (at-taken (move-at w from to (at-of-taken w from n (take n (drop from w)) refl) (omega arith) (rw l k) (rw l d)))
+    ∙ sym (run-is-slice from n w)
 
 -- ---- zeros
 

@@ -7,6 +7,7 @@ pub mod Results
 pub mod Forests
 pub mod RowLaws
 pub mod Stores
+pub mod Slices
 pub mod Posts
 pub mod CopyLaws
 pub mod SameCells

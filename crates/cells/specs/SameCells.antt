@@ -2,8 +2,7 @@
 use mathlib.Core.Path.{_≡_, refl, sym, ap, ap₂, _∙_}
 use mathlib.Core.Bool.{Bool, true, false, false≢true}
 use mathlib.Core.List.{List, [], _∷_, _++_}
-use Prim.Native.Nat.{ℕ, zero, suc, _+_, _≤_, _<_}
-use native.Mathlib.Nat.{zero-add}
+use Prim.Native.Nat.{ℕ, _+_, _≤_, _<_}
 use native.Mathlib.Numerals.{add-one}
 use native.Mathlib.Omega.{arith}
 use lib.Dec.{leb}
@@ -16,19 +15,8 @@ use Rattle.aut68.specs.Expr.{Expr, size, cells}
 use Rattle.cells.specs.Cells.{At, Wf, AnyVariable, sameRun, sameCells}
 use Rattle.cells.specs.Forests.{at-inside, size-is-length, cells-unique}
 use Rattle.cells.specs.Stores.{at-taken}
+use Rattle.cells.specs.Slices.{run-is-slice}
 use Rattle.cells.specs.CopyLaws.{and-false}
-
--- a run, cut off behind or taken from its start
-pub run-is-slice : (a n : ℕ) (s : List ℕ) → slice a (a + n) s ≡ take n (drop a s)
-run-is-slice zero n s = ap (λ (k : ℕ). take k s) (zero-add n)
-run-is-slice (suc a) n [] = ap (drop (suc a)) (take-nil (suc a + n)) ∙ sym (take-nil n)
-  where
-    take-nil : (k : ℕ) → _≡_ {A = List ℕ} (take k []) []
-    take-nil zero = refl
-    take-nil (suc k) = refl
-run-is-slice (suc a) n (x ∷ s) =
-    let e : suc a + n ≡ suc (a + n) = omega arith in
-    ap (λ (k : ℕ). drop (suc a) (take k (x ∷ s))) e ∙ run-is-slice a n s
 
 module _ (s : List ℕ) (a : ℕ) (f : List ℕ) (b n : ℕ) where
   pub same-whole : a + n ≤ length s → b + n ≤ length f → sameRun s a f b n ≡ sameBytes (take n (drop a s)) (take n (drop b f))

@@ -13,29 +13,14 @@ use Rattle.aut68.specs.Sizes.{cellFactor}
 use Rattle.aut68.specs.Rules.Names.{Member, here}
 use Rattle.lookup.specs.Lists.{member-left, member-right, member-snoc}
 use Rattle.cells.specs.Numbers.{namesLine, numbersIn, numbers-append}
-use Rattle.cells.specs.SameCells.{run-is-slice}
+use Rattle.cells.specs.Slices.{slice-snoc, slice-inside, slice-set}
 use Rattle.entries.specs.Collected.{slotCount, noLine, Collected, Spared, Emptied, Adds}
 
 -- ---- parts of a store
 
--- no cell, and one cell more
+-- no cell
 slice-none : (w : List ℕ) (a : ℕ) → slice a (a + 0) w ≡ []
 slice-none w a = ap (λ (m : ℕ). slice a m w) (add-zero a) ∙ slice-empty a w
-
-slice-more : (w : List ℕ) (a n : ℕ) → a + n < length w → slice a (a + (n + 1)) w ≡ slice a (a + n) w ++ (getD w (a + n) 0 ∷ [])
-slice-more w a n h =
-    let e : a + (n + 1) ≡ suc (a + n) = omega arith in
-    ap (λ (m : ℕ). slice a m w) e
-    ∙ ap (drop a) (take-suc w (a + n) 0 h)
-    ∙ drop-append-le a (take (a + n) w) (getD w (a + n) 0 ∷ []) (omega (arith, length-take-le (a + n) w (omega arith)))
-
--- a part of a part
-slice-in : (w : List ℕ) (end slots f n : ℕ) → end ≤ f → f + n ≤ slots → slice f (f + n) w ≡ take n (drop (f - end) (slice end slots w))
-slice-in w end slots f n h k =
-    let e : f ≡ end + (f - end) = omega arith in
-    ap (drop f) (sym (take-take (f + n) slots w k))
-    ∙ run-is-slice f n (take slots w)
-    ∙ ap (take n) (ap (λ (m : ℕ). drop m (take slots w)) e ∙ sym (drop-drop (f - end) end (take slots w)))
 
 -- ---- what is spared
 
@@ -65,7 +50,7 @@ module _ (w : List ℕ) (at end slots i x : ℕ) where
 pub spared-run : {w w′ : List ℕ} {at end slots : ℕ} (f n : ℕ) → end ≤ f → f + n ≤ slots → Spared w w′ at end slots
     → slice f (f + n) w′ ≡ slice f (f + n) w
 spared-run {w} {w′} {end = end} {slots} f n h k s =
-    slice-in w′ end slots f n h k ∙ ap (λ (l : List ℕ). take n (drop (f - end) l)) (s .between) ∙ sym (slice-in w end slots f n h k)
+    slice-inside w w′ end slots f (f + n) (s .between) h (omega arith) k
 
 spared-read : {w w′ : List ℕ} {at end slots : ℕ} (i : ℕ) → end ≤ i → i < slots → Spared w w′ at end slots → getD w′ i 0 ≡ getD w i 0
 spared-read {w} {w′} {end = end} {slots} i h k s =
@@ -148,11 +133,7 @@ module _ (w : List ℕ) (at n v slots : ℕ) where
       longer : slice at (at + (n + 1)) w₂ ≡ slice at (at + n) w ++ (v ∷ [])
       longer =
           let l₁ : at + n < length w₁ = omega (arith, length-set w (slots + v % slotCount) v) in
-          let l₂ : at + n < length w₂ = omega (arith, length-set w₁ (at + n) v) in
-          slice-more w₂ at n l₂
-          ∙ ap₂ (λ (l : List ℕ) (x : ℕ). drop at l ++ (x ∷ []))
-          (take-set-le (at + n) w₁ (at + n) v (omega arith) ∙ take-set-le (at + n) w (slots + v % slotCount) v (omega arith))
-          (getD-set-same w₁ (at + n) v 0 l₁)
+          slice-set at n v w₁ l₁ ∙ ap (λ (l : List ℕ). drop at l ++ (v ∷ [])) (take-set-le (at + n) w (slots + v % slotCount) v (omega arith))
 
       or-last : {xs ys : List ℕ} {u : ℕ} → (Member u xs → Member u ys) → Member u xs ⊎ (u ≡ v) → Member u (ys ++ (v ∷ []))
       or-last f (inl m) = member-left (v ∷ []) (f m)
@@ -194,7 +175,7 @@ module _ (w : List ℕ) (from i : ℕ) (inside : from + i < length w) where
   -- one cell more
   numbers-next : numbersIn (slice from (from + (i + 1)) w) ≡ numbersIn (slice from (from + i) w) ++ numbersIn (getD w (from + i) 0 ∷ [])
   numbers-next =
-      ap numbersIn (slice-more w from i inside) ∙ numbers-append (slice from (from + i) w) (getD w (from + i) 0 ∷ [])
+      ap numbersIn (slice-snoc from i w inside) ∙ numbers-append (slice from (from + i) w) (getD w (from + i) 0 ∷ [])
 
   module _ {w′ : List ℕ} {at n count slots : ℕ} (before : Adds w w′ at n slots (numbersIn (slice from (from + i) w)) count)
       (behind : at + count ≤ from + i) (below : from + i < slots) where

@@ -7,7 +7,7 @@ use native.Mathlib.Omega.{arith}
 use lib.ListN.{take, drop, set}
 use lib.Seq.{sets}
 use Rattle.cells.specs.CopyLaws.{copied}
-use Rattle.cells.specs.SameCells.{run-is-slice}
+use Rattle.cells.specs.Slices.{run-is-slice}
 use Rattle.entries.specs.Posts.{EntryPost}
 
 -- the end of the loop that copies behind the count

@@ -13,7 +13,7 @@ use Rattle.lookup.specs.Ascending.{ascending-same}
 use Rattle.cells.specs.Cells.{At}
 use Rattle.cells.specs.Layout.{namesAt, lineUnit, readerUnits}
 use Rattle.cells.specs.Numbers.{numbersIn, numbers-line}
-use Rattle.cells.specs.SameCells.{run-is-slice}
+use Rattle.cells.specs.Slices.{run-is-slice}
 use Rattle.cells.specs.Stores.{at-taken}
 use Rattle.sorting.specs.Posts.{SortPost}
 use Rattle.entries.specs.Collected.{Spared, Emptied, Adds}

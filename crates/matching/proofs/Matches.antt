@@ -14,7 +14,8 @@ use Rattle.aut68.specs.Expr.{Expr, Exprs, nil, cons, size, firstCell, parts, ce
 use Rattle.aut68.specs.Substitution.{instantiate, instantiates}
 use Rattle.cells.specs.Cells.{AllFormed, RightCount, At, sameRun}
 use Rattle.cells.specs.Forests.{cells-split, cells-long, cells-one, size-is-length, join, cells-join, formed-join, formed-parts, at-head, at-tail, at-one}
-use Rattle.cells.specs.SameCells.{run-is-slice, same-run-means}
+use Rattle.cells.specs.Slices.{run-is-slice}
+use Rattle.cells.specs.SameCells.{same-run-means}
 use Rattle.terms.specs.Made.{ArgumentsLie, InstancePost}
 use Rattle.terms.specs.Grafts.{instantiating, pastEnd, graft, grafts, Allowed, Fit, Fits, RunPost}
 use Rattle.terms.proofs.WalkLaws.{grafts-join, one-cells}

@@ -11,7 +11,8 @@ use lib.ListN.{length}
 use Rattle.aut68.specs.Sizes.{atKind}
 use Rattle.aut68.specs.Lines.{rowCell}
 use Rattle.aut68.specs.Rules.Names.{Member, here, there}
-use Rattle.aut68.specs.Rules.Following.{Ascends, none, one, more}
+use Rattle.aut68.specs.Rules.Following.{Ascends, none}
+use Rattle.lookup.specs.Ascending.{ascends-cons}
 use Rattle.lookup.specs.Lists.{member-cases, no-member}
 use Rattle.marks.specs.Marks.{marked}
 
@@ -89,12 +90,8 @@ module _ (tb w : List ℕ) where
   primitives-ascend v zero = none
   primitives-ascend v (suc n) = at (isMarkedPrimitive tb w (suc v)) refl (primitives-ascend (suc v) n)
     where
-      ascends-cons : {x : ℕ} (xs : List ℕ) → ((u : ℕ) → Member u xs → x < u) → Ascends xs → Ascends (x ∷ xs)
-      ascends-cons [] h a = one
-      ascends-cons (y ∷ xs) h a = more (h y here) a
-
       at : (t : Bool) → isMarkedPrimitive tb w (suc v) ≡ t → Ascends (markedPrimitives tb w (suc v) n) → Ascends (markedPrimitives tb w v (suc n))
-      at true e a = subst Ascends (sym (primitives-yes tb w v n e)) (ascends-cons _ (λ u m. primitive-within (suc v) n m .0) a)
+      at true e a = subst Ascends (sym (primitives-yes tb w v n e)) (ascends-cons (λ u m. primitive-within (suc v) n m .0) a)
       at false e a = subst Ascends (sym (primitives-no tb w v n e)) a
 
 -- they depend on the marks behind line v

@@ -11,7 +11,7 @@ use Rattle.aut68.specs.Index.{mentionedAsIndicator, mentionedBy}
 use Rattle.aut68.specs.Rules.Names.{IsLine}
 use Rattle.cells.specs.Cells.{At}
 use Rattle.cells.specs.Numbers.{numbersIn, numbers-line}
-use Rattle.cells.specs.SameCells.{run-is-slice}
+use Rattle.cells.specs.Slices.{run-is-slice}
 use Rattle.cells.specs.Rows.{Rows, Stored}
 use Rattle.reaching.specs.Adding.{AddsMarks, adds-append}
 

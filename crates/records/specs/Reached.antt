@@ -24,6 +24,7 @@ use Rattle.aut68.specs.Rules.Names.{IsLine, Context, noContext, within}
 use Rattle.aut68.specs.Rules.Derivation.{Derived, noMore, line}
 use Rattle.lookup.specs.LineNumbers.{no-line, line-within, line-snoc}
 use Rattle.lookup.specs.DerivedBooks.{derived-snoc}
+use Rattle.cells.specs.Slices.{run-is-slice}
 use Rattle.verdicts.specs.LineVerdicts.{passed-derivation}
 use Rattle.records.specs.Tables.{Spelled, noneSpelled, spelled-long, spelled-snoc, Holds, table-long, table-snoc, terms-snoc, over-more}
 use Rattle.records.specs.ReadLines.{LineRead}
@@ -77,21 +78,10 @@ module _ (ls : Lines) (m : Limits) (l : Line) where
 
 -- ---- parts of the book
 
-pub take-drop : (m n : ℕ) (l : List ℕ) → take m (drop n l) ≡ drop n (take (n + m) l)
-take-drop m zero l = ap (λ (k : ℕ). take k l) (zero-plus m)
-  where
-    zero-plus : (m : ℕ) → m ≡ 0 + m
-    zero-plus m = omega arith
-take-drop m (suc n) [] = take-nil m ∙ sym (ap (drop (suc n)) (take-nil (suc n + m)))
-take-drop m (suc n) (x ∷ l) = take-drop m n l ∙ sym (ap (λ (k : ℕ). drop (suc n) (take k (x ∷ l))) (suc-plus n m))
-  where
-    suc-plus : (n m : ℕ) → suc n + m ≡ suc (n + m)
-    suc-plus n m = omega arith
-
 -- a part of a part
 slice-slice : (a e : ℕ) (l : List ℕ) (b n : ℕ) → a + (b + n) ≤ e → slice b (b + n) (slice a e l) ≡ slice (a + b) (a + b + n) l
 slice-slice a e l b n h =
-    ap (drop b) (take-drop (b + n) a (take e l) ∙ ap (drop a) (take-take (a + (b + n)) e l h))
+    ap (drop b) (sym (run-is-slice a (b + n) (take e l)) ∙ ap (drop a) (take-take (a + (b + n)) e l h))
     ∙ drop-drop b a (take (a + (b + n)) l)
     ∙ ap (λ (k : ℕ). drop (a + b) (take k l)) (sym (add-assoc a b n))
 
@@ -99,7 +89,7 @@ slice-slice a e l b n h =
 pub slice-is : (at next : ℕ) (book : Bytes) → at ≤ next → take (next - at) (drop at book) ≡ slice at next book
 slice-is at next book h =
     let e : at + (next - at) ≡ next = omega arith in
-    take-drop (next - at) at book ∙ ap (λ (k : ℕ). drop at (take k book)) e
+    sym (run-is-slice at (next - at) book) ∙ ap (λ (k : ℕ). drop at (take k book)) e
 
 -- ---- progress
 

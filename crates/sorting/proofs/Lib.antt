@@ -1,4 +1,3 @@
-mod SliceLaws
 mod RunLaws
 mod LeastLaws
 mod InsertLaws

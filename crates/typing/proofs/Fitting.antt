@@ -21,7 +21,7 @@ use Rattle.cells.specs.Cells.{At, AnyVariable, Outside}
 use Rattle.cells.specs.Layout.{levels, unitAt, levelUnit, unit-below}
 use Rattle.cells.specs.Forests.{size-is-length, cells-unique}
 use Rattle.cells.specs.Results.{passed, then-refused, then-passed}
-use Rattle.cells.specs.SameCells.{run-is-slice}
+use Rattle.cells.specs.Slices.{run-is-slice}
 use Rattle.cells.specs.Stores.{outside-same, at-taken}
 use Rattle.terms.specs.Made.{Made, InstantiatePost, InstancePost}
 use Rattle.terms.specs.MadeLaws.{made-large}

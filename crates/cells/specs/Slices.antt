@@ -2,16 +2,23 @@
 use mathlib.Core.Path.{_≡_, refl, sym, ap, ap₂, _∙_}
 use mathlib.Core.Logic.{_⊎_, inl, inr, ⊎-elim}
 use mathlib.Core.List.{List, [], _∷_, _++_, append-assoc}
-use Prim.Native.Nat.{ℕ, suc, _+_, _-_, _≤_, _<_, min}
+use Prim.Native.Nat.{ℕ, zero, suc, _+_, _-_, _≤_, _<_, min}
+use native.Mathlib.Nat.{zero-add}
 use native.Mathlib.Omega.{arith}
 use lib.ListN.{length, getD, take, drop, set, length-take, length-drop, length-set, take-append-drop}
-use lib.Seq.{slice, slice-cons, slice-empty, ext-getD, getD-take, getD-drop, take-take, drop-drop, drop-append-le, getD-set-same}
-use Rattle.cells.specs.Cells.{Outside, moveCells}
-use Rattle.cells.specs.SameCells.{run-is-slice}
-use Rattle.cells.specs.Stores.{outside-sets, at-taken, at-of-taken}
-use Rattle.cells.specs.CopyLaws.{copied-length, move-at}
+use lib.Seq.{slice, slice-cons, slice-empty, ext-getD, getD-take, getD-drop, take-take, take-nil, drop-drop, drop-append-le, getD-set-same}
+use Rattle.cells.specs.Cells.{Outside}
+use Rattle.cells.specs.Stores.{outside-sets}
 
 -- ---- parts of one store
+
+-- a part, cut off behind or taken from its start
+pub run-is-slice : (a n : ℕ) (s : List ℕ) → slice a (a + n) s ≡ take n (drop a s)
+run-is-slice zero n s = ap (λ (k : ℕ). take k s) (zero-add n)
+run-is-slice (suc a) n [] = ap (drop (suc a)) (take-nil (suc a + n)) ∙ sym (take-nil n)
+run-is-slice (suc a) n (x ∷ s) =
+    let e : suc a + n ≡ suc (a + n) = omega arith in
+    ap (λ (k : ℕ). drop (suc a) (take k (x ∷ s))) e ∙ run-is-slice a n s
 
 pub slice-append : (a b c : ℕ) (w : List ℕ) → a ≤ b → b ≤ c → c ≤ length w → slice a b w ++ slice b c w ≡ slice a c w
 slice-append a b c w h k l =
@@ -69,12 +76,3 @@ slice-set a k x w l =
 
 pub slice-put : (a k x : ℕ) (w l : List ℕ) → a + k < length w → slice a (a + k) w ++ (x ∷ l) ≡ slice a (a + (k + 1)) (set w (a + k) x) ++ l
 slice-put a k x w l h = sym (append-assoc (slice a (a + k) w) (x ∷ []) l) ∙ ap (λ (p : List ℕ). p ++ l) (sym (slice-set a k x w h))
-
--- a run of cells moved elsewhere
-pub slice-moved : (w : List ℕ) (from n to : ℕ) → from + n ≤ length w → to + n ≤ length w → (to ≤ from) ⊎ (from + n ≤ to)
-    → slice to (to + n) (moveCells w from n to) ≡ slice from (from + n) w
-slice-moved w from n to h k d =
-    let l : length (take n (drop from w)) ≡ n = copied-length w from n w to h in
-    run-is-slice to n (moveCells w from n to)
-    ∙ rw l at (at-taken (move-at w from to (at-of-taken w from n (take n (drop from w)) refl) (omega arith) (rw l k) (rw l d)))
-    ∙ sym (run-is-slice from n w)
