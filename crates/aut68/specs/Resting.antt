@@ -5,7 +5,7 @@ use Prim.Native.Nat.{ℕ, _≤_, _<_}
 use mathlib.Core.List.{List, [], map}
 use lib.ListN.{length}
 use Rattle.aut68.specs.Language.{Language}
-use Rattle.aut68.specs.Stores.{Stores, limitsOf}
+use Rattle.aut68.specs.Stores.{Stores, Limits, limitsOf, Larger}
 use Rattle.aut68.specs.Bytes.{Bytes, lines, joined}
 use Rattle.aut68.specs.Lines.{Line, Lines}
 use Rattle.aut68.specs.Index.{namesOf}
@@ -15,7 +15,7 @@ use Rattle.aut68.specs.Procedure.Run.{Ending, run, codeAt, lineAt, steps
 use Rattle.aut68.specs.Rules.Names.{IsLine, Member}
 use Rattle.aut68.specs.Rules.Derivation.{Derived, Correct}
 use Rattle.aut68.specs.Rules.Following.{NamesLine, Reaches, Ascends, RestsOn, Deleted}
-use Rattle.aut68.specs.Demands.{Checks}
+use Rattle.aut68.specs.Demands.{Verdict, Checks}
 
 -- ---- the index
 
@@ -69,7 +69,10 @@ pub record TellsRests (language : Language) (book : Bytes) (N L : ℕ) (s : Stor
   -- Shut out: a program that leaves the line itself out; one that writes a list before it is known to fit.
   pub told : let e = run language book (limitsOf N L s) in
       codeAt e ≡ 0 → (line ≡ 0) × (steps ≡ 0) × Told (recordedAt e .recorded) v old code count new
-  -- "To be shown: deleting all lines not reached leaves a book that the rules find correct." Shut out: a notion of naming that forgets
-  -- the indicator; one that forgets what is put in.
+  -- "To be shown: deleting all lines not reached leaves a book that the rules find correct." Shut out, since `told` speaks of the same
+  -- lines: a program that forgets a line's indicator; one that forgets what is put in.
   pub deleting : let e = run language book (limitsOf N L s) in
       codeAt e ≡ 0 → 1 ≤ v → v ≤ length (recordedAt e .recorded) → Remains language (lines book) (recordedAt e .recorded) v
+  -- "a verdict is kept under larger budgets and size limits given the same index too": the admission ends alike, so the call tells of the
+  -- same lines. Shut out: a program that admits more lines where it has more budget; one that records them otherwise.
+  pub limits : let e = run language book (limitsOf N L s) in (m′ : Limits) → Larger (limitsOf N L s) m′ → Verdict e → run language book m′ ≡ e

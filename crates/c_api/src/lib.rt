@@ -62,12 +62,12 @@ pub extern "C" fn aut68_rests_on(
     ensures { λ r. ⌜ TellsRests aut68 (now (book .entry)) budget limit (stores (now (table .entry)) (now (terms .entry)) (now (work .entry)) (now (index .entry))) line (now (answer .entry)) (r .code) (r .line) (r .steps) (r .length) (stores (now (table .exit)) (now (terms .exit)) (now (work .exit)) (now (index .exit))) (now (answer .exit)) ⌝ }
 {
     let a = verifier::rests_on(book, budget, limit, table, terms, work, index, line, answer);
-    let n = verifier::answer_numbers(a);
+    let told = verifier::answer_numbers(a);
     Aut68Answer {
-        code: n.code,
-        line: n.line,
-        steps: n.steps,
-        length: n.length,
+        code: told.code,
+        line: told.line,
+        steps: told.steps,
+        length: told.length,
     }
 }
 

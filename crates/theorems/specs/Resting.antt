@@ -15,6 +15,7 @@ use Rattle.aut68.specs.Rules.Derivation.{Derived}
 use Rattle.aut68.specs.Demands.{Accepted, Soundness, Recording, Determined, Checks}
 use Rattle.aut68.specs.Resting.{Entries, Deletion, Told, TellsRests}
 use Rattle.lookup.specs.Ascending.{ascending-ascends, ascending-member}
+use Rattle.orders.specs.Limits.{same-ending}
 use Rattle.orders.specs.Deleting.{deletion}
 use Rattle.theorems.specs.Demands.{accepted-is-correct, recorded-are-meanings}
 use Rattle.theorems.specs.Checks.{accepted-line, checks}
@@ -54,6 +55,7 @@ module _ (language : Language) (book : Bytes) (N L : ℕ) (s : Stores) where
           refused = λ _. (e ∙ d .codeIs, f ∙ d .lineIs, g ∙ d .stepsAre, z, refl);
           told = λ a. absurd (r (d .codeIs ∙ a));
           deleting = λ a _ _. absurd (r (d .codeIs ∙ a));
+          limits = same-ending language book (limitsOf N L s);
         }
 
     -- the lines of an accepted book tell what line v rests on
@@ -65,4 +67,5 @@ module _ (language : Language) (book : Bytes) (N L : ℕ) (s : Stores) where
           refused = λ r. absurd (r (sym (d .codeIs) ∙ a));
           told = λ _. (refl, refl, t);
           deleting = λ z from to. unreached-lines-deleted language (lines book) (recordedAt ending .recorded) v (accepted-lines z .1) from to;
+          limits = same-ending language book (limitsOf N L s);
         }
