@@ -56,7 +56,7 @@ struct Turns {
     runs: usize,
 }
 
-fn by_turns(stores: &mut Stores, mut first: impl FnMut(&mut Stores), mut second: impl FnMut(&mut Stores)) -> Turns {
+fn by_turns<R, Q>(stores: &mut Stores, mut first: impl FnMut(&mut Stores) -> R, mut second: impl FnMut(&mut Stores) -> Q) -> Turns {
     let mut times = Vec::new();
     let start = Instant::now();
     while times.len() < MOST_RUNS && start.elapsed() < TIME_FOR_BOOK {
@@ -162,8 +162,8 @@ fn measure(kind: Kind, lines: usize) -> Option<Checked> {
     }
     let turns = by_turns(
         &mut ours,
-        |s| drop(verified::check(&book, u32::MAX, limit, s)),
-        |s| drop(baseline::check(&book, u32::MAX, limit, s)),
+        |s| verified::check(&book, u32::MAX, limit, s),
+        |s| baseline::check(&book, u32::MAX, limit, s),
     );
     Some(Checked { bytes: book.len(), outcome, turns })
 }
@@ -186,8 +186,8 @@ fn measure_rests_on(kind: Kind, lines: usize) -> Option<Resting> {
     let indexed = ours.indexed(lines);
     let turns = by_turns(
         &mut ours,
-        |s| drop(verified::rests_on(&book, u32::MAX, limit, s, last, &mut answer)),
-        |s| drop(verified::check(&book, u32::MAX, limit, s)),
+        |s| verified::rests_on(&book, u32::MAX, limit, s, last, &mut answer),
+        |s| verified::check(&book, u32::MAX, limit, s),
     );
     Some(Resting { length: given.length, indexed, turns })
 }
