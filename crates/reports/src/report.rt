@@ -8,6 +8,7 @@ use constants::ROW_WIDTH;
 use constants::WORK_UNITS;
 use libc::STDOUT_FILENO;
 use names::identifier;
+use outcomes::AnswerNumbers;
 use outcomes::Numbers;
 
 // A number in decimal and the byte c.
@@ -93,17 +94,55 @@ pub fn other_names(book: &[u8], table: &[u32], n: u32) {
     say(identifier(book, table, 4294967295).len() as u64, 10);
 }
 
-// How many cells from index `from` on are not 7.
-fn changed_rows(table: &[u32], from: usize) -> u64 {
+// The cells of 32 bits from index `from` on, below `to`, each behind a space.
+fn wide_cells(s: &[u32], from: usize, to: usize) {
+    let mut i = from;
+    while i < to {
+        if i >= s.len() {
+            return;
+        }
+        spaced(s[i] as u64);
+        i = i + 1;
+    }
+}
+
+// How many cells of 32 bits from index `from` on are not 7.
+fn changed(s: &[u32], from: usize) -> u64 {
     let mut n = 0;
     let mut i = from;
-    while i < table.len() {
-        if table[i] != 7 {
+    while i < s.len() {
+        if s[i] != 7 {
             n = n + 1;
         }
         i = i + 1;
     }
     n
+}
+
+// Where the entries of the first n lines end in the index; its length, if they do not end in it.
+fn entries_end(index: &[u32], n: u32) -> usize {
+    let mut at: usize = 0;
+    let mut v = 0;
+    while v < n {
+        if at >= index.len() {
+            return index.len();
+        }
+        let names = index[at] as usize;
+        if names >= index.len() - at {
+            return index.len();
+        }
+        at = at + names + 1;
+        v = v + 1;
+    }
+    at
+}
+
+// The index: the entries of the first `shown` lines, and how many cells changed behind those of the n recorded ones.
+pub fn entries(index: &[u32], n: u32, shown: u32) {
+    io::write_all(STDOUT_FILENO, b"index");
+    wide_cells(index, 0, entries_end(index, shown));
+    io::write_all(STDOUT_FILENO, b" : ");
+    say(changed(index, entries_end(index, n)), 10);
 }
 
 // How many cells from index `from` on, below `to`, are not x.
@@ -128,7 +167,7 @@ pub fn other_cells(table: &[u32], terms: &[Cell], work: &[Cell], n: u32, limit: 
     let lines = n as usize;
     let room = WORK_UNITS * (limit as usize);
     io::write_all(STDOUT_FILENO, b"cells ");
-    say(changed_rows(table, ROW_WIDTH * lines), b' ');
+    say(changed(table, ROW_WIDTH * lines), b' ');
     say(
         others(terms, field(table, lines, CATEGORY_END), terms.len(), 7),
         b' ',
@@ -136,4 +175,59 @@ pub fn other_cells(table: &[u32], terms: &[Cell], work: &[Cell], n: u32, limit: 
     say(others(work, 0, room, 0), b' ');
     say(others(work, room, work.len(), 7), b' ');
     say(others(work, 0, work.len(), 7), 10);
+}
+
+// What a line rests on: code, line, steps, length; the cells of the answer; how many cells changed behind them.
+pub fn answer(r: AnswerNumbers, cells: &[u32]) {
+    let length = r.length as usize;
+    io::write_all(STDOUT_FILENO, b"rests ");
+    say(r.code as u64, b' ');
+    say(r.line as u64, b' ');
+    say(r.steps as u64, b' ');
+    say(r.length as u64, b' ');
+    io::write_all(STDOUT_FILENO, b":");
+    wide_cells(cells, 0, length);
+    io::write_all(STDOUT_FILENO, b" : ");
+    say(changed(cells, length), 10);
+}
+
+// In how many cells of 32 bits the two differ.
+pub fn wide_differences(a: &[u32], b: &[u32]) -> u64 {
+    let mut n = 0;
+    let mut i = 0;
+    while i < a.len() {
+        if i >= b.len() {
+            return n;
+        }
+        if a[i] != b[i] {
+            n = n + 1;
+        }
+        i = i + 1;
+    }
+    n
+}
+
+// In how many cells the two differ.
+pub fn differences(a: &[Cell], b: &[Cell]) -> u64 {
+    let mut n = 0;
+    let mut i = 0;
+    while i < a.len() {
+        if i >= b.len() {
+            return n;
+        }
+        if a[i] != b[i] {
+            n = n + 1;
+        }
+        i = i + 1;
+    }
+    n
+}
+
+// In how many cells table, term store, working store and index are not as the check left them.
+pub fn unlike(table: u64, terms: u64, work: u64, index: u64) {
+    io::write_all(STDOUT_FILENO, b"unlike ");
+    say(table, b' ');
+    say(terms, b' ');
+    say(work, b' ');
+    say(index, 10);
 }
