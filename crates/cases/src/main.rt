@@ -1,7 +1,7 @@
 // The test program. The first arguments name books, which it lists. Each other argument names a file with one case: a header line of
 // seven numbers, or nine, then the book. For each case it writes the outcome, what is recorded, and what became of every other cell;
-// where the header has nine numbers, also what a line rests on, by a call on stores of its own, and how many of their cells are not as
-// the check left them. All stores hold 7 in each cell beforehand.
+// where the header has nine numbers, then the same of a call that asks what a line rests on. All stores hold 7 in each cell before
+// each call.
 use constants::Cell;
 use constants::LARGEST_LIMIT;
 use constants::LINE_LIMIT;
@@ -31,6 +31,23 @@ const INDEX: usize = 16385;
 
 const ANSWER: usize = 64;
 
+// Reports what is recorded of n lines, and what became of every other cell.
+fn report_stores(
+    h: Header,
+    n: u32,
+    book: &[u8],
+    table: &[u32],
+    terms: &[Cell],
+    work: &[Cell],
+    index: &[u32],
+) {
+    let shown = report::least(n, h.shown);
+    report::rows(book, table, terms, shown);
+    report::entries(index, n, shown);
+    report::other_names(book, table, n);
+    report::other_cells(table, terms, work, n, h.limit);
+}
+
 // Checks the book and reports.
 fn check(
     h: Header,
@@ -42,16 +59,11 @@ fn check(
 ) {
     let o = verifier::check_book(book, h.budget, h.limit, table, terms, work, index);
     let r = verifier::numbers_of(o);
-    let n = recorded(r);
-    let shown = report::least(n, h.shown);
     report::outcome(r);
-    report::rows(book, table, terms, shown);
-    report::entries(index, n, shown);
-    report::other_names(book, table, n);
-    report::other_cells(table, terms, work, n, h.limit);
+    report_stores(h, recorded(r), book, table, terms, work, index);
 }
 
-// Asks what the line rests on, and reports.
+// Asks what a line rests on, and reports.
 fn ask(
     h: Header,
     book: &[u8],
@@ -72,12 +84,14 @@ fn ask(
         h.line,
         answer,
     );
-    report::answer(verifier::answer_numbers(a), answer);
+    let r = verifier::answer_numbers(a);
+    report::answer(r, answer);
+    report_stores(h, report::admitted(r, book), book, table, terms, work, index);
 }
 
-// The check, or the question of a case.
+// One of the two calls.
 fn call(
-    is_check: bool,
+    asks: bool,
     h: Header,
     book: &[u8],
     table: &mut [u32],
@@ -86,16 +100,16 @@ fn call(
     index: &mut [u32],
     answer: &mut [u32],
 ) {
-    if is_check {
-        check(h, book, table, terms, work, index);
-    } else {
+    if asks {
         ask(h, book, table, terms, work, index, answer);
+    } else {
+        check(h, book, table, terms, work, index);
     }
 }
 
-// The same with the first cells of these stores, as many as the header gives.
+// One of the two calls of a case, with the first cells of these stores, as many as its header gives.
 fn case_of(
-    is_check: bool,
+    asks: bool,
     text: &[u8],
     table: &mut [u32],
     terms: &mut [Cell],
@@ -129,7 +143,7 @@ fn case_of(
         return;
     }
     call(
-        is_check,
+        asks,
         h,
         &text[start..],
         &mut table[..rows],
@@ -140,51 +154,32 @@ fn case_of(
     );
 }
 
-// The question of a case, with stores of its own, and in how many cells they are not as the check left these.
-fn question(text: &[u8], table: &[u32], terms: &[Cell], work: &[Cell], index: &[u32]) {
-    let mut own_table = [7u32; TABLE];
-    let mut own_terms: [Cell; TERMS] = [7; TERMS];
-    let mut own_work: [Cell; WORK] = [7; WORK];
-    let mut own_index = [7u32; INDEX];
-    let mut answer = [7u32; ANSWER];
-    case_of(
-        false,
-        text,
-        &mut own_table,
-        &mut own_terms,
-        &mut own_work,
-        &mut own_index,
-        &mut answer,
-    );
-    report::unlike(
-        report::wide_differences(table, &own_table),
-        report::differences(terms, &own_terms),
-        report::differences(work, &own_work),
-        report::wide_differences(index, &own_index),
-    );
-}
-
-// The case in an open file.
-fn run(fd: i32) {
-    let mut text = [0u8; TEXT];
-    let n = io::read_full(fd, &mut text);
+// The case in these bytes.
+fn run(asks: bool, text: &[u8]) {
     let mut table = [7u32; TABLE];
     let mut terms: [Cell; TERMS] = [7; TERMS];
     let mut work: [Cell; WORK] = [7; WORK];
     let mut index = [7u32; INDEX];
     let mut answer = [7u32; ANSWER];
     case_of(
-        true,
-        &text[..n],
+        asks,
+        text,
         &mut table,
         &mut terms,
         &mut work,
         &mut index,
         &mut answer,
     );
+}
+
+// The case in an open file.
+fn case_in(fd: i32) {
+    let mut text = [0u8; TEXT];
+    let n = io::read_full(fd, &mut text);
+    run(false, &text[..n]);
     let h = header::read(&text[..n]);
     if h.asks {
-        question(&text[..n], &table, &terms, &work, &index);
+        run(true, &text[..n]);
     }
 }
 
@@ -200,7 +195,7 @@ fn argument(i: usize) {
         return;
     }
     if i > LISTED {
-        run(fd);
+        case_in(fd);
     } else {
         listing::list_book(fd, STDOUT_FILENO);
     }

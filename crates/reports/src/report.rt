@@ -3,8 +3,10 @@ use cells::field;
 use constants::CATEGORY_END;
 use constants::CATEGORY_START;
 use constants::Cell;
+use constants::LIMIT_OUT_OF_RANGE;
 use constants::MIDDLE_START;
 use constants::ROW_WIDTH;
+use constants::WORK_TOO_SMALL;
 use constants::WORK_UNITS;
 use libc::STDOUT_FILENO;
 use names::identifier;
@@ -24,6 +26,10 @@ fn spaced(x: u64) {
 }
 
 fn cell(x: Cell) {
+    spaced(x as u64);
+}
+
+fn wide_cell(x: u32) {
     spaced(x as u64);
 }
 
@@ -101,7 +107,7 @@ fn wide_cells(s: &[u32], from: usize, to: usize) {
         if i >= s.len() {
             return;
         }
-        spaced(s[i] as u64);
+        wide_cell(s[i]);
         i = i + 1;
     }
 }
@@ -119,6 +125,10 @@ fn changed(s: &[u32], from: usize) -> u64 {
     n
 }
 
+fn count(x: u32) -> usize {
+    x as usize
+}
+
 // Where the entries of the first n lines end in the index; its length, if they do not end in it.
 fn entries_end(index: &[u32], n: u32) -> usize {
     let mut at: usize = 0;
@@ -127,7 +137,7 @@ fn entries_end(index: &[u32], n: u32) -> usize {
         if at >= index.len() {
             return index.len();
         }
-        let names = index[at] as usize;
+        let names = count(index[at]);
         if names >= index.len() - at {
             return index.len();
         }
@@ -191,43 +201,32 @@ pub fn answer(r: AnswerNumbers, cells: &[u32]) {
     say(changed(cells, length), 10);
 }
 
-// In how many cells of 32 bits the two differ.
-pub fn wide_differences(a: &[u32], b: &[u32]) -> u64 {
+// How many bytes of the book are 10; 2^32 - 1 if there are more.
+fn ends(book: &[u8]) -> u32 {
     let mut n = 0;
     let mut i = 0;
-    while i < a.len() {
-        if i >= b.len() {
-            return n;
-        }
-        if a[i] != b[i] {
-            n = n + 1;
+    while i < book.len() {
+        if book[i] == 10 {
+            if n < 4294967295 {
+                n = n + 1;
+            }
         }
         i = i + 1;
     }
     n
 }
 
-// In how many cells the two differ.
-pub fn differences(a: &[Cell], b: &[Cell]) -> u64 {
-    let mut n = 0;
-    let mut i = 0;
-    while i < a.len() {
-        if i >= b.len() {
-            return n;
-        }
-        if a[i] != b[i] {
-            n = n + 1;
-        }
-        i = i + 1;
+// How many lines of the book are recorded when a call ends so: those before the refused one; none of a book that was refused ahead of
+// its lines; else all.
+pub fn admitted(r: AnswerNumbers, book: &[u8]) -> u32 {
+    if r.line > 0 {
+        return r.line - 1;
     }
-    n
-}
-
-// In how many cells table, term store, working store and index are not as the check left them.
-pub fn unlike(table: u64, terms: u64, work: u64, index: u64) {
-    io::write_all(STDOUT_FILENO, b"unlike ");
-    say(table, b' ');
-    say(terms, b' ');
-    say(work, b' ');
-    say(index, 10);
+    if r.code == WORK_TOO_SMALL {
+        return 0;
+    }
+    if r.code == LIMIT_OUT_OF_RANGE {
+        return 0;
+    }
+    ends(book)
 }
