@@ -20,7 +20,7 @@ const TIME_TO_PROFILE: Duration = Duration::from_secs(2);
 
 pub type Check = fn(&[u8], u32, u32, &mut Stores) -> Outcome;
 
-/// Stores in which a book of this many bytes fits.
+/// Stores in which a book of this many bytes fits; what the index does not need is cut off before a time is taken.
 fn stores(bytes: usize, limit: u32) -> Stores {
     Stores {
         table: vec![0; ROW_WIDTH * MOST_LINES], terms: vec![0; bytes], work: vec![0; WORK_UNITS * limit as usize],
@@ -160,6 +160,7 @@ fn measure(kind: Kind, lines: usize) -> Option<Checked> {
         println!("{}, {lines} lines: {outcome:?} verified, {other:?} baseline, stores alike: {}", kind.title(), ours == theirs);
         return None;
     }
+    ours.index.truncate(ours.indexed(lines));
     let turns = by_turns(
         &mut ours,
         |s| verified::check(&book, u32::MAX, limit, s),
@@ -184,6 +185,7 @@ fn measure_rests_on(kind: Kind, lines: usize) -> Option<Resting> {
         return None;
     }
     let indexed = ours.indexed(lines);
+    ours.index.truncate(indexed);
     let turns = by_turns(
         &mut ours,
         |s| verified::rests_on(&book, u32::MAX, limit, s, last, &mut answer),
