@@ -9,7 +9,7 @@
 #include <stdio.h>
 #include <stdlib.h>
 
-enum { BUDGET = 100000, LIMIT = 256, LINES = 8191, TERMS = 1 << 20 };
+enum { BUDGET = 100000, LIMIT = 256, LINES = 8191, TERMS = 1 << 20, INDEX = 1 << 20 };
 enum { TABLE = AUT68_ROW_WIDTH * LINES, WORK = AUT68_WORK_UNITS * LIMIT };
 
 static const char *const MEANINGS[] = {
@@ -25,7 +25,7 @@ static const char *const MEANINGS[] = {
     [AUT68_MISMATCH] = "categories differ",
     [AUT68_TOO_LARGE] = "larger than the limit",
     [AUT68_OUT_OF_BUDGET] = "budget spent",
-    [AUT68_OUT_OF_SPACE] = "table or shelf full",
+    [AUT68_OUT_OF_SPACE] = "table, shelf or index full",
 };
 
 /* All of standard input, its length in *length; no memory: NULL. */
@@ -59,12 +59,13 @@ int main(void)
     uint32_t *table = calloc(TABLE, sizeof *table);
     Aut68Cell *terms = calloc(TERMS, sizeof *terms);
     Aut68Cell *work = calloc(WORK, sizeof *work);
-    if (book == NULL || table == NULL || terms == NULL || work == NULL) {
+    uint32_t *index = calloc(INDEX, sizeof *index);
+    if (book == NULL || table == NULL || terms == NULL || work == NULL || index == NULL) {
         fputs("no memory\n", stderr);
         return 2;
     }
 
-    Aut68Outcome o = aut68_check(book, length, BUDGET, LIMIT, table, TABLE, terms, TERMS, work, WORK);
+    Aut68Outcome o = aut68_check(book, length, BUDGET, LIMIT, table, TABLE, terms, TERMS, work, WORK, index, INDEX);
 
     uint32_t recorded = o.code == AUT68_ACCEPTED ? o.line : o.line == 0 ? 0 : o.line - 1;
     for (uint32_t v = 0; v < recorded; v++) {
@@ -78,6 +79,7 @@ int main(void)
     }
     printf("%u %u %llu: %s\n", o.code, o.line, (unsigned long long)o.steps, MEANINGS[o.code]);
 
+    free(index);
     free(work);
     free(terms);
     free(table);

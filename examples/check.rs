@@ -38,17 +38,21 @@ mod aut68 {
             table: *mut u32, table_length: usize,
             terms: *mut Cell, terms_length: usize,
             work: *mut Cell, work_length: usize,
+            index: *mut u32, index_length: usize,
         ) -> Outcome;
         fn aut68_identifier(book: *const u8, book_length: usize, table: *const u32, table_length: usize, line: u32) -> Part;
     }
 
     /// Checks a book. Every argument is permitted: the function requires nothing.
-    pub fn check(book: &[u8], budget: u32, limit: u32, table: &mut [u32], terms: &mut [Cell], work: &mut [Cell]) -> Outcome {
+    pub fn check(
+        book: &[u8], budget: u32, limit: u32, table: &mut [u32], terms: &mut [Cell], work: &mut [Cell], index: &mut [u32],
+    ) -> Outcome {
         // Sound: each pointer is valid for its length, and `&mut` slices do not overlap.
         unsafe {
             aut68_check(
                 book.as_ptr(), book.len(), budget, limit,
                 table.as_mut_ptr(), table.len(), terms.as_mut_ptr(), terms.len(), work.as_mut_ptr(), work.len(),
+                index.as_mut_ptr(), index.len(),
             )
         }
     }
@@ -73,6 +77,7 @@ const BUDGET: u32 = 100_000;
 const LIMIT: usize = 256;
 const LINES: usize = 8_191;
 const TERMS: usize = 1 << 20;
+const INDEX: usize = 1 << 20;
 
 fn main() -> ExitCode {
     let mut book = Vec::new();
@@ -83,8 +88,9 @@ fn main() -> ExitCode {
     let mut table = vec![0; aut68::ROW_WIDTH * LINES];
     let mut terms = vec![0; TERMS];
     let mut work = vec![0; aut68::WORK_UNITS * LIMIT];
+    let mut index = vec![0; INDEX];
 
-    let o = aut68::check(&book, BUDGET, LIMIT as u32, &mut table, &mut terms, &mut work);
+    let o = aut68::check(&book, BUDGET, LIMIT as u32, &mut table, &mut terms, &mut work, &mut index);
 
     for (i, row) in table.chunks(aut68::ROW_WIDTH).take(o.recorded()).enumerate() {
         let [_start, _length, _indicator, variables, kind, middle, category, end] = row.try_into().expect("a whole row");

@@ -7,19 +7,23 @@
 mod category;
 mod cells;
 mod comparison;
+mod dependencies;
 mod lines;
 mod names;
 mod reader;
 mod source;
 
-use crate::sizes::{Cell, LARGEST_LIMIT, MOST_BYTES, MOST_LINES, ROW_WIDTH, SMALLEST_LIMIT, WORK_UNITS};
-use crate::Outcome;
+use crate::sizes::{LARGEST_LIMIT, MOST_BYTES, MOST_LINES, ROW_WIDTH, SMALLEST_LIMIT, WORK_UNITS};
+use crate::stores::Stores;
+use crate::{Answer, Outcome};
 use category::Checker;
+use dependencies::Dependencies;
+pub use dependencies::primitives;
 use lines::Lines;
 use names::Names;
 use reader::Reader;
 
-/// Why a book is refused; the numbers are the specification's codes.
+/// Why a book or a call is refused; the numbers are the specification's codes.
 #[derive(Clone, Copy, Debug, PartialEq, Eq)]
 #[repr(u8)]
 pub enum Refusal {
@@ -35,6 +39,7 @@ pub enum Refusal {
     TooLarge = 10,
     OutOfBudget = 11,
     OutOfSpace = 12,
+    NoSuchLine = 13,
 }
 
 /// What was done for arguments left out, for the counts of the differential run.
@@ -49,28 +54,26 @@ pub struct Notes {
     pub ahead_of_size: bool,
 }
 
-pub fn check(book: &[u8], budget: u32, limit: u32, table: &mut [u32], terms: &mut [Cell], work: &mut [Cell]) -> Outcome {
-    check_noting(book, budget, limit, table, terms, work, &mut Notes::default())
+pub fn check(book: &[u8], budget: u32, limit: u32, stores: &mut Stores) -> Outcome {
+    check_noting(book, budget, limit, stores, &mut Notes::default())
 }
 
-pub fn check_noting(
-    book: &[u8], budget: u32, limit: u32, table: &mut [u32], terms: &mut [Cell], work: &mut [Cell], notes: &mut Notes,
-) -> Outcome {
+pub fn check_noting(book: &[u8], budget: u32, limit: u32, stores: &mut Stores, notes: &mut Notes) -> Outcome {
     let early = |refusal: Refusal| Outcome { code: refusal as u32, line: 0, steps: 0 };
     if !(SMALLEST_LIMIT..=LARGEST_LIMIT).contains(&limit) {
         return early(Refusal::LimitOutOfRange);
     }
     let limit = limit as usize;
-    if work.len() < WORK_UNITS * limit {
+    if stores.work.len() < WORK_UNITS * limit {
         return early(Refusal::WorkTooSmall);
     }
-    work[..WORK_UNITS * limit].fill(0);
+    stores.work[..WORK_UNITS * limit].fill(0);
     if book.len() > MOST_BYTES {
         return early(Refusal::OutOfSpace);
     }
     let mut lines = Lines::new();
     let mut checker = Checker::new(budget, limit);
-    let refusal = check_lines(book, limit, table, terms, &mut lines, &mut checker, notes).err();
+    let refusal = check_lines(book, limit, stores, &mut lines, &mut checker, notes).err();
     let steps = u64::from(checker.steps());
     match refusal {
         None => Outcome { code: 0, line: lines.count() as u32, steps },
@@ -78,13 +81,33 @@ pub fn check_noting(
     }
 }
 
+/// What a line of an accepted book rests on, from cell 0 of the answer.
+pub fn rests_on(book: &[u8], budget: u32, limit: u32, stores: &mut Stores, line: u32, answer: &mut [u32]) -> Answer {
+    let admitted = check(book, budget, limit, stores);
+    if admitted.code != 0 {
+        return Answer { code: admitted.code, line: admitted.line, steps: admitted.steps as u32, length: 0 };
+    }
+    let refused = |refusal: Refusal| Answer { code: refusal as u32, line: 0, steps: 0, length: 0 };
+    if line == 0 || line > admitted.line {
+        return refused(Refusal::NoSuchLine);
+    }
+    let list = primitives(line as usize, stores);
+    if list.len() > answer.len() {
+        return refused(Refusal::OutOfSpace);
+    }
+    answer[..list.len()].copy_from_slice(&list);
+    Answer { code: 0, line: 0, steps: 0, length: list.len() as u32 }
+}
+
 fn check_lines(
-    book: &[u8], limit: usize, table: &mut [u32], terms: &mut [Cell], lines: &mut Lines, checker: &mut Checker,
-    notes: &mut Notes,
+    book: &[u8], limit: usize, stores: &mut Stores, lines: &mut Lines, checker: &mut Checker, notes: &mut Notes,
 ) -> Result<(), Refusal> {
+    let Stores { table, terms, index, .. } = stores;
     let mut names = Names::default();
     let mut reader = Reader::new(book, limit);
+    let mut dependencies = Dependencies::default();
     let mut used = 0;
+    let mut indexed = 0;
     while !reader.at_end() {
         let line = reader.line(lines, &names)?;
         let cells = reader.cells();
@@ -105,7 +128,9 @@ fn check_lines(
             return Err(Refusal::TooLarge);
         }
         let count = lines.count();
-        if count == MOST_LINES || table.len() / ROW_WIDTH <= count || terms.len() - used < cells.len() {
+        let entry = dependencies.of_line(count + 1, line.indicator, cells);
+        let full = table.len() / ROW_WIDTH <= count || terms.len() - used < cells.len() || index.len() - indexed <= entry.len();
+        if full || count == MOST_LINES {
             return Err(Refusal::OutOfSpace);
         }
         let middle = line.middle.length;
@@ -118,6 +143,9 @@ fn check_lines(
             used as u32, (used + middle) as u32, (used + cells.len()) as u32,
         ];
         table[ROW_WIDTH * count..ROW_WIDTH * (count + 1)].copy_from_slice(&row);
+        index[indexed] = entry.len() as u32;
+        index[indexed + 1..indexed + 1 + entry.len()].copy_from_slice(entry);
+        indexed += 1 + entry.len();
         let number = lines.push(line.kind, line.context, [used, used + middle, used + cells.len()]);
         names.insert(line.identifier, number);
         notes.put_in += parts.iter().map(|p| p.put_in).sum::<usize>();

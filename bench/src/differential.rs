@@ -2,6 +2,7 @@
 
 mod blocks;
 mod calls;
+mod comparison;
 mod largest;
 mod mutate;
 mod text;
@@ -14,7 +15,8 @@ use std::time::{Duration, Instant};
 
 use crate::generate::{self, Kind};
 use crate::random::Random;
-use calls::Comparison;
+use calls::Calls;
+use comparison::Comparison;
 
 const SEED: u64 = 1;
 const BOOKS: usize = 400_000;
@@ -24,14 +26,16 @@ const LONGEST: Duration = Duration::from_secs(110);
 /// So many books are made from one.
 const BOOKS_FROM_ONE: usize = 15;
 
-/// Prints how often each code and what is new with arguments left out was met; false if there was a difference, or one of
-/// these was not met.
+/// Prints how often each code, and each situation of completed lines and of lists, was met; false if there was a difference, or
+/// one of these was not met.
 pub fn run() -> bool {
     let start = Instant::now();
-    let mut comparison = Comparison::new();
+    let mut comparison = Comparison::default();
+    let mut calls = Calls::default();
     let mut random = Random::new(SEED);
     for (book, call) in largest::books() {
-        comparison.compare(&book, &call);
+        let outcome = comparison.check(&book, &call);
+        comparison.last_line(&book, &call, &outcome);
     }
     let written = written_books();
     let mut books = 0;
@@ -39,8 +43,8 @@ pub fn run() -> bool {
         let base = base(&mut random, &written);
         for _ in 0..BOOKS_FROM_ONE {
             let book = changed(&mut random, &base);
-            let call = comparison.call(&mut random, &book);
-            comparison.compare(&book, &call);
+            let call = calls.call(&mut random, &book);
+            comparison.compare(&mut random, &book, &call);
             books += 1;
         }
     }

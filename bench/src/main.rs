@@ -5,6 +5,7 @@ mod differential;
 mod generate;
 mod random;
 mod sizes;
+mod stores;
 mod table;
 mod verified;
 
@@ -17,6 +18,24 @@ pub struct Outcome {
     pub code: u32,
     pub line: u32,
     pub steps: u64,
+}
+
+impl Outcome {
+    /// How many lines are recorded.
+    pub fn recorded(&self) -> usize {
+        let line = self.line as usize;
+        if self.code == 0 { line } else { line.saturating_sub(1) }
+    }
+}
+
+/// What a call on an accepted book ends with: code, line, head steps, and the length of the answer that it wrote.
+#[repr(C)]
+#[derive(Clone, Copy, Debug, PartialEq, Eq)]
+pub struct Answer {
+    pub code: u32,
+    pub line: u32,
+    pub steps: u32,
+    pub length: u32,
 }
 
 fn main() -> ExitCode {

@@ -15,6 +15,9 @@ pub const WORK_UNITS: usize = 128;
 /// Table cells for each line.
 pub const ROW_WIDTH: usize = 8;
 
+/// Where the kind of a line stands in its row.
+pub const KIND: usize = 4;
+
 pub const MOST_LINES: usize = 8_191;
 pub const MOST_BYTES: usize = 16_777_215;
 
@@ -23,5 +26,5 @@ pub const NESTING: usize = 32;
 
 pub const LONGEST_NAME: usize = 32;
 
-/// How many codes there are, that of acceptance among them.
-pub const CODES: usize = 13;
+/// How many codes there are, that of acceptance among them; the check of a book gives all but the last.
+pub const CODES: usize = 14;

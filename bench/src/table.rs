@@ -4,6 +4,7 @@ use std::time::{Duration, Instant};
 
 use crate::generate::{self, Kind};
 use crate::sizes::{Cell, MOST_LINES, ROW_WIDTH, WORK_UNITS};
+use crate::stores::Stores;
 use crate::{baseline, verified, Outcome};
 
 const SEED: u64 = 1;
@@ -17,56 +18,83 @@ const TIME_FOR_BOOK: Duration = Duration::from_millis(1_200);
 const MOST_RUNS: usize = 101;
 const TIME_TO_PROFILE: Duration = Duration::from_secs(2);
 
-pub type Check = fn(&[u8], u32, u32, &mut [u32], &mut [Cell], &mut [Cell]) -> Outcome;
+pub type Check = fn(&[u8], u32, u32, &mut Stores) -> Outcome;
 
-/// The lent stores.
-#[derive(PartialEq)]
-struct Stores {
-    table: Vec<u32>,
-    terms: Vec<Cell>,
-    work: Vec<Cell>,
-}
-
-impl Stores {
-    /// Stores in which a book of this many bytes fits.
-    fn new(bytes: usize, limit: u32) -> Self {
-        Stores { table: vec![0; ROW_WIDTH * MOST_LINES], terms: vec![0; bytes], work: vec![0; WORK_UNITS * limit as usize] }
-    }
-
-    fn reset(&mut self) {
-        self.table.fill(u32::from(PATTERN));
-        self.terms.fill(PATTERN);
-        self.work.fill(PATTERN);
-    }
-
-    fn run(&mut self, check: Check, book: &[u8], limit: u32) -> (Outcome, Duration) {
-        self.reset();
-        let start = Instant::now();
-        let outcome = check(book, u32::MAX, limit, &mut self.table, &mut self.terms, &mut self.work);
-        (outcome, start.elapsed())
+/// Stores in which a book of this many bytes fits; what the index does not need is cut off before a time is taken.
+fn stores(bytes: usize, limit: u32) -> Stores {
+    Stores {
+        table: vec![0; ROW_WIDTH * MOST_LINES], terms: vec![0; bytes], work: vec![0; WORK_UNITS * limit as usize],
+        index: vec![0; bytes],
     }
 }
 
-/// The outcome of a book and the median times of both.
-struct Measured {
-    bytes: usize,
-    outcome: Outcome,
-    verified: Duration,
-    baseline: Duration,
+fn reset(stores: &mut Stores) {
+    stores.table.fill(u32::from(PATTERN));
+    stores.terms.fill(PATTERN);
+    stores.work.fill(PATTERN);
+    stores.index.fill(u32::from(PATTERN));
+}
+
+/// The result and the time of a call on stores that hold the pattern.
+fn timed<R>(stores: &mut Stores, call: impl FnOnce(&mut Stores) -> R) -> (R, Duration) {
+    reset(stores);
+    let start = Instant::now();
+    let result = call(stores);
+    (result, start.elapsed())
+}
+
+fn run(check: Check, book: &[u8], limit: u32, stores: &mut Stores) -> (Outcome, Duration) {
+    timed(stores, |s| check(book, u32::MAX, limit, s))
+}
+
+/// Two calls that were timed by turns: median times, and the first's to the second's.
+struct Turns {
+    first: Duration,
+    second: Duration,
     /// The median over runs beside each other, which a change of the machine's speed strikes alike.
     ratio: f64,
     runs: usize,
 }
 
-/// Prints both tables; false if some book is not accepted by both with the same rows and cells.
+fn by_turns<R, Q>(stores: &mut Stores, mut first: impl FnMut(&mut Stores) -> R, mut second: impl FnMut(&mut Stores) -> Q) -> Turns {
+    let mut times = Vec::new();
+    let start = Instant::now();
+    while times.len() < MOST_RUNS && start.elapsed() < TIME_FOR_BOOK {
+        let (_, first_time) = timed(stores, &mut first);
+        let (_, second_time) = timed(stores, &mut second);
+        times.push((first_time, second_time));
+    }
+    Turns {
+        first: median(times.iter().map(|t| t.0)),
+        second: median(times.iter().map(|t| t.1)),
+        ratio: median(times.iter().map(|t| t.0.as_secs_f64() / t.1.as_secs_f64())),
+        runs: times.len(),
+    }
+}
+
+/// The check of a book by both programs.
+struct Checked {
+    bytes: usize,
+    outcome: Outcome,
+    turns: Turns,
+}
+
+/// What the last line of a book rests on, and the call beside the check, both by the verified program.
+struct Resting {
+    length: u32,
+    indexed: usize,
+    turns: Turns,
+}
+
+/// Prints the tables; false if some book is not accepted by both with the same rows and cells.
 pub fn print() -> bool {
     println!("book          L  lines      bytes    steps  runs  verified ms  baseline ms   ratio");
     for kind in Kind::ALL {
         let Some(m) = measure(kind, MOST_LINES) else { return false };
         println!(
             "{:<9}{:>6}{:>7}{:>11}{:>9}{:>6}{:>13.3}{:>13.3}{:>8.2}",
-            kind.title(), kind.limit(), m.outcome.line, m.bytes, m.outcome.steps, m.runs,
-            milliseconds(m.verified), milliseconds(m.baseline), m.ratio,
+            kind.title(), kind.limit(), m.outcome.line, m.bytes, m.outcome.steps, m.turns.runs,
+            milliseconds(m.turns.first), milliseconds(m.turns.second), m.turns.ratio,
         );
     }
     println!("\nns a line at so many lines, and the largest of them to the smallest");
@@ -75,11 +103,21 @@ pub fn print() -> bool {
     println!("{:>10}", "quotient");
     for kind in Kind::ALL {
         let Some(measured) = SIZES.iter().map(|&n| measure(kind, n)).collect::<Option<Vec<_>>>() else { return false };
-        per_line(kind.title(), "verified", measured.iter().map(|m| m.verified));
-        per_line("", "baseline", measured.iter().map(|m| m.baseline));
+        per_line(kind.title(), "verified", measured.iter().map(|m| m.turns.first));
+        per_line("", "baseline", measured.iter().map(|m| m.turns.second));
         print!("{:<19}", "         ratio");
-        measured.iter().for_each(|m| print!("{:>9.2}", m.ratio));
+        measured.iter().for_each(|m| print!("{:>9.2}", m.turns.ratio));
         println!();
+    }
+    let lines = SIZES[SIZES.len() - 1];
+    println!("\nwhat line {lines} rests on, beside the check of its book; verified");
+    println!("book     PN lines  index cells  runs  rests_on ms     check ms   ratio");
+    for kind in Kind::ALL {
+        let Some(m) = measure_rests_on(kind, lines) else { return false };
+        println!(
+            "{:<9}{:>8}{:>13}{:>6}{:>13.3}{:>13.3}{:>8.2}",
+            kind.title(), m.length, m.indexed, m.turns.runs, milliseconds(m.turns.first), milliseconds(m.turns.second), m.turns.ratio,
+        );
     }
     true
 }
@@ -87,11 +125,11 @@ pub fn print() -> bool {
 /// Runs one program on one book for some seconds, for a profiler; prints the shortest and the median time.
 pub fn profile(kind: Kind, check: Check) {
     let book = generate::book(kind, MOST_LINES, SEED);
-    let mut stores = Stores::new(book.len(), kind.limit());
+    let mut stores = stores(book.len(), kind.limit());
     let start = Instant::now();
     let mut times = Vec::new();
     while start.elapsed() < TIME_TO_PROFILE {
-        times.push(stores.run(check, &book, kind.limit()).1);
+        times.push(run(check, &book, kind.limit(), &mut stores).1);
     }
     let least = times.iter().copied().min().unwrap_or_default();
     println!("{:<9} {:.3} ms, {:.3} at least, {} runs", kind.title(), milliseconds(median(times.iter().copied())), milliseconds(least), times.len());
@@ -111,32 +149,49 @@ fn milliseconds(time: Duration) -> f64 {
 }
 
 /// Checks that both agree on the book, then times them by turns.
-fn measure(kind: Kind, lines: usize) -> Option<Measured> {
+fn measure(kind: Kind, lines: usize) -> Option<Checked> {
     let book = generate::book(kind, lines, SEED);
     let limit = kind.limit();
-    let mut ours = Stores::new(book.len(), limit);
-    let mut theirs = Stores::new(book.len(), limit);
-    let (outcome, verified_first) = ours.run(verified::check, &book, limit);
-    let (other, baseline_first) = theirs.run(baseline::check, &book, limit);
+    let mut ours = stores(book.len(), limit);
+    let mut theirs = stores(book.len(), limit);
+    let (outcome, _) = run(verified::check, &book, limit, &mut ours);
+    let (other, _) = run(baseline::check, &book, limit, &mut theirs);
     if outcome != other || ours != theirs || outcome.code != 0 {
         println!("{}, {lines} lines: {outcome:?} verified, {other:?} baseline, stores alike: {}", kind.title(), ours == theirs);
         return None;
     }
-    let mut times = vec![(verified_first, baseline_first)];
-    let start = Instant::now() - verified_first - baseline_first;
-    while times.len() < MOST_RUNS && start.elapsed() < TIME_FOR_BOOK {
-        let (_, verified_time) = ours.run(verified::check, &book, limit);
-        let (_, baseline_time) = ours.run(baseline::check, &book, limit);
-        times.push((verified_time, baseline_time));
+    ours.index.truncate(ours.indexed(lines));
+    let turns = by_turns(
+        &mut ours,
+        |s| verified::check(&book, u32::MAX, limit, s),
+        |s| baseline::check(&book, u32::MAX, limit, s),
+    );
+    Some(Checked { bytes: book.len(), outcome, turns })
+}
+
+/// Checks that both agree on what the last line rests on, then times the call and the check by turns.
+fn measure_rests_on(kind: Kind, lines: usize) -> Option<Resting> {
+    let book = generate::book(kind, lines, SEED);
+    let limit = kind.limit();
+    let mut ours = stores(book.len(), limit);
+    let mut theirs = stores(book.len(), limit);
+    let mut answer = vec![0; lines];
+    let mut list = vec![0; lines];
+    let last = lines as u32;
+    let (given, _) = timed(&mut ours, |s| verified::rests_on(&book, u32::MAX, limit, s, last, &mut answer));
+    let (other, _) = timed(&mut theirs, |s| baseline::rests_on(&book, u32::MAX, limit, s, last, &mut list));
+    if given != other || answer != list || ours != theirs || given.code != 0 {
+        println!("{}, line {last}: {given:?} verified, {other:?} baseline, lists alike: {}", kind.title(), answer == list);
+        return None;
     }
-    Some(Measured {
-        bytes: book.len(),
-        outcome,
-        verified: median(times.iter().map(|t| t.0)),
-        baseline: median(times.iter().map(|t| t.1)),
-        ratio: median(times.iter().map(|t| t.0.as_secs_f64() / t.1.as_secs_f64())),
-        runs: times.len(),
-    })
+    let indexed = ours.indexed(lines);
+    ours.index.truncate(indexed);
+    let turns = by_turns(
+        &mut ours,
+        |s| verified::rests_on(&book, u32::MAX, limit, s, last, &mut answer),
+        |s| verified::check(&book, u32::MAX, limit, s),
+    );
+    Some(Resting { length: given.length, indexed, turns })
 }
 
 fn median<T: PartialOrd + Copy>(items: impl Iterator<Item = T>) -> T {

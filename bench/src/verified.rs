@@ -1,7 +1,8 @@
 //! The verified program, linked from its archive.
 
 use crate::sizes::Cell;
-use crate::Outcome;
+use crate::stores::Stores;
+use crate::{Answer, Outcome};
 
 extern "C" {
     fn aut68_check(
@@ -10,15 +11,40 @@ extern "C" {
         table: *mut u32, table_length: usize,
         terms: *mut Cell, terms_length: usize,
         work: *mut Cell, work_length: usize,
+        index: *mut u32, index_length: usize,
     ) -> Outcome;
+    fn aut68_rests_on(
+        book: *const u8, book_length: usize,
+        budget: u32, limit: u32,
+        table: *mut u32, table_length: usize,
+        terms: *mut Cell, terms_length: usize,
+        work: *mut Cell, work_length: usize,
+        index: *mut u32, index_length: usize,
+        line: u32,
+        answer: *mut u32, answer_length: usize,
+    ) -> Answer;
 }
 
-pub fn check(book: &[u8], budget: u32, limit: u32, table: &mut [u32], terms: &mut [Cell], work: &mut [Cell]) -> Outcome {
-    // Sound: each pointer is valid for its length, and `&mut` slices do not overlap.
+pub fn check(book: &[u8], budget: u32, limit: u32, stores: &mut Stores) -> Outcome {
+    let Stores { table, terms, work, index } = stores;
+    // Sound: each pointer is valid for its length, and no two stores overlap.
     unsafe {
         aut68_check(
             book.as_ptr(), book.len(), budget, limit,
             table.as_mut_ptr(), table.len(), terms.as_mut_ptr(), terms.len(), work.as_mut_ptr(), work.len(),
+            index.as_mut_ptr(), index.len(),
+        )
+    }
+}
+
+pub fn rests_on(book: &[u8], budget: u32, limit: u32, stores: &mut Stores, line: u32, answer: &mut [u32]) -> Answer {
+    let Stores { table, terms, work, index } = stores;
+    // Sound: as above; the answer is borrowed apart from the stores.
+    unsafe {
+        aut68_rests_on(
+            book.as_ptr(), book.len(), budget, limit,
+            table.as_mut_ptr(), table.len(), terms.as_mut_ptr(), terms.len(), work.as_mut_ptr(), work.len(),
+            index.as_mut_ptr(), index.len(), line, answer.as_mut_ptr(), answer.len(),
         )
     }
 }

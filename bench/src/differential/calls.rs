@@ -1,14 +1,14 @@
-//! Calls with the same limits and stores, and what they leave in every cell.
+//! What is lent beside a book: limits, budgets and store lengths, often where the book just fits or just does not.
 
-use crate::baseline::{self, Notes};
+use crate::baseline;
 use crate::random::Random;
-use crate::sizes::{Cell, CODES, LARGEST_LIMIT, ROW_WIDTH, SMALLEST_LIMIT, WORK_UNITS};
-use crate::{verified, Outcome};
+use crate::sizes::{Cell, LARGEST_LIMIT, ROW_WIDTH, SMALLEST_LIMIT, WORK_UNITS};
+use crate::stores::Stores;
+use crate::Outcome;
 
 const USUAL_LIMIT: u32 = 256;
-const MOST_SHOWN: usize = 5;
 
-/// What is lent beside the book; lengths in cells.
+/// Lengths are in cells.
 #[derive(Clone, Copy, Debug)]
 pub struct Call {
     pub budget: u32,
@@ -16,6 +16,21 @@ pub struct Call {
     pub table: usize,
     pub terms: usize,
     pub work: usize,
+    pub index: usize,
+}
+
+/// What stands in a 32-bit cell before a call.
+pub fn pattern(at: usize) -> u32 {
+    (at as u32).wrapping_mul(0x9e37_79b1) ^ 0x5555_aaaa
+}
+
+fn cell_pattern(at: usize) -> Cell {
+    (at as Cell).wrapping_mul(0x9e37) ^ 0x5a5a
+}
+
+fn filled<T>(store: &mut Vec<T>, length: usize, pattern: fn(usize) -> T) {
+    store.clear();
+    store.extend((0..length).map(pattern));
 }
 
 impl Call {
@@ -25,67 +40,75 @@ impl Call {
         let variables = book.windows(2).filter(|w| w == b"EB").count();
         let largest = 2 * limit.min(LARGEST_LIMIT) as usize;
         let terms = (book.len() * (1 + variables)).min(lines * largest) + 1;
-        Call { budget: u32::MAX, limit, table: ROW_WIDTH * lines, terms, work: WORK_UNITS * limit as usize }
+        let work = WORK_UNITS * limit as usize;
+        Call { budget: u32::MAX, limit, table: ROW_WIDTH * lines, terms, work, index: terms + 2 * lines }
     }
-}
 
-#[derive(Default)]
-struct Stores {
-    table: Vec<u32>,
-    terms: Vec<Cell>,
-    work: Vec<Cell>,
-}
-
-fn table_pattern(at: usize) -> u32 {
-    (at as u32).wrapping_mul(0x9e37_79b1) ^ 0x5555_aaaa
-}
-
-fn cell_pattern(at: usize) -> Cell {
-    (at as Cell).wrapping_mul(0x9e37) ^ 0x5a5a
-}
-
-impl Stores {
-    /// As long as the call says, every cell with its pattern.
-    fn prepare(&mut self, call: &Call) {
-        self.table.clear();
-        self.table.extend((0..call.table).map(table_pattern));
-        self.terms.clear();
-        self.terms.extend((0..call.terms).map(cell_pattern));
-        self.work.clear();
-        self.work.extend((0..call.work).map(cell_pattern));
+    /// Stores as long as the call says, every cell with its pattern.
+    pub fn prepare(&self, stores: &mut Stores) {
+        filled(&mut stores.table, self.table, pattern);
+        filled(&mut stores.terms, self.terms, cell_pattern);
+        filled(&mut stores.work, self.work, cell_pattern);
+        filled(&mut stores.index, self.index, pattern);
     }
 
     /// Whether every cell that the outcome leaves alone has its pattern, and the working cells are zero.
-    fn left_alone(&self, call: &Call, outcome: &Outcome) -> bool {
-        let recorded = if outcome.code == 0 { outcome.line as usize } else { outcome.line.saturating_sub(1) as usize };
-        let cells = if recorded == 0 { 0 } else { self.table[ROW_WIDTH * recorded - 1] as usize };
-        let cleared = if outcome.code == 1 || outcome.code == 2 { 0 } else { WORK_UNITS * call.limit as usize };
-        (ROW_WIDTH * recorded..self.table.len()).all(|i| self.table[i] == table_pattern(i))
-            && (cells..self.terms.len()).all(|i| self.terms[i] == cell_pattern(i))
-            && self.work[..cleared].iter().all(|&c| c == 0)
-            && (cleared..self.work.len()).all(|i| self.work[i] == cell_pattern(i))
+    pub fn left_alone(&self, stores: &Stores, outcome: &Outcome) -> bool {
+        let Stores { table, terms, work, index } = stores;
+        let recorded = outcome.recorded();
+        let cleared = if outcome.code == 1 || outcome.code == 2 { 0 } else { WORK_UNITS * self.limit as usize };
+        (ROW_WIDTH * recorded..table.len()).all(|i| table[i] == pattern(i))
+            && (recorded_cells(stores, recorded)..terms.len()).all(|i| terms[i] == cell_pattern(i))
+            && (stores.indexed(recorded)..index.len()).all(|i| index[i] == pattern(i))
+            && work[..cleared].iter().all(|&c| c == 0)
+            && (cleared..work.len()).all(|i| work[i] == cell_pattern(i))
     }
 }
 
-/// The two programs side by side, and the counts of what they gave.
-pub struct Comparison {
-    ours: Stores,
-    theirs: Stores,
-    codes: [usize; CODES],
-    /// Books with variables put in, with 10 for a completed size alone, for a completed nesting alone, with 5 or 6 ahead
-    /// of such a 10.
-    completed: [usize; 4],
-    steps: u64,
-    differences: usize,
+/// How many term cells the first lines take.
+fn recorded_cells(stores: &Stores, lines: usize) -> usize {
+    if lines == 0 { 0 } else { stores.table[ROW_WIDTH * lines - 1] as usize }
 }
 
-impl Comparison {
-    pub fn new() -> Self {
-        let (ours, theirs) = (Stores::default(), Stores::default());
-        Comparison { ours, theirs, codes: [0; CODES], completed: [0; 4], steps: 0, differences: 0 }
-    }
+/// A line to ask about, and the cells for the answer.
+#[derive(Clone, Copy, Debug)]
+pub struct Question {
+    pub line: u32,
+    pub room: usize,
+}
 
-    /// Limits and store lengths for a book, often where it just fits or just does not.
+impl Question {
+    /// About a book that ended so and left these stores; the answer often just fits or just does not.
+    pub fn new(random: &mut Random, outcome: &Outcome, stores: &Stores) -> Question {
+        let last = outcome.recorded();
+        let line = match random.below(12) {
+            0 => 0,
+            1 => last + 1,
+            2 => *random.choose(&[last + 2, last + 64, 65_536 + 1, u32::MAX as usize]),
+            3..=4 => last,
+            _ => random.between(last.min(1), last),
+        };
+        let accepted = outcome.code == 0 && (1..=last).contains(&line);
+        let length = if accepted { baseline::primitives(line, stores).len() } else { random.below(4) };
+        let room = match random.below(10) {
+            0..=3 => length,
+            4..=5 => length.saturating_sub(1),
+            6 => 0,
+            7 => random.between(0, length + 3),
+            _ => length + random.between(1, 9),
+        };
+        Question { line: line as u32, room }
+    }
+}
+
+/// Makes calls; the stores are those of the runs that they are made from.
+#[derive(Default)]
+pub struct Calls {
+    stores: Stores,
+}
+
+impl Calls {
+    /// Limits and store lengths for a book.
     pub fn call(&mut self, random: &mut Random, book: &[u8]) -> Call {
         let limit = match random.below(100) {
             0..=2 => *random.choose(&[SMALLEST_LIMIT - 1, LARGEST_LIMIT + 1, 0, u32::MAX]),
@@ -102,8 +125,7 @@ impl Comparison {
             return call;
         }
         let outcome = self.probe(book, &call);
-        let recorded = if outcome.code == 0 { outcome.line as usize } else { outcome.line as usize - 1 };
-        let cells = if recorded == 0 { 0 } else { self.theirs.table[ROW_WIDTH * recorded - 1] as usize };
+        let recorded = outcome.recorded();
         let steps = outcome.steps as usize;
         call.budget = match random.below(10) {
             0..=4 => u32::MAX,
@@ -118,12 +140,8 @@ impl Comparison {
             18 => ROW_WIDTH * recorded,
             _ => random.between(0, ROW_WIDTH * recorded + ROW_WIDTH),
         };
-        call.terms = match random.below(20) {
-            0..=16 => call.terms,
-            17 => (cells + random.below(4)).saturating_sub(1),
-            18 => cells,
-            _ => random.between(0, cells + 4),
-        };
+        call.terms = near(random, call.terms, recorded_cells(&self.stores, recorded));
+        call.index = near(random, call.index, self.stores.indexed(recorded));
         call.work = match random.below(50) {
             0 => call.work - 1,
             1 => random.below(call.work),
@@ -144,44 +162,17 @@ impl Comparison {
     }
 
     fn probe(&mut self, book: &[u8], call: &Call) -> Outcome {
-        self.noted(book, call).0
+        call.prepare(&mut self.stores);
+        baseline::check(book, call.budget, call.limit, &mut self.stores)
     }
+}
 
-    fn noted(&mut self, book: &[u8], call: &Call) -> (Outcome, Notes) {
-        self.theirs.prepare(call);
-        let Stores { table, terms, work } = &mut self.theirs;
-        let mut notes = Notes::default();
-        (baseline::check_noting(book, call.budget, call.limit, table, terms, work, &mut notes), notes)
-    }
-
-    pub fn compare(&mut self, book: &[u8], call: &Call) {
-        self.ours.prepare(call);
-        let Stores { table, terms, work } = &mut self.ours;
-        let ours = verified::check(book, call.budget, call.limit, table, terms, work);
-        let (theirs, notes) = self.noted(book, call);
-        let alike = self.ours.table == self.theirs.table && self.ours.terms == self.theirs.terms && self.ours.work == self.theirs.work;
-        if ours != theirs || !alike || !self.theirs.left_alone(call, &theirs) {
-            self.differences += 1;
-            if self.differences <= MOST_SHOWN {
-                let shown = &book[..book.len().min(20_000)];
-                println!("{call:?}\n{ours:?} verified\n{theirs:?} baseline, stores alike: {alike}\n{}\n", shown.escape_ascii().to_string().replace("\\n", "\n"));
-            }
-        }
-        self.codes[theirs.code as usize] += 1;
-        self.steps += theirs.steps;
-        let met = [notes.put_in > 0, notes.only_completed_size, notes.only_completed_nesting, notes.ahead_of_size];
-        met.iter().zip(&mut self.completed).for_each(|(met, count)| *count += usize::from(*met));
-    }
-
-    /// Prints the counts; true if there was no difference and each code and each situation of completed lines was met.
-    pub fn report(&self) -> bool {
-        for (code, count) in self.codes.iter().enumerate() {
-            println!("code {code:>2}: {count:>7}");
-        }
-        let [put_in, size, nesting, ahead] = self.completed;
-        println!("arguments put in: {put_in} books");
-        println!("10 on the completed form alone: {size} for its size, {nesting} for its nesting; 5 or 6 ahead of 10: {ahead}");
-        println!("{} head steps, {} differences", self.steps, self.differences);
-        self.differences == 0 && self.codes.iter().chain(&self.completed).all(|&count| count > 0)
+/// The length of a store of which so many cells are needed: most often it is ample.
+fn near(random: &mut Random, ample: usize, needed: usize) -> usize {
+    match random.below(20) {
+        0..=16 => ample,
+        17 => (needed + random.below(4)).saturating_sub(1),
+        18 => needed,
+        _ => random.between(0, needed + 4),
     }
 }

@@ -1,6 +1,7 @@
 // The test program. The first arguments name books, which it lists. Each other argument names a file with one case: a header line of
-// six numbers, then the book. For each case it writes the outcome, what is recorded, and what became of every other cell. All
-// stores hold 7 in each cell beforehand.
+// seven numbers, or nine, then the book. For each case it writes the outcome, what is recorded, and what became of every other cell;
+// where the header has nine numbers, then the same of a call that asks what a line rests on. All stores hold 7 in each cell before
+// each call.
 use constants::Cell;
 use constants::LARGEST_LIMIT;
 use constants::LINE_LIMIT;
@@ -15,10 +16,37 @@ use reports::report;
 // How many books are listed.
 const LISTED: usize = 3;
 
-// The largest case's bytes, and the cells of the term store.
+// The largest case's bytes.
 const TEXT: usize = 131072;
 
+// The cells of the stores: line LINE_LIMIT has a row; the index is one longer than the listing program's; the working store has a cell
+// more than the largest limit needs.
+const TABLE: usize = ROW_WIDTH * LINE_LIMIT;
+
 const TERMS: usize = 32768;
+
+const WORK: usize = WORK_UNITS * LARGEST_LIMIT + 1;
+
+const INDEX: usize = 16385;
+
+const ANSWER: usize = 64;
+
+// Reports what is recorded of n lines, and what became of every other cell.
+fn report_stores(
+    h: Header,
+    n: u32,
+    book: &[u8],
+    table: &[u32],
+    terms: &[Cell],
+    work: &[Cell],
+    index: &[u32],
+) {
+    let shown = report::least(n, h.shown);
+    report::rows(book, table, terms, shown);
+    report::entries(index, n, shown);
+    report::other_names(book, table, n);
+    report::other_cells(table, terms, work, n, h.limit);
+}
 
 // Checks the book and reports.
 fn check(
@@ -31,26 +59,71 @@ fn check(
 ) {
     let o = verifier::check_book(book, h.budget, h.limit, table, terms, work, index);
     let r = verifier::numbers_of(o);
-    let n = recorded(r);
     report::outcome(r);
-    report::rows(book, table, terms, report::least(n, h.shown));
-    report::other_names(book, table, n);
-    report::other_cells(table, terms, work, n, h.limit);
+    report_stores(h, recorded(r), book, table, terms, work, index);
 }
 
-// A case, with the first cells of these stores, as many as its header gives.
+// Asks what a line rests on, and reports.
+fn ask(
+    h: Header,
+    book: &[u8],
+    table: &mut [u32],
+    terms: &mut [Cell],
+    work: &mut [Cell],
+    index: &mut [u32],
+    answer: &mut [u32],
+) {
+    let a = verifier::rests_on(
+        book,
+        h.budget,
+        h.limit,
+        table,
+        terms,
+        work,
+        index,
+        h.line,
+        answer,
+    );
+    let r = verifier::answer_numbers(a);
+    report::answer(r, answer);
+    report_stores(h, report::admitted(r, book), book, table, terms, work, index);
+}
+
+// One of the two calls.
+fn call(
+    asks: bool,
+    h: Header,
+    book: &[u8],
+    table: &mut [u32],
+    terms: &mut [Cell],
+    work: &mut [Cell],
+    index: &mut [u32],
+    answer: &mut [u32],
+) {
+    if asks {
+        ask(h, book, table, terms, work, index, answer);
+    } else {
+        check(h, book, table, terms, work, index);
+    }
+}
+
+// One of the two calls of a case, with the first cells of these stores, as many as its header gives.
 fn case_of(
+    asks: bool,
     text: &[u8],
     table: &mut [u32],
     terms: &mut [Cell],
     work: &mut [Cell],
     index: &mut [u32],
+    answer: &mut [u32],
 ) {
     let h = header::read(text);
     let start = h.start;
     let rows = h.table;
     let cells = h.terms;
     let room = h.work;
+    let entries = h.index;
+    let list = h.room;
     if start > text.len() {
         return;
     }
@@ -63,25 +136,51 @@ fn case_of(
     if room > work.len() {
         return;
     }
-    check(
+    if entries > index.len() {
+        return;
+    }
+    if list > answer.len() {
+        return;
+    }
+    call(
+        asks,
         h,
         &text[start..],
         &mut table[..rows],
         &mut terms[..cells],
         &mut work[..room],
-        index,
+        &mut index[..entries],
+        &mut answer[..list],
     );
 }
 
-// The case in an open file. Line LINE_LIMIT has a row in this table, and the largest limit a cell more than it needs.
-fn run(fd: i32) {
+// The case in these bytes.
+fn run(asks: bool, text: &[u8]) {
+    let mut table = [7u32; TABLE];
+    let mut terms: [Cell; TERMS] = [7; TERMS];
+    let mut work: [Cell; WORK] = [7; WORK];
+    let mut index = [7u32; INDEX];
+    let mut answer = [7u32; ANSWER];
+    case_of(
+        asks,
+        text,
+        &mut table,
+        &mut terms,
+        &mut work,
+        &mut index,
+        &mut answer,
+    );
+}
+
+// The case in an open file.
+fn case_in(fd: i32) {
     let mut text = [0u8; TEXT];
     let n = io::read_full(fd, &mut text);
-    let mut table = [7u32; ROW_WIDTH * LINE_LIMIT];
-    let mut terms: [Cell; TERMS] = [7; TERMS];
-    let mut work: [Cell; WORK_UNITS * LARGEST_LIMIT + 1] = [7; WORK_UNITS * LARGEST_LIMIT + 1];
-    let mut index = [7u32; 32768];
-    case_of(&text[..n], &mut table, &mut terms, &mut work, &mut index);
+    run(false, &text[..n]);
+    let h = header::read(&text[..n]);
+    if h.asks {
+        run(true, &text[..n]);
+    }
 }
 
 // The book or the case in the file that argument i names.
@@ -96,7 +195,7 @@ fn argument(i: usize) {
         return;
     }
     if i > LISTED {
-        run(fd);
+        case_in(fd);
     } else {
         listing::list_book(fd, STDOUT_FILENO);
     }

@@ -1,16 +1,21 @@
-// The header of a case: six decimal numbers, each ended by one byte that is no digit.
+// The header of a case: decimal numbers, each ended by one byte that is no digit. There are seven, and two more where the seventh is
+// ended by a space.
 
 ghost use Prim.Native.Nat.{_≤_};
 
-// budget, limit: of the check. table, terms, work: cells of the three stores. shown: how many rows are written at most.
-// start: where the book begins.
+// budget, limit: of the check. table, terms, work, index: cells of the four stores. shown: of how many lines rows and entries are
+// written at most. asks: it is asked what `line` rests on, with `room` cells for the answer. start: where the book begins.
 pub struct Header {
     pub budget: u32,
     pub limit: u32,
     pub table: usize,
     pub terms: usize,
     pub work: usize,
+    pub index: usize,
     pub shown: u32,
+    pub asks: bool,
+    pub line: u32,
+    pub room: usize,
     pub start: usize,
 }
 
@@ -74,20 +79,47 @@ fn narrow(x: u64) -> u32 {
     x as u32
 }
 
+// Is the byte ahead of index `at` a space?
+fn behind_space(text: &[u8], at: usize) -> bool {
+    if at == 0 {
+        return false;
+    }
+    if at > text.len() {
+        return false;
+    }
+    text[at - 1] == b' '
+}
+
 pub fn read(text: &[u8]) -> Header {
     let budget = number(text, 0);
     let limit = number(text, budget.next);
     let table = number(text, limit.next);
     let terms = number(text, table.next);
     let work = number(text, terms.next);
-    let shown = number(text, work.next);
+    let index = number(text, work.next);
+    let shown = number(text, index.next);
+    let asks = behind_space(text, shown.next);
+    let mut line: u64 = 0;
+    let mut room: u64 = 0;
+    let mut start = shown.next;
+    if asks {
+        let asked = number(text, start);
+        let answer = number(text, asked.next);
+        line = asked.value;
+        room = answer.value;
+        start = answer.next;
+    }
     Header {
         budget: narrow(budget.value),
         limit: narrow(limit.value),
         table: table.value as usize,
         terms: terms.value as usize,
         work: work.value as usize,
+        index: index.value as usize,
         shown: narrow(shown.value),
-        start: shown.next,
+        asks: asks,
+        line: narrow(line),
+        room: room as usize,
+        start: start,
     }
 }

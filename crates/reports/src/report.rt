@@ -3,11 +3,14 @@ use cells::field;
 use constants::CATEGORY_END;
 use constants::CATEGORY_START;
 use constants::Cell;
+use constants::LIMIT_OUT_OF_RANGE;
 use constants::MIDDLE_START;
 use constants::ROW_WIDTH;
+use constants::WORK_TOO_SMALL;
 use constants::WORK_UNITS;
 use libc::STDOUT_FILENO;
 use names::identifier;
+use outcomes::AnswerNumbers;
 use outcomes::Numbers;
 
 // A number in decimal and the byte c.
@@ -23,6 +26,10 @@ fn spaced(x: u64) {
 }
 
 fn cell(x: Cell) {
+    spaced(x as u64);
+}
+
+fn wide_cell(x: u32) {
     spaced(x as u64);
 }
 
@@ -93,17 +100,59 @@ pub fn other_names(book: &[u8], table: &[u32], n: u32) {
     say(identifier(book, table, 4294967295).len() as u64, 10);
 }
 
-// How many cells from index `from` on are not 7.
-fn changed_rows(table: &[u32], from: usize) -> u64 {
+// The cells of 32 bits from index `from` on, below `to`, each behind a space.
+fn wide_cells(s: &[u32], from: usize, to: usize) {
+    let mut i = from;
+    while i < to {
+        if i >= s.len() {
+            return;
+        }
+        wide_cell(s[i]);
+        i = i + 1;
+    }
+}
+
+// How many cells of 32 bits from index `from` on are not 7.
+fn changed(s: &[u32], from: usize) -> u64 {
     let mut n = 0;
     let mut i = from;
-    while i < table.len() {
-        if table[i] != 7 {
+    while i < s.len() {
+        if s[i] != 7 {
             n = n + 1;
         }
         i = i + 1;
     }
     n
+}
+
+fn count(x: u32) -> usize {
+    x as usize
+}
+
+// Where the entries of the first n lines end in the index; its length, if they do not end in it.
+fn entries_end(index: &[u32], n: u32) -> usize {
+    let mut at: usize = 0;
+    let mut v = 0;
+    while v < n {
+        if at >= index.len() {
+            return index.len();
+        }
+        let names = count(index[at]);
+        if names >= index.len() - at {
+            return index.len();
+        }
+        at = at + names + 1;
+        v = v + 1;
+    }
+    at
+}
+
+// The index: the entries of the first `shown` lines, and how many cells changed behind those of the n recorded ones.
+pub fn entries(index: &[u32], n: u32, shown: u32) {
+    io::write_all(STDOUT_FILENO, b"index");
+    wide_cells(index, 0, entries_end(index, shown));
+    io::write_all(STDOUT_FILENO, b" : ");
+    say(changed(index, entries_end(index, n)), 10);
 }
 
 // How many cells from index `from` on, below `to`, are not x.
@@ -128,7 +177,7 @@ pub fn other_cells(table: &[u32], terms: &[Cell], work: &[Cell], n: u32, limit: 
     let lines = n as usize;
     let room = WORK_UNITS * (limit as usize);
     io::write_all(STDOUT_FILENO, b"cells ");
-    say(changed_rows(table, ROW_WIDTH * lines), b' ');
+    say(changed(table, ROW_WIDTH * lines), b' ');
     say(
         others(terms, field(table, lines, CATEGORY_END), terms.len(), 7),
         b' ',
@@ -136,4 +185,48 @@ pub fn other_cells(table: &[u32], terms: &[Cell], work: &[Cell], n: u32, limit: 
     say(others(work, 0, room, 0), b' ');
     say(others(work, room, work.len(), 7), b' ');
     say(others(work, 0, work.len(), 7), 10);
+}
+
+// What a line rests on: code, line, steps, length; the cells of the answer; how many cells changed behind them.
+pub fn answer(r: AnswerNumbers, cells: &[u32]) {
+    let length = r.length as usize;
+    io::write_all(STDOUT_FILENO, b"rests ");
+    say(r.code as u64, b' ');
+    say(r.line as u64, b' ');
+    say(r.steps as u64, b' ');
+    say(r.length as u64, b' ');
+    io::write_all(STDOUT_FILENO, b":");
+    wide_cells(cells, 0, length);
+    io::write_all(STDOUT_FILENO, b" : ");
+    say(changed(cells, length), 10);
+}
+
+// How many bytes of the book are 10; 2^32 - 1 if there are more.
+fn ends(book: &[u8]) -> u32 {
+    let mut n = 0;
+    let mut i = 0;
+    while i < book.len() {
+        if book[i] == 10 {
+            if n < 4294967295 {
+                n = n + 1;
+            }
+        }
+        i = i + 1;
+    }
+    n
+}
+
+// How many lines of the book are recorded when a call ends so: those before the refused one; none of a book that was refused ahead of
+// its lines; else all.
+pub fn admitted(r: AnswerNumbers, book: &[u8]) -> u32 {
+    if r.line > 0 {
+        return r.line - 1;
+    }
+    if r.code == WORK_TOO_SMALL {
+        return 0;
+    }
+    if r.code == LIMIT_OUT_OF_RANGE {
+        return 0;
+    }
+    ends(book)
 }

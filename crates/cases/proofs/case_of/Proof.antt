@@ -1,7 +1,7 @@
 -- `cases::case_of` is safe: each part that it lends is within its store, by the tests.
 use lib.ListN.{length-take}
-use borrow.Author.Needs.{needs}
 use native.Mathlib.Omega.{arith}
+use borrow.Author.Needs.{needs}
 use Rattle.cases.proofs.case_of.Statement.{statement}
 use Rattle.cases.proofs.case_of.Tie as tie
 
@@ -20,35 +20,53 @@ returns-3 c = search needs
 returns-4 : tie.Need-returns-4
 returns-4 c = search needs
 
-sub-check : tie.Need-sub-check
-sub-check c = search needs
+returns-5 : tie.Need-returns-5
+returns-5 c = search needs
 
-part-check-start : tie.Need-part-check-start
-part-check-start c = search needs
+returns-6 : tie.Need-returns-6
+returns-6 c = search needs
 
-part-check-end : tie.Need-part-check-end
-part-check-end c = search needs
+sub-call : tie.Need-sub-call
+sub-call c = search needs
 
-slice-relend-prefix-check : tie.Need-slice-relend-prefix-check
-slice-relend-prefix-check c = search needs
+part-call-start : tie.Need-part-call-start
+part-call-start c = search needs
 
-slice-aggregate-check : tie.Need-slice-aggregate-check
-slice-aggregate-check c = simp length-take (omega arith)
+part-call-end : tie.Need-part-call-end
+part-call-end c = search needs
 
-slice-relend-prefix-check-2 : tie.Need-slice-relend-prefix-check-2
-slice-relend-prefix-check-2 c = search needs
+slice-relend-prefix-call : tie.Need-slice-relend-prefix-call
+slice-relend-prefix-call c = search needs
 
-slice-aggregate-check-2 : tie.Need-slice-aggregate-check-2
-slice-aggregate-check-2 c = simp length-take (omega arith)
+slice-aggregate-call : tie.Need-slice-aggregate-call
+slice-aggregate-call c = simp length-take (omega arith)
 
-slice-relend-prefix-check-3 : tie.Need-slice-relend-prefix-check-3
-slice-relend-prefix-check-3 c = search needs
+slice-relend-prefix-call-2 : tie.Need-slice-relend-prefix-call-2
+slice-relend-prefix-call-2 c = search needs
 
-slice-aggregate-check-3 : tie.Need-slice-aggregate-check-3
-slice-aggregate-check-3 c = simp length-take (omega arith)
+slice-aggregate-call-2 : tie.Need-slice-aggregate-call-2
+slice-aggregate-call-2 c = simp length-take (omega arith)
 
-check-requires : tie.Need-check-requires
-check-requires c κs = search needs
+slice-relend-prefix-call-3 : tie.Need-slice-relend-prefix-call-3
+slice-relend-prefix-call-3 c = search needs
+
+slice-aggregate-call-3 : tie.Need-slice-aggregate-call-3
+slice-aggregate-call-3 c = simp length-take (omega arith)
+
+slice-relend-prefix-call-4 : tie.Need-slice-relend-prefix-call-4
+slice-relend-prefix-call-4 c = search needs
+
+slice-aggregate-call-4 : tie.Need-slice-aggregate-call-4
+slice-aggregate-call-4 c = simp length-take (omega arith)
+
+slice-relend-prefix-call-5 : tie.Need-slice-relend-prefix-call-5
+slice-relend-prefix-call-5 c = search needs
+
+slice-aggregate-call-5 : tie.Need-slice-aggregate-call-5
+slice-aggregate-call-5 c = simp length-take (omega arith)
+
+call-requires : tie.Need-call-requires
+call-requires c κs = search needs
 
 same-length : tie.Need-same-length
 same-length c = search needs
@@ -59,8 +77,14 @@ same-length-2 c = search needs
 same-length-3 : tie.Need-same-length-3
 same-length-3 c = search needs
 
-returns-5 : tie.Need-returns-5
-returns-5 c = search needs
+same-length-4 : tie.Need-same-length-4
+same-length-4 c = search needs
+
+same-length-5 : tie.Need-same-length-5
+same-length-5 c = search needs
+
+returns-7 : tie.Need-returns-7
+returns-7 c = search needs
 
 pub case-of-spec : {M : Type 1} → statement M
 case-of-spec =
@@ -71,17 +95,25 @@ case-of-spec =
     returns-2
     returns-3
     returns-4
-    sub-check
-    part-check-start
-    part-check-end
-    slice-relend-prefix-check
-    slice-aggregate-check
-    slice-relend-prefix-check-2
-    slice-aggregate-check-2
-    slice-relend-prefix-check-3
-    slice-aggregate-check-3
-    check-requires
+    returns-5
+    returns-6
+    sub-call
+    part-call-start
+    part-call-end
+    slice-relend-prefix-call
+    slice-aggregate-call
+    slice-relend-prefix-call-2
+    slice-aggregate-call-2
+    slice-relend-prefix-call-3
+    slice-aggregate-call-3
+    slice-relend-prefix-call-4
+    slice-aggregate-call-4
+    slice-relend-prefix-call-5
+    slice-aggregate-call-5
+    call-requires
     same-length
     same-length-2
     same-length-3
-    returns-5)
+    same-length-4
+    same-length-5
+    returns-7)

@@ -1,23 +1,18 @@
--- `cases::report::changed_rows` is safe and ends. The count is at most the index.
-use mathlib.Core.Logic.{⊎-elim}
-use Prim.Native.Nat.{_≤_, _-_}
+-- `reports::report::ends` is safe and ends. The measure is the number of bytes that are left.
+use Prim.Native.Nat.{_-_}
 use lib.ListN.{length}
 use borrow.Author.Needs.{needs}
-use native.Mathlib.Omega.{arith}
-use Rattle.reports.proofs.report.changed_rows.Statement.{statement}
-use Rattle.reports.proofs.report.changed_rows.Tie as tie
+use Rattle.reports.proofs.report.ends.Statement.{statement}
+use Rattle.reports.proofs.report.ends.Tie as tie
 
 abbrev Inv-loop : tie.InvT-loop
-Inv-loop table from n₀ i₀ n i = n ≤ i
+Inv-loop book n₀ i₀ n i = Unit {0}
 
 abbrev μ-loop : tie.MeasureT-loop
-μ-loop table from n₀ i₀ n i = length table - i
+μ-loop book n₀ i₀ n i = length book - i
 
 loop-holds : tie.Need-loop-holds Inv-loop μ-loop
 loop-holds c = search needs
-
-mul-if1 : tie.Need-mul-if1 Inv-loop μ-loop
-mul-if1 c = search needs
 
 shared-slice-read-if1 : tie.Need-shared-slice-read-if1 Inv-loop μ-loop
 shared-slice-read-if1 c = search needs
@@ -32,19 +27,18 @@ loop-less : tie.Need-loop-less Inv-loop μ-loop
 loop-less c = search needs
 
 loop-again : tie.Need-loop-again Inv-loop μ-loop
-loop-again c = ⊎-elim (λ w. omega arith) (λ w. omega arith) (c .if1 .came)
+loop-again c = search needs
 
 returns : tie.Need-returns Inv-loop μ-loop
 returns c = search needs
 
-pub changed-rows-spec : {M : Type 1} → statement M
-changed-rows-spec =
+pub ends-spec : {M : Type 1} → statement M
+ends-spec =
     tie.close
     (tie.spec
     Inv-loop
     μ-loop
     loop-holds
-    mul-if1
     shared-slice-read-if1
     add-n
     add-i

@@ -1,0 +1,107 @@
+//! The verified program and the baseline on the same calls, and what they leave in every cell.
+
+use super::calls::{pattern, Call, Question};
+use crate::baseline::{self, Notes};
+use crate::random::Random;
+use crate::sizes::CODES;
+use crate::stores::Stores;
+use crate::{verified, Outcome};
+
+const MOST_SHOWN: usize = 5;
+/// Of the refused books every so many is asked about, of the accepted ones every second.
+const REFUSED_ASKED: usize = 8;
+
+/// The two programs side by side, and the counts of what they gave.
+#[derive(Default)]
+pub struct Comparison {
+    ours: Stores,
+    theirs: Stores,
+    codes: [usize; CODES],
+    /// Books with variables put in, with 10 for a completed size alone, for a completed nesting alone, with 5 or 6 ahead
+    /// of such a 10.
+    completed: [usize; 4],
+    /// The codes of `rests_on`; of those with 12, the lists that do not fit.
+    answers: [usize; CODES],
+    unfit: usize,
+    steps: u64,
+    differences: usize,
+}
+
+impl Comparison {
+    /// Compares the checks of a book, then on some books what a line rests on.
+    pub fn compare(&mut self, random: &mut Random, book: &[u8], call: &Call) {
+        let outcome = self.check(book, call);
+        if random.once_in(if outcome.code == 0 { 2 } else { REFUSED_ASKED }) {
+            let question = Question::new(random, &outcome, &self.theirs);
+            self.rests_on(book, call, &outcome, question);
+        }
+    }
+
+    pub fn check(&mut self, book: &[u8], call: &Call) -> Outcome {
+        let mut notes = Notes::default();
+        call.prepare(&mut self.ours);
+        call.prepare(&mut self.theirs);
+        let ours = verified::check(book, call.budget, call.limit, &mut self.ours);
+        let theirs = baseline::check_noting(book, call.budget, call.limit, &mut self.theirs, &mut notes);
+        let alike = self.ours == self.theirs;
+        if ours != theirs || !alike || !call.left_alone(&self.theirs, &theirs) {
+            self.differ(book, &format!("{call:?}\n{ours:?} verified\n{theirs:?} baseline, stores alike: {alike}"));
+        }
+        self.codes[theirs.code as usize] += 1;
+        self.steps += theirs.steps;
+        let met = [notes.put_in > 0, notes.only_completed_size, notes.only_completed_nesting, notes.ahead_of_size];
+        met.iter().zip(&mut self.completed).for_each(|(met, count)| *count += usize::from(*met));
+        theirs
+    }
+
+    /// What the last line rests on, with just enough room and with one cell less.
+    pub fn last_line(&mut self, book: &[u8], call: &Call, outcome: &Outcome) {
+        let accepted = outcome.code == 0 && outcome.line > 0;
+        let length = if accepted { baseline::primitives(outcome.line as usize, &self.theirs).len() } else { 1 };
+        for room in [length, length - 1] {
+            self.rests_on(book, call, outcome, Question { line: outcome.line, room });
+        }
+    }
+
+    /// What a line rests on, by a call whose check has this outcome: it leaves what the check leaves, and the answer.
+    fn rests_on(&mut self, book: &[u8], call: &Call, outcome: &Outcome, question: Question) {
+        call.prepare(&mut self.ours);
+        call.prepare(&mut self.theirs);
+        let Question { line, room } = question;
+        let mut answer: Vec<u32> = (0..room).map(pattern).collect();
+        let mut list = answer.clone();
+        let ours = verified::rests_on(book, call.budget, call.limit, &mut self.ours, line, &mut answer);
+        let theirs = baseline::rests_on(book, call.budget, call.limit, &mut self.theirs, line, &mut list);
+        let alike = self.ours == self.theirs && answer == list;
+        let untouched = (theirs.length as usize..room).all(|i| list[i] == pattern(i));
+        if ours != theirs || !alike || !untouched || !call.left_alone(&self.theirs, outcome) {
+            self.differ(book, &format!("{call:?} {question:?}\n{ours:?} verified\n{theirs:?} baseline, stores alike: {alike}"));
+        }
+        self.answers[theirs.code as usize] += 1;
+        self.unfit += usize::from(outcome.code == 0 && theirs.code == 12);
+    }
+
+    fn differ(&mut self, book: &[u8], how: &str) {
+        self.differences += 1;
+        if self.differences <= MOST_SHOWN {
+            let shown = &book[..book.len().min(20_000)];
+            println!("{how}\n{}\n", shown.escape_ascii().to_string().replace("\\n", "\n"));
+        }
+    }
+
+    /// Prints the counts; true if there was no difference and each code and each situation was met.
+    pub fn report(&self) -> bool {
+        println!("code    check rests_on");
+        for (code, (checks, answers)) in self.codes.iter().zip(&self.answers).enumerate() {
+            println!("{code:>4} {checks:>8} {answers:>8}");
+        }
+        let [put_in, size, nesting, ahead] = self.completed;
+        println!("12 for a list that does not fit: {}", self.unfit);
+        println!("arguments put in: {put_in} books");
+        println!("10 on the completed form alone: {size} for its size, {nesting} for its nesting; 5 or 6 ahead of 10: {ahead}");
+        println!("{} head steps, {} differences", self.steps, self.differences);
+        let of_the_check = &self.codes[..CODES - 1];
+        let counts = of_the_check.iter().chain(&self.answers).chain(&self.completed).chain([&self.unfit]);
+        self.differences == 0 && counts.into_iter().all(|&count| count > 0)
+    }
+}
