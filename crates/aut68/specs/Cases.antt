@@ -16,6 +16,10 @@ unfoldable pub bytesOf : String → List ℕ
 bytesOf end = []
 bytesOf (_then_ c s) = code c ∷ bytesOf s
 
+-- document 01's sample
+unfoldable pub sample : List ℕ
+sample = bytesOf "*nat:=PN:type\n*one:=PN:nat\n*n:=EB:nat\nn*suc:=PN:nat\n*two:=suc(one):nat\n*F:=[x,nat]nat:type\n*plus2:=[x,nat]suc(suc(x)):F\n*four:=<two>plus2:nat\n"
+
 -- a call and its outcome
 pub record Case : Type 0 where
   pub language : Language
@@ -36,9 +40,10 @@ unfoldable pub allHold : List Case → Bool
 allHold [] = true
 allHold (c ∷ cs) = elim (holds c) [ true ↦ allHold cs | false ↦ false ]
 
--- a call and its outcome, with the cells of table and term store that it records
+-- a call and its outcome, with the cells of table and term store that it records; with those of the index, too
 pub data Kept : Type 0 where
   kept : Case → List ℕ → List ℕ → Kept
+  indexed : Case → List ℕ → List ℕ → List ℕ → Kept
 
 unfoldable pub sameNumbers : List ℕ → List ℕ → Bool
 sameNumbers [] [] = true
@@ -46,13 +51,18 @@ sameNumbers [] (y ∷ ys) = false
 sameNumbers (x ∷ xs) [] = false
 sameNumbers (x ∷ xs) (y ∷ ys) = elim (eqb x y) [ true ↦ sameNumbers xs ys | false ↦ false ]
 
-unfoldable pub keepsAs : Ending → Kept → Bool
-keepsAs e (kept c rows cells) =
+unfoldable pub recordsAs : Ending → Case → List ℕ → List ℕ → Bool
+recordsAs e c rows cells =
     let r = recordedAt e in
     endsAs e c && sameNumbers (tableOf (r .firsts) (r .recorded)) rows && sameNumbers (termsOf (r .recorded)) cells
 
+unfoldable pub keepsAs : Ending → Kept → Bool
+keepsAs e (kept c rows cells) = recordsAs e c rows cells
+keepsAs e (indexed c rows cells entries) = recordsAs e c rows cells && sameNumbers (indexOf (recordedAt e .recorded)) entries
+
 unfoldable pub keeps : Kept → Bool
 keeps (kept c rows cells) = keepsAs (run (c .language) (c .book) (c .limits)) (kept c rows cells)
+keeps (indexed c rows cells entries) = keepsAs (run (c .language) (c .book) (c .limits)) (indexed c rows cells entries)
 
 unfoldable pub allKeep : List Kept → Bool
 allKeep [] = true

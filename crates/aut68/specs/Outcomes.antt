@@ -1,6 +1,6 @@
 -- The sixteen outcomes that document 01 calls the proved ones, as one table under one theorem; books that tell its misreadings apart,
--- under another; the example books in AUT-QE, under a third; those with omitted arguments, under a fourth; and the lines that a book
--- of three records.
+-- under another; the example books in AUT-QE, under a third; those with omitted arguments, under a fourth; those with the cells of the
+-- index, under a fifth; and the lines that a book of three records.
 use mathlib.Core.Path.{_≡_, refl}
 use Prim.Native.Nat.{ℕ, zero, suc}
 use mathlib.Core.Bool.{true}
@@ -21,12 +21,10 @@ use Rattle.aut68.specs.Procedure.Compare
 use Rattle.aut68.specs.Procedure.Category
 use Rattle.aut68.specs.Procedure.CheckLine
 use Rattle.aut68.specs.Procedure.Run
-use Rattle.aut68.specs.Cases.{Case, bytesOf, endsAs, holds, allHold, sameNumbers, keepsAs, keeps, allKeep, under, within, usual}
+use Rattle.aut68.specs.Cases.{Case, bytesOf, sample, endsAs, holds, allHold, sameNumbers, recordsAs, keepsAs, keeps, allKeep, under, within, usual}
 use Rattle.aut68.specs.Omitted.{sums, sumRows, sumCells, omittedArguments}
+use Rattle.aut68.specs.Indexed.{sampleRows, sampleCells, sampleIndex, withIndex, indexCells}
 use Rattle.aut68.specs.ExamplesQE.{naturals, families, examplesQE}
-
-unfoldable pub sample : List ℕ
-sample = bytesOf "*nat:=PN:type\n*one:=PN:nat\n*n:=EB:nat\nn*suc:=PN:nat\n*two:=suc(one):nat\n*F:=[x,nat]nat:type\n*plus2:=[x,nat]suc(suc(x)):F\n*four:=<two>plus2:nat\n"
 
 -- ---- the twelve rows of the table; the row of code 2 has two calls
 
@@ -159,8 +157,8 @@ numberLines =
 
 -- ---- the tables, computed
 
-computed : (allHold (tableRows ++ fourOutcomes) ≡ true) × (allHold (misreadings ++ procedureOrder) ≡ true) × (allHold examplesQE ≡ true) × (allKeep omittedArguments ≡ true) × (Run.recordedAt (Run.run aut68 numbers (record { budget = 0; limit = 16; table = 24; terms = 8; work = 2048; index = 16384 })) .recorded ≡ numberLines)
-unfolding numbers numberLines allHold endsAs holds sameNumbers keepsAs keeps allKeep under within usual sums sumRows sumCells omittedArguments naturals families examplesQE sample longer tableRows fourOutcomes selfNamed swapped renumbered stepsRemain misreadings equality pairs repeated nested deep procedureOrder bytesOf
+computed : (allHold (tableRows ++ fourOutcomes) ≡ true) × (allHold (misreadings ++ procedureOrder) ≡ true) × (allHold examplesQE ≡ true) × (allKeep omittedArguments ≡ true) × (allKeep indexCells ≡ true) × (Run.recordedAt (Run.run aut68 numbers (record { budget = 0; limit = 16; table = 24; terms = 8; work = 2048; index = 16384 })) .recorded ≡ numberLines)
+unfolding numbers numberLines allHold endsAs holds sameNumbers recordsAs keepsAs keeps allKeep under within usual sums sumRows sumCells omittedArguments sampleRows sampleCells sampleIndex withIndex indexCells naturals families examplesQE sample longer tableRows fourOutcomes selfNamed swapped renumbered stepsRemain misreadings equality pairs repeated nested deep procedureOrder bytesOf
     Answer.codeOf Answer.andThen Answer.when Answer.ensure Answer.aside
     Bytes.nameByte Bytes.opensExpression Bytes.sameBytes Bytes.wordType Bytes.wordPN Bytes.wordEB Bytes.wordProp Bytes.reserved Bytes.onto Bytes.lines
     Source.countSrcs
@@ -175,7 +173,7 @@ unfolding numbers numberLines allHold endsAs holds sameNumbers keepsAs keeps all
     Category.nth Category.theLine Category.made Category.headForm Category.parts Category.toFunction Category.servesAsType Category.opens Category.secondChance Category.categoryAt Category.searches Category.category
     CheckLine.withinLimits CheckLine.middleWithinLimits CheckLine.readLine CheckLine.room CheckLine.store CheckLine.checkDomain CheckLine.checkSupertype CheckLine.checkWritten CheckLine.checkMiddle CheckLine.checkCategories CheckLine.checkLine
     Run.codeAt Run.lineAt Run.stepsAt Run.recordedAt Run.over Run.tableEnd Run.termsEnd Run.workEnd Run.oneMore Run.checkLines Run.nothing Run.run
-computed = (refl, refl, refl, refl, refl)
+computed = (refl, refl, refl, refl, refl, refl)
 
 pub outcomes : allHold (tableRows ++ fourOutcomes) ≡ true
 outcomes = computed .0
@@ -190,5 +188,9 @@ examples-hold = computed .2
 pub omitted-arguments : allKeep omittedArguments ≡ true
 omitted-arguments = computed .3
 
+-- the index of a book, line after line: a count and the lines that the completed line names
+pub index-cells : allKeep indexCells ≡ true
+index-cells = computed .4
+
 pub numbers-recorded : Run.recordedAt (Run.run aut68 numbers (record { budget = 0; limit = 16; table = 24; terms = 8; work = 2048; index = 16384 })) .recorded ≡ numberLines
-numbers-recorded = computed .4
+numbers-recorded = computed .5

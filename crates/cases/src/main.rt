@@ -86,7 +86,15 @@ fn ask(
     );
     let r = verifier::answer_numbers(a);
     report::answer(r, answer);
-    report_stores(h, report::admitted(r, book), book, table, terms, work, index);
+    report_stores(
+        h,
+        report::admitted(r, book),
+        book,
+        table,
+        terms,
+        work,
+        index,
+    );
 }
 
 // One of the two calls.
