@@ -56,8 +56,10 @@ impl Comparison {
 
     /// What the last line rests on, with just enough room and with one cell less.
     pub fn last_line(&mut self, book: &[u8], call: &Call, outcome: &Outcome) {
-        let accepted = outcome.code == 0 && outcome.line > 0;
-        let length = if accepted { baseline::primitives(outcome.line as usize, &self.theirs).len() } else { 1 };
+        if outcome.code != 0 {
+            return;
+        }
+        let length = baseline::primitives(outcome.line as usize, &self.theirs).len();
         for room in [length, length - 1] {
             self.rests_on(book, call, outcome, Question { line: outcome.line, room });
         }
