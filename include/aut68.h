@@ -1,4 +1,5 @@
-/* The check of an AUT-68 book, and calls on accepted books, for C. The library is target/staticlib/libc_api.a, which `rt staticlib c_api` writes. */
+/* The check of an AUT-68 book, and calls on accepted books, for C.
+   The library is target/staticlib/libc_api.a, which `rt staticlib c_api` writes. */
 #ifndef AUT68_H
 #define AUT68_H
 
@@ -17,8 +18,8 @@ enum {
     AUT68_ROW_WIDTH = 8     /* table cells for each line */
 };
 
-/* What the check of a book ends with: 0 to 12. Codes 0 and 3 to 9 are verdicts; 3 to 9 call the book wrong. Any other call on a book
-   checks it first and passes a refusal on; of an accepted book it ends with 0, 12 or 13. */
+/* What the check of a book ends with: 0 to 12. Codes 0 and 3 to 9 are verdicts; 3 to 9 call the book wrong. Any other call on a
+   book checks it first and passes a refusal on; of an accepted book it ends with 0, 12 or 13. */
 enum {
     AUT68_ACCEPTED = 0,
     AUT68_WORK_TOO_SMALL = 1,     /* under AUT68_WORK_UNITS * limit working cells; line 0, nothing written */
@@ -32,8 +33,8 @@ enum {
     AUT68_MISMATCH = 9,
     AUT68_TOO_LARGE = 10,         /* an expression, completed, larger than the limit or nested above 32; or compared below depth 32 */
     AUT68_OUT_OF_BUDGET = 11,
-    AUT68_OUT_OF_SPACE = 12,      /* table, shelf or index full, line 8,192, a book of more than 16,777,215 bytes (line 0), or an answer
-                                     that does not fit (line 0) */
+    AUT68_OUT_OF_SPACE = 12,      /* table, shelf or index full, line 8,192, a book of more than 16,777,215 bytes (line 0), or an
+                                     answer that does not fit (line 0) */
     AUT68_NO_SUCH_LINE = 13       /* the line is 0 or above the last */
 };
 
@@ -62,15 +63,16 @@ enum {
 /* Checks a book. Lengths count elements.
    book: read only. budget: head steps allowed over the book. limit: cells of the largest expression, 16 to 4,096.
    table: AUT68_ROW_WIDTH cells a line. terms: the shelf, the cells of all middles and categories, completed: arguments that the
-   book leaves out are there. work: at least AUT68_WORK_UNITS * limit cells. index: for each line a count and as many cells, the lines
-   that it names: its indicator, and the variables and constants of its middle and category, completed; ascending, each once.
+   book leaves out are there. work: at least AUT68_WORK_UNITS * limit cells. index: for each line a count and as many cells, the
+   lines that it names: its indicator, and the variables and constants of its middle and category, completed; ascending, each once.
    It asks nothing of any value. Each pointer must be valid for its length, and the four stores must not overlap each other or
    the book. A pointer to no elements may be anything but null. The call keeps no pointer and takes no memory of its own.
 
    Afterwards:
    - codes 1 and 2: every cell of the four stores is as it was;
    - else table, terms and index hold, from their start on, the rows, cells and entries of the lines before the refused one (of all
-     lines, if accepted), the first AUT68_WORK_UNITS * limit cells of work are 0, and every other cell of the four stores is as it was.
+     lines, if accepted), the first AUT68_WORK_UNITS * limit cells of work are 0, and every other cell of the four stores is as it
+     was.
 
    Stack: nothing proves how much a call needs. Measured on x86-64: about 40 KB for a book nested as deep as lines may be, and at
    most about 1 MB, where expressions grow to 4,096 cells of nested abstractions; in proportion less under a smaller limit. */
@@ -81,8 +83,8 @@ Aut68Outcome aut68_check(const uint8_t *book, size_t book_length,
                          Aut68Cell *work, size_t work_length,
                          uint32_t *index, size_t index_length);
 
-/* What a call on an accepted book ends with. A refusal of its check is passed on: code, line and steps as above, length 0. Else line is
-   0, steps are the call's own head steps, and length is that of the answer it wrote; 0, if code is not 0. */
+/* What a call on an accepted book ends with. A refusal of its check is passed on: code, line and steps as above, length 0. Else
+   line is 0, steps are the call's own head steps, and length is that of the answer it wrote; 0, if code is not 0. */
 typedef struct {
     uint32_t code;
     uint32_t line;
@@ -90,13 +92,14 @@ typedef struct {
     uint32_t length;
 } Aut68Answer;
 
-/* Tells what a line of a book rests on: the PN lines that are reached from it by following names, itself included, ascending, each once.
-   The book is checked first, with all that aut68_check says of its arguments and of the four stores afterwards. Then, in this order:
+/* Tells what a line of a book rests on: the PN lines that are reached from it by following names, itself included, ascending, each
+   once. The book is checked first, with all that aut68_check says of its arguments and of the four stores afterwards. Then, in this
+   order:
    - the line is 0 or above the last: 13;
    - the list has more lines than the answer has cells: 12;
    - else 0; the list is in the first cells of the answer, as many as length says.
-   steps are 0. Every other cell of the answer is as it was; after any code but 0 all of them are. The answer must not overlap the stores
-   or the book. With all lines deleted that are not reached, the book is still correct. */
+   steps are 0. Every other cell of the answer is as it was; after any code but 0 all of them are. The answer must not overlap the
+   stores or the book. With all lines deleted that are not reached, the book is still correct. */
 Aut68Answer aut68_rests_on(const uint8_t *book, size_t book_length,
                            uint32_t budget, uint32_t limit,
                            uint32_t *table, size_t table_length,

@@ -43,8 +43,11 @@ pub fn books() -> Vec<(Vec<u8>, Call)> {
 /// A book in which every second line rests on all that stands before it.
 fn chain(lines: usize) -> Vec<u8> {
     let mut text = String::from("*b0:=PN:type\n*x:=EB:type\nx*y:=EB:type\ny*pair:=PN:type\n");
-    for i in 5..=lines {
-        text.push_str(&if i % 2 == 1 { format!("*a{i}:=PN:type\n") } else { format!("*b{}:=pair(b{},a{}):type\n", i / 2 - 2, i / 2 - 3, i - 1) });
+    for i in 1..=(lines - 3) / 2 {
+        text.push_str(&format!("*a{i}:=PN:type\n"));
+        if 2 * i + 4 <= lines {
+            text.push_str(&format!("*b{i}:=pair(b{},a{i}):type\n", i - 1));
+        }
     }
     text.into_bytes()
 }
