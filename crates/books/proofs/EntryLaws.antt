@@ -61,7 +61,7 @@ module _ {limit size indicator count : ℕ} {w w′ : List ℕ} (names : NamesPo
 -- ---- the entry
 
 module _ {l : L.Line} {limit count : ℕ} {w : List ℕ} (large : 1 ≤ limit) (enough : workUnits * limit ≤ length w) (put : NamesPut l limit count w) where
-  pub count-is : count ≡ length (namesOf l)
+  count-is : count ≡ length (namesOf l)
   count-is =
       let f = put .fits in
       sym (omega (arith, length-slice (namesAt limit) (namesAt limit + count) w (omega arith))) ∙ ap length (put .are)

@@ -61,7 +61,7 @@ bound-names i = rw (kind-is i 2 (omega arith), namesLine)
 mutual
   unfolding mentioned cells numbersIn namesLine
 
-  pub numbers-cells : (e : Expr) → numbersIn (cells e) ≡ mentioned e
+  numbers-cells : (e : Expr) → numbersIn (cells e) ≡ mentioned e
   numbers-cells type = refl
   numbers-cells prop = refl
   numbers-cells (var v) = number-one (cellFactor * v + 1) v [] (variable-names v) (omega arith)

@@ -1,17 +1,16 @@
 -- `check_line`: each of its four ends is one of LineLaws.
-use mathlib.Core.Path.{_∙_}
+use mathlib.Core.Path.{refl, _∙_}
 use Prim.Native.Nat.{suc, _+_, _*_, _≤_, _<_}
 use native.Mathlib.Omega.{arith}
 use lib.ListN.{length}
 use Rattle.aut68.specs.Sizes.{lineLimit, rowWidth}
 use Rattle.storage.proofs.RowLaws.{room-facts}
 use Rattle.books.proofs.LineLaws.{line-as, ends-unread, ends-full, ends-refused, ends-passed}
-use borrow.Author.Needs.{needs}
 use Rattle.books.proofs.lines.check_line.Statement.{statement}
 use Rattle.books.proofs.lines.check_line.Tie as tie
 
 line-end-requires : tie.Need-line-end-requires
-line-end-requires c κs = search needs
+line-end-requires c κs = tt
 
 sub-read-line : tie.Need-sub-read-line
 sub-read-line c = omega (arith, c .line-end .ensures .from (c .before .before .before .before .before .before .pre))
@@ -23,16 +22,16 @@ part-read-line-end : tie.Need-part-read-line-end
 part-read-line-end c = c .line-end .ensures .within (omega (arith, c .before .before .before .before .before .before .pre))
 
 read-line-requires : tie.Need-read-line-requires
-read-line-requires c κs = search needs
+read-line-requires c κs = tt
 
 stopped-requires : tie.Need-stopped-requires
-stopped-requires c κs = search needs
+stopped-requires c κs = tt
 
 same-length : tie.Need-same-length
-same-length c = search needs
+same-length c = refl
 
 same-length-2 : tie.Need-same-length-2
-same-length-2 c = search needs
+same-length-2 c = c .before .before .before .before .before .read-line .kept .1 .1 .1 .1 .1 .0
 
 returns : tie.Need-returns
 returns c =
@@ -49,19 +48,19 @@ returns c =
     })
 
 line-names-requires : tie.Need-line-names-requires
-line-names-requires c κs = search needs
+line-names-requires c κs = tt
 
 has-room-requires : tie.Need-has-room-requires
-has-room-requires c κs = search needs
+has-room-requires c κs = tt
 
 stopped-requires-2 : tie.Need-stopped-requires-2
-stopped-requires-2 c κs = search needs
+stopped-requires-2 c κs = tt
 
 same-length-3 : tie.Need-same-length-3
-same-length-3 c = search needs
+same-length-3 c = refl
 
 same-length-4 : tie.Need-same-length-4
-same-length-4 c = search needs
+same-length-4 c = c .before .before .before .before .before .line-names .kept .0 ∙ c .before .before .before .before .before .before .before .before .before .before .before .read-line .kept .1 .1 .1 .1 .1 .0
 
 returns-2 : tie.Need-returns-2
 returns-2 c =
@@ -82,7 +81,7 @@ returns-2 c =
     })
 
 sum-requires : tie.Need-sum-requires
-sum-requires c κs = search needs
+sum-requires c κs = tt
 
 -- what is known where there is room
 room-here : (c : tie.Else2)
@@ -104,13 +103,13 @@ check-stored-requires : tie.Need-check-stored-requires
 check-stored-requires c κs = room-here (c .before .before .before .before) .2
 
 stopped-requires-3 : tie.Need-stopped-requires-3
-stopped-requires-3 c κs = search needs
+stopped-requires-3 c κs = tt
 
 same-length-5 : tie.Need-same-length-5
-same-length-5 c = search needs
+same-length-5 c = c .before .before .before .before .before .before .before .before .before .check-stored .kept .0
 
 same-length-6 : tie.Need-same-length-6
-same-length-6 c = search needs
+same-length-6 c = c .before .before .before .before .before .before .before .before .before .check-stored .kept .1 .0
 
 same-length-7 : tie.Need-same-length-7
 same-length-7 c =
@@ -142,13 +141,13 @@ returns-3 c =
     })
 
 names-at-requires : tie.Need-names-at-requires
-names-at-requires c κs = search needs
+names-at-requires c κs = tt
 
 put-entry-requires : tie.Need-put-entry-requires
-put-entry-requires c κs = search needs
+put-entry-requires c κs = tt
 
 note-line-requires : tie.Need-note-line-requires
-note-line-requires c κs = search needs
+note-line-requires c κs = tt
 
 add-t20 : tie.Need-add-t20
 add-t20 c = omega (arith, room-here (c .before .before .before .before .before .before .before .before .before .before .before .before .before .before .before .before .before .before .before .before .before .before .before .before) .0)
@@ -172,13 +171,13 @@ add-t47 c =
     omega (arith, start .good .1 .1 .1 .1 .0 .0, room-here room .3)
 
 same-length-8 : tie.Need-same-length-8
-same-length-8 c = search needs
+same-length-8 c = c .before .before .before .before .before .before .before .before .before .before .before .before .before .before .before .before .before .before .before .before .before .check-stored .kept .0
 
 same-length-9 : tie.Need-same-length-9
-same-length-9 c = search needs
+same-length-9 c = c .before .before .before .before .before .before .before .before .before .before .before .before .before .before .before .before .before .before .before .before .before .check-stored .kept .1 .0
 
 same-length-10 : tie.Need-same-length-10
-same-length-10 c = search needs
+same-length-10 c = c .before .before .before .before .before .before .before .before .before .put-entry .kept .0
 
 same-length-11 : tie.Need-same-length-11
 same-length-11 c =
