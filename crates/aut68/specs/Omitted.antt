@@ -2,7 +2,7 @@
 use Prim.Native.Nat.{ℕ}
 use mathlib.Core.List.{List, [], _∷_, _++_}
 use Rattle.aut68.specs.Language.{aut68}
-use Rattle.aut68.specs.Cases.{Kept, kept, bytesOf, under, within, usual}
+use Rattle.aut68.specs.Cases.{Kept, kept, bytesOf, under, usual}
 
 -- five lines that most of the books begin with, their rows and cells
 unfoldable pub sums : List ℕ

@@ -11,7 +11,7 @@ use Rattle.aut68.specs.Lines.{Line, Lines}
 use Rattle.aut68.specs.Index.{namesOf}
 use Rattle.aut68.specs.Renumbering.{renumberLine}
 use Rattle.aut68.specs.Procedure.Calls.{declineCode, noSuchLine, answerTooLong}
-use Rattle.aut68.specs.Procedure.Run.{Ending, run, codeAt, lineAt, stepsAt, recordedAt, over}
+use Rattle.aut68.specs.Procedure.Run.{run, codeAt, lineAt, stepsAt, recordedAt, over}
 use Rattle.aut68.specs.Rules.Names.{IsLine, Member}
 use Rattle.aut68.specs.Rules.Derivation.{Derived, Correct}
 use Rattle.aut68.specs.Rules.Following.{NamesLine, Reaches, Ascends, RestsOn, Deleted}

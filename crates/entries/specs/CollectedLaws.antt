@@ -1,5 +1,5 @@
 -- Laws: lines collected behind others.
-use mathlib.Core.Path.{_≡_, refl, sym, ap, ap₂, _∙_}
+use mathlib.Core.Path.{_≡_, refl, sym, ap, _∙_}
 use mathlib.Core.Logic.{_⊎_, _≢_, inl, inr}
 use mathlib.Core.Bool.{Bool, true, false}
 use mathlib.Core.List.{List, [], _∷_, _++_, append-assoc, append-nil}
@@ -8,7 +8,7 @@ use native.Mathlib.Nat.{add-zero}
 use native.Mathlib.Decide.{ℕ-discrete}
 use native.Mathlib.Omega.{arith}
 use lib.ListN.{length, getD, take, drop, set, length-set, length-append}
-use lib.Seq.{slice, slice-empty, take-set-le, take-set-lt, drop-set-lt, take-suc, drop-append-le, length-take-le, take-take, drop-drop, getD-take, getD-drop, getD-set-same, getD-set-other}
+use lib.Seq.{slice, slice-empty, take-set-le, take-set-lt, drop-set-lt, getD-take, getD-drop, getD-set-same, getD-set-other}
 use Rattle.aut68.specs.Sizes.{cellFactor}
 use Rattle.aut68.specs.Rules.Names.{Member, here}
 use Rattle.lookup.specs.Lists.{member-left, member-right, member-snoc}

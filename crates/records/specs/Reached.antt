@@ -3,12 +3,12 @@ use mathlib.Core.Path.{_≡_, refl, sym, ap, _∙_, subst}
 use mathlib.Core.Logic.{_⊎_, inl, inr}
 use mathlib.Core.Bool.{Bool, true, false, _&&_, false≢true}
 use mathlib.Core.List.{List, [], _∷_, _++_}
-use Prim.Native.Nat.{ℕ, zero, suc, _+_, _-_, _*_, _≤_, _<_}
+use Prim.Native.Nat.{ℕ, suc, _+_, _-_, _*_, _≤_, _<_}
 use native.Mathlib.Nat.{add-assoc}
 use native.Mathlib.Omega.{arith}
 use lib.Dec.{leb, ltb}
 use lib.ListN.{length, take, drop, length-append}
-use lib.Seq.{slice, sets, take-take, drop-drop, take-nil, length-slice}
+use lib.Seq.{slice, sets, take-take, drop-drop, length-slice}
 use borrow.Author.Tests.{ltb-true, leb-true}
 use Rattle.aut68.specs.Language.{Language}
 use Rattle.aut68.specs.Sizes.{lineLimit, rowWidth}

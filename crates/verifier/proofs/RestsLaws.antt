@@ -5,7 +5,7 @@ use mathlib.Core.List.{List, _++_}
 use Prim.Native.Nat.{ℕ, _*_, _≤_, _<_}
 use native.Mathlib.Omega.{arith}
 use lib.ListN.{length, take, drop, replicate, length-replicate, length-take, take-append-drop}
-use lib.Seq.{take-at, drop-at}
+use lib.Seq.{take-at}
 use Rattle.aut68.specs.Language.{aut68}
 use Rattle.aut68.specs.Sizes.{workUnits}
 use Rattle.aut68.specs.Stores.{Stores, stores, limitsOf}
@@ -13,7 +13,7 @@ use Rattle.aut68.specs.Bytes.{Bytes}
 use Rattle.aut68.specs.Lines.{Lines}
 use Rattle.aut68.specs.Procedure.Answer.{Refusal, codeOf}
 use Rattle.aut68.specs.Procedure.Calls.{declineCode, noSuchLine, answerTooLong}
-use Rattle.aut68.specs.Procedure.Run.{Ending, turnedAway, accepted, refusedAt, run, codeAt, lineAt, recordedAt, over, workEnd}
+use Rattle.aut68.specs.Procedure.Run.{Ending, turnedAway, accepted, refusedAt, run, codeAt, recordedAt, over, workEnd}
 use Rattle.aut68.specs.Demands.{Verdict, Accepted, Determined}
 use Rattle.aut68.specs.Resting.{Told, noLine, tooLong, written, TellsRests}
 use Rattle.lookup.specs.Answers.{code-positive}

@@ -1,6 +1,6 @@
 -- `rests_on`: a refusal is passed on; else there is no such line, or what it rests on is told (RestsLaws).
-use mathlib.Core.Path.{sym, _∙_}
-use mathlib.Core.Logic.{inl, inr, ⊎-elim}
+use mathlib.Core.Path.{sym}
+use mathlib.Core.Logic.{inl, inr}
 use native.Mathlib.Omega.{arith}
 use lib.Seq.{length-take-le}
 use Rattle.aut68.specs.Language.{aut68}
