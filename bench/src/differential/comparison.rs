@@ -54,7 +54,7 @@ impl Comparison {
         theirs
     }
 
-    /// What the last line rests on, with just enough room and with one cell less.
+    /// What the last line of an accepted book rests on, with just enough room and with one cell less.
     pub fn last_line(&mut self, book: &[u8], call: &Call, outcome: &Outcome) {
         if outcome.code != 0 {
             return;

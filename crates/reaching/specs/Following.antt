@@ -15,8 +15,7 @@ use Rattle.aut68.specs.Rules.Names.{IsLine, Member}
 use Rattle.aut68.specs.Index.{mentionedBy}
 use Rattle.aut68.specs.Rules.Following.{NamesLine, Reaches, itself, onward, Beneath, RestsOn}
 use Rattle.lookup.specs.Lists.{no-member}
-use Rattle.lookup.specs.LineNumbers.{line-positive, line-unique}
-use Rattle.lookup.specs.LineNumbers.{line-at}
+use Rattle.lookup.specs.LineNumbers.{line-positive, line-unique, line-at}
 use Rattle.lookup.specs.Following.{HasLine, reaches-within}
 use Rattle.lookup.specs.Tests.{and-true}
 use Rattle.marks.specs.Marks.{marked, MarkPost}
@@ -24,7 +23,7 @@ use Rattle.marks.specs.MarkLaws.{none-marked}
 use Rattle.reaching.specs.Adding.{AddsMarks, adds-none, adds-other}
 use Rattle.reaching.specs.RowNames.{rowNames, row-names}
 use Rattle.reaching.specs.Primitives.{marked-kind, unmarked-primitive, isMarkedPrimitive, markedPrimitives, oneIf, primitives-length, primitives-same, primitive-within, primitive-member, primitives-ascend}
-use Rattle.reaching.specs.Posts.{visited, VisitPost, Followable, Followed, ReachedPost, MarkedPost, Told, BeneathPost}
+use Rattle.reaching.specs.Posts.{visited, VisitPost, Followable, Followed, ReachedPost, MarkedPost, Answered, BeneathPost}
 
 -- ---- the kind on a row
 
@@ -180,8 +179,8 @@ module _ {ls : Lines} {tb ts : List ℕ} {line size : ℕ} (can : Followable ls 
             primitive-member tb w 0 line (line-positive (b .isLine)) (omega arith)
             (primitive-marked tb w u (all-marked (b .reached)) (can .rows .row (b .isLine) .kindIs ∙ ap kindNumber (b .isPrimitive)))
 
-    told : {old new : List ℕ} → (count ≤ length old → MarkedPost tb line w old new) → (length old < count → new ≡ old) → Told ls line old count new
-    told put not =
+    answered : {old new : List ℕ} → (count ≤ length old → MarkedPost tb line w old new) → (length old < count → new ≡ old) → Answered ls line old count new
+    answered put not =
         let e = f .countIs line (omega arith) in
         record {
           list = markedPrimitives tb w 0 line;
@@ -198,7 +197,5 @@ beneath-post {tb} {ts} {w} {line = line} r put not z =
     record {
       zeros = z ∙ ap (λ (n : ℕ). replicate n 0) (r .long);
       few = r .few;
-      tells = λ ls rows stored before positive within room e.
-          let can : Followable ls tb ts line (length w) = record { rows = rows; stored = stored; before = before; positive = positive; within = within; room = room } in
-          told can (r .followed ls can e) put not;
+      answered = λ ls can e. answered can (r .followed ls can e) put not;
     }

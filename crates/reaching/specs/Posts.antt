@@ -48,7 +48,7 @@ pub record MarkedPost (tb : List ℕ) (line : ℕ) (w old new : List ℕ) : Type
   pub written : length (markedPrimitives tb w 0 line) ≤ length old → new ≡ over (markedPrimitives tb w 0 line) old
 
 -- what line v rests on, so many `PN` lines, is written in the first cells of the answer if it has room for them
-pub record Told (ls : Lines) (v : ℕ) (old : List ℕ) (count : ℕ) (new : List ℕ) : Type 0 where
+pub record Answered (ls : Lines) (v : ℕ) (old : List ℕ) (count : ℕ) (new : List ℕ) : Type 0 where
   pub list : List ℕ
   pub restsOn : RestsOn ls v list
   pub countIs : count ≡ length list
@@ -58,5 +58,4 @@ pub record Told (ls : Lines) (v : ℕ) (old : List ℕ) (count : ℕ) (new : Lis
 pub record BeneathPost (tb ts : List ℕ) (line : ℕ) (w old : List ℕ) (count : ℕ) (w′ new : List ℕ) : Type 0 where
   pub zeros : w′ ≡ replicate (length w) 0
   pub few : count ≤ line
-  pub tells : (ls : Lines) → Rows ls tb → Stored ls tb ts → NamesBefore ls → 1 ≤ line → line ≤ length ls → line < cellMarks * length w
-      → w ≡ replicate (length w) 0 → Told ls line old count new
+  pub answered : (ls : Lines) → Followable ls tb ts line (length w) → w ≡ replicate (length w) 0 → Answered ls line old count new

@@ -3,7 +3,7 @@ use mathlib.Core.Path.{_≡_, refl, sym, ap, _∙_, subst}
 use mathlib.Core.Logic.{_⊎_, inl, inr}
 use mathlib.Core.Bool.{Bool, true, false, _&&_, false≢true}
 use mathlib.Core.List.{List, [], _∷_, _++_}
-use Prim.Native.Nat.{ℕ, suc, _+_, _-_, _*_, _≤_, _<_}
+use Prim.Native.Nat.{ℕ, zero, suc, _+_, _-_, _*_, _≤_, _<_}
 use native.Mathlib.Nat.{add-assoc}
 use native.Mathlib.Omega.{arith}
 use lib.Dec.{leb, ltb}
@@ -21,8 +21,10 @@ use Rattle.aut68.specs.Procedure.Answer.{done}
 use Rattle.aut68.specs.Procedure.CheckLine.{Passed, checkLine, room}
 use Rattle.aut68.specs.Procedure.Run.{Recorded, nothing, oneMore, over}
 use Rattle.aut68.specs.Rules.Names.{IsLine, Context, noContext, within}
-use Rattle.aut68.specs.Rules.Derivation.{Derived, noMore, line}
-use Rattle.lookup.specs.LineNumbers.{no-line, line-within, line-snoc}
+use Rattle.aut68.specs.Rules.Derivation.{Derived, noMore}
+use Rattle.lookup.specs.LineNumbers.{no-line, line-positive, line-within, line-snoc}
+use Rattle.lookup.specs.Mentions.{IndicatorMentions, named-mentions}
+use Rattle.lookup.specs.Following.{named-before}
 use Rattle.lookup.specs.DerivedBooks.{derived-snoc}
 use Rattle.cells.specs.Slices.{run-is-slice}
 use Rattle.verdicts.specs.LineVerdicts.{passed-derivation}
@@ -39,19 +41,13 @@ pub context-before : {ls : Lines} {v : ℕ} {vs : List ℕ} → Context ls v vs 
 context-before noContext = omega arith
 context-before (within i k c) = line-within i
 
-derived-before : {language : Language} {ls all : Lines} {pieces : List Bytes} → Derived language ls pieces all → IndicatorsBefore ls → IndicatorsBefore all
-derived-before noMore h = h
-derived-before (line {ls} {l = n} d r) h = derived-before r (λ v l i. at (line-snoc ls i) (λ j. h v l j))
-  where
-    at : {v : ℕ} {l : Line} → IsLine ls v l ⊎ ((l ≡ n) × (v ≡ suc (length ls))) → (IsLine ls v l → l .indicator < v) → l .indicator < v
-    at (inl i) f = f i
-    at (inr (e, q)) f =
-        let b = context-before (d .contextIs) in
-        let k = ap (λ (x : Line). x .indicator) e in
-        omega (arith, b, k, q)
-
 pub indicators-before : {language : Language} {ls : Lines} {pieces : List Bytes} → Derived language [] pieces ls → IndicatorsBefore ls
-indicators-before d = derived-before d (λ v l i. absurd (no-line i))
+unfolding IndicatorMentions
+indicators-before d v l i = below (l .indicator) (named-mentions (λ u. (1 ≤ u) × (u < v)) l (λ u m. named-before d v l u i m) .0)
+  where
+    below : (k : ℕ) → IndicatorMentions (λ u. (1 ≤ u) × (u < v)) k → k < v
+    below zero h = line-positive i
+    below (suc k) h = h .1
 
 -- ---- room
 

@@ -1,6 +1,6 @@
 -- What a line rests on, told from the stores that the admission left.
 use mathlib.Core.Path.{_≡_, refl, sym, ap, _∙_, subst}
-use mathlib.Core.Logic.{_⊎_, _≢_, inl, inr}
+use mathlib.Core.Logic.{_⊎_, _≢_, inl, inr, ⊎-elim}
 use mathlib.Core.List.{List, _++_}
 use Prim.Native.Nat.{ℕ, _*_, _≤_, _<_}
 use native.Mathlib.Omega.{arith}
@@ -21,19 +21,13 @@ use Rattle.lookup.specs.Following.{named-before}
 use Rattle.lookup.specs.Runs.{verdict-admitted}
 use Rattle.records.specs.OnRecord.{on-record}
 use Rattle.cells.specs.Rows.{Rows, Stored}
-use Rattle.reaching.specs.Posts.{BeneathPost}
-use Rattle.reaching.specs.Posts as P
+use Rattle.reaching.specs.Posts.{Answered, BeneathPost}
 use Rattle.theorems.specs.Resting.{accepted-lines, tells-rests}
+use Rattle.verifier.proofs.EndingCodes.{ending-code}
 
 -- the code of a refusal
 pub refusal-code : {e : Ending} {L : ℕ} {s s′ : Stores} {code line steps x : ℕ} → Determined e L s code line steps s′ → code ≢ 0 → ((r : Refusal) → code ≡ codeOf r → x ≡ code) → x ≡ code
-unfolding codeAt
-refusal-code {e} {code = code} {x = x} d n h = of e (d .codeIs)
-  where
-    of : (e : Ending) → code ≡ codeAt e → x ≡ code
-    of (turnedAway r) q = h r q
-    of (accepted m k) q = absurd (n q)
-    of (refusedAt r l m k) q = h r q
+refusal-code {e} d n h = ⊎-elim (λ z. absurd (n (d .codeIs ∙ z))) (λ (r, q). h r (d .codeIs ∙ q)) (ending-code e)
 
 module _ (book : Bytes) (N L : ℕ) (s : Stores) {code line steps : ℕ} {tb ts w ix : List ℕ}
     (d : Determined (run aut68 book (limitsOf N L s)) L s code line steps (stores tb ts w ix)) (accept : code ≡ 0) where
@@ -89,14 +83,21 @@ module _ (book : Bytes) (N L : ℕ) (s : Stores) {code line steps : ℕ} {tb ts 
         ∙ ap (λ (x : List ℕ). x ++ drop (workUnits * L) w) (sym front-zeros)
         ∙ take-append-drop (workUnits * L) w
 
-    lines-told : P.Told (recordedAt ending .recorded) v old count new
-    lines-told =
+    answer-is : Answered (recordedAt ending .recorded) v old count new
+    answer-is =
         let o = on-record aut68 book N L s verdict in
         let a = verdict-admitted aut68 book (limitsOf N L s) verdict .atLeast in
         let few = o .held .few in
         let e = last-line in
-        post .tells (recordedAt ending .recorded) (subst (Rows (recordedAt ending .recorded)) (sym (d .tableIs)) (o .held .rows))
-        (stored-as (sym (d .tableIs)) (sym (d .termsAre)) (o .held .stored)) (named-before (o .derived)) first (omega arith) (omega (arith, front-long))
+        post .answered (recordedAt ending .recorded)
+        (record {
+          rows = subst (Rows (recordedAt ending .recorded)) (sym (d .tableIs)) (o .held .rows);
+          stored = stored-as (sym (d .tableIs)) (sym (d .termsAre)) (o .held .stored);
+          before = named-before (o .derived);
+          positive = first;
+          within = omega arith;
+          room = omega (arith, front-long);
+        })
         (front-zeros ∙ ap (λ (n : ℕ). replicate n 0) (sym front-long))
       where
         stored-as : {ls : Lines} {tb tb′ ts ts′ : List ℕ} → tb ≡ tb′ → ts ≡ ts′ → Stored ls tb ts → Stored ls tb′ ts′
@@ -108,14 +109,14 @@ module _ (book : Bytes) (N L : ℕ) (s : Stores) {code line steps : ℕ} {tb ts 
 
     pub tells-too-long : length old < count → TellsRests aut68 book N L s v old (declineCode answerTooLong) 0 0 0 (stores tb ts (w′ ++ drop (workUnits * L) w) ix) new
     tells-too-long h =
-        let t = lines-told in
+        let t = answer-is in
         let e = t .countIs in
         rw stores-same
         (tells-rests aut68 book N L s d accept (tooLong (t .list) first (omega (arith, last-line)) (t .restsOn) (omega arith) refl refl (t .untouched (omega arith))))
 
     pub tells-list : count ≤ length old → {k : ℕ} → k ≡ count → TellsRests aut68 book N L s v old 0 0 0 k (stores tb ts (w′ ++ drop (workUnits * L) w) ix) new
     tells-list h q =
-        let t = lines-told in
+        let t = answer-is in
         let e = t .countIs in
         rw stores-same
         (tells-rests aut68 book N L s d accept (written (t .list) first (omega (arith, last-line)) (t .restsOn) (omega arith) refl (q ∙ e) (t .written (omega arith))))

@@ -1,23 +1,17 @@
 -- `check_book`: the outcome has the numbers of the admission; the demands follow from `checks`.
-use mathlib.Core.Path.{_≡_, refl, sym, _∙_, subst}
-use mathlib.Core.Logic.{inl, inr}
+use mathlib.Core.Path.{sym, _∙_, subst}
 use Prim.Native.Nat.{ℕ}
 use borrow.Author.Needs.{needs}
 use Rattle.aut68.specs.Language.{aut68}
 use Rattle.aut68.specs.Stores.{Stores}
-use Rattle.aut68.specs.Procedure.Run.{Ending, turnedAway, accepted, refusedAt, codeAt}
+use Rattle.aut68.specs.Procedure.Run.{Ending}
 use Rattle.aut68.specs.Demands.{Determined}
 use Rattle.theorems.specs.Checks.{checks}
 use Rattle.outcomes.specs.declared.Outcome.{Outcome}
 use Rattle.outcomes.specs.Outcomes.{codeOfOutcome, lineOfOutcome, stepsOfOutcome, IsCode, HasNumbers}
+use Rattle.verifier.proofs.EndingCodes.{ending-code}
 use Rattle.verifier.proofs.book.check_book.Statement.{statement}
 use Rattle.verifier.proofs.book.check_book.Tie as tie
-
-ending-code : (e : Ending) → IsCode (codeAt e)
-unfolding codeAt
-ending-code (turnedAway r) = inr (r, refl)
-ending-code (accepted steps k) = inl refl
-ending-code (refusedAt r line steps k) = inr (r, refl)
 
 -- an outcome with the numbers of an ending
 told : {e : Ending} {L : ℕ} {s s′ : Stores} {o : Outcome} {code line steps : ℕ} → Determined e L s code line steps s′ → HasNumbers o code line steps
