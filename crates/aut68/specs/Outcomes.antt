@@ -1,6 +1,6 @@
 -- The sixteen outcomes that document 01 calls the proved ones, as one table under one theorem; books that tell its misreadings apart,
 -- under another; the example books in AUT-QE, under a third; those with omitted arguments, under a fourth; those with the cells of the
--- index, under a fifth; and the lines that a book of three records.
+-- index, under a fifth; those of closed blocks, under a sixth; and the lines that a book of three records.
 use mathlib.Core.Path.{_≡_, refl}
 use Prim.Native.Nat.{ℕ, zero, suc}
 use mathlib.Core.Bool.{true}
@@ -24,6 +24,7 @@ use Rattle.aut68.specs.Procedure.Run
 use Rattle.aut68.specs.Cases.{Case, bytesOf, sample, endsAs, holds, allHold, sameNumbers, recordsAs, keepsAs, keeps, allKeep, under, within, usual}
 use Rattle.aut68.specs.Omitted.{sums, sumRows, sumCells, omittedArguments}
 use Rattle.aut68.specs.Indexed.{sampleRows, sampleCells, sampleIndex, withIndex, indexCells}
+use Rattle.aut68.specs.ClosedBlocks.{blocks, closedBlocks}
 use Rattle.aut68.specs.ExamplesQE.{naturals, families, examplesQE}
 
 -- ---- the twelve rows of the table; the row of code 2 has two calls
@@ -134,7 +135,7 @@ procedureOrder =
     ∷ usual aut68 (sample ++ bytesOf "*u:=<one>one:one\n") 8 9 2
     ∷ usual aut68 (sample ++ bytesOf "*u:=<[x,one]x>one:nat\n") 7 9 2
     -- a variable outside its context; the innermost binding; a name of 33 bytes
-    ∷ usual aut68 (sample ++ bytesOf "*u:=n:nat\n") 5 9 2
+    ∷ usual aut68 (sample ++ bytesOf "*u:=n:nat\n") 14 9 2
     ∷ usual aut68 (sample ++ bytesOf "*u:=[x,F][x,nat]x:[x,F]F\n") 0 9 3
     ∷ usual aut68 (bytesOf "*" ++ repeated 33 (bytesOf "a") ++ bytesOf ":=PN:type\n") 3 1 0
     -- a step past the budget is looked at before the size; a category of exactly L cells is made
@@ -157,8 +158,8 @@ numberLines =
 
 -- ---- the tables, computed
 
-computed : (allHold (tableRows ++ fourOutcomes) ≡ true) × (allHold (misreadings ++ procedureOrder) ≡ true) × (allHold examplesQE ≡ true) × (allKeep omittedArguments ≡ true) × (allKeep indexCells ≡ true) × (Run.recordedAt (Run.run aut68 numbers (record { budget = 0; limit = 16; table = 24; terms = 8; work = 2048; index = 16384 })) .recorded ≡ numberLines)
-unfolding numbers numberLines allHold endsAs holds sameNumbers recordsAs keepsAs keeps allKeep under within usual sums sumRows sumCells omittedArguments sampleRows sampleCells sampleIndex withIndex indexCells naturals families examplesQE sample longer tableRows fourOutcomes selfNamed swapped renumbered stepsRemain misreadings equality pairs repeated nested deep procedureOrder bytesOf
+computed : (allHold (tableRows ++ fourOutcomes) ≡ true) × (allHold (misreadings ++ procedureOrder) ≡ true) × (allHold examplesQE ≡ true) × (allKeep omittedArguments ≡ true) × (allKeep indexCells ≡ true) × (allHold closedBlocks ≡ true) × (Run.recordedAt (Run.run aut68 numbers (record { budget = 0; limit = 16; table = 24; terms = 8; work = 2048; index = 16384 })) .recorded ≡ numberLines)
+unfolding numbers numberLines allHold endsAs holds sameNumbers recordsAs keepsAs keeps allKeep under within usual sums sumRows sumCells omittedArguments sampleRows sampleCells sampleIndex withIndex indexCells blocks closedBlocks naturals families examplesQE sample longer tableRows fourOutcomes selfNamed swapped renumbered stepsRemain misreadings equality pairs repeated nested deep procedureOrder bytesOf
     Answer.codeOf Answer.andThen Answer.when Answer.ensure Answer.aside
     Bytes.nameByte Bytes.opensExpression Bytes.sameBytes Bytes.wordType Bytes.wordPN Bytes.wordEB Bytes.wordProp Bytes.reserved Bytes.onto Bytes.lines
     Source.countSrcs
@@ -173,7 +174,7 @@ unfolding numbers numberLines allHold endsAs holds sameNumbers recordsAs keepsAs
     Category.nth Category.theLine Category.made Category.headForm Category.parts Category.toFunction Category.servesAsType Category.opens Category.secondChance Category.categoryAt Category.searches Category.category
     CheckLine.withinLimits CheckLine.middleWithinLimits CheckLine.readLine CheckLine.room CheckLine.store CheckLine.checkDomain CheckLine.checkSupertype CheckLine.checkWritten CheckLine.checkMiddle CheckLine.checkCategories CheckLine.checkLine
     Run.codeAt Run.lineAt Run.stepsAt Run.recordedAt Run.over Run.tableEnd Run.termsEnd Run.workEnd Run.oneMore Run.checkLines Run.nothing Run.run
-computed = (refl, refl, refl, refl, refl, refl)
+computed = (refl, refl, refl, refl, refl, refl, refl)
 
 pub outcomes : allHold (tableRows ++ fourOutcomes) ≡ true
 outcomes = computed .0
@@ -192,5 +193,8 @@ omitted-arguments = computed .3
 pub index-cells : allKeep indexCells ≡ true
 index-cells = computed .4
 
+pub closed-blocks : allHold closedBlocks ≡ true
+closed-blocks = computed .5
+
 pub numbers-recorded : Run.recordedAt (Run.run aut68 numbers (record { budget = 0; limit = 16; table = 24; terms = 8; work = 2048; index = 16384 })) .recorded ≡ numberLines
-numbers-recorded = computed .5
+numbers-recorded = computed .6

@@ -1,11 +1,11 @@
 -- The refusal that each reason of the code stands for, and what each cause does.
-use Rattle.aut68.specs.Procedure.Answer.{Refusal, workTooSmall, limitOutOfRange, malformed, duplicate, unknownName, wrongArity, notFunction, notType, mismatch, tooLarge, outOfBudget, outOfSpace}
+use Rattle.aut68.specs.Procedure.Answer.{Refusal, workTooSmall, limitOutOfRange, malformed, duplicate, unknownName, wrongArity, notFunction, notType, mismatch, tooLarge, outOfBudget, outOfSpace, notInContext}
 use Rattle.aut68.specs.Procedure.Calls.{Decline, noSuchLine, answerTooLong}
 use Rattle.constants.specs.declared.codes.Cause.{Cause}
 use Rattle.constants.specs.declared.codes.Cause.the-variants.{NoSuchLine, AnswerTooLong}
 use Rattle.constants.specs.declared.codes.Reason.{Reason}
 use Rattle.constants.specs.declared.codes.Reason.the-variants.{WorkTooSmall, LimitOutOfRange, Malformed, Duplicate, UnknownName, WrongArity}
-use Rattle.constants.specs.declared.codes.Reason.the-variants.{NotFunction, NotType, Mismatch, TooLarge, OutOfBudget, OutOfSpace}
+use Rattle.constants.specs.declared.codes.Reason.the-variants.{NotFunction, NotType, Mismatch, TooLarge, OutOfBudget, OutOfSpace, NotInContext}
 
 abbrev pub refusalOf : Reason → Refusal
 refusalOf WorkTooSmall = workTooSmall
@@ -20,6 +20,7 @@ refusalOf Mismatch = mismatch
 refusalOf TooLarge = tooLarge
 refusalOf OutOfBudget = outOfBudget
 refusalOf OutOfSpace = outOfSpace
+refusalOf NotInContext = notInContext
 
 abbrev pub declineOf : Cause → Decline
 declineOf NoSuchLine = noSuchLine

@@ -30,6 +30,8 @@ pub const OUT_OF_SPACE: u32 = 12;
 
 pub const NO_SUCH_LINE: u32 = 13;
 
+pub const NOT_IN_CONTEXT: u32 = 14;
+
 // Why a call on a book that was admitted writes no answer.
 pub enum Cause {
     NoSuchLine,
@@ -60,6 +62,7 @@ pub enum Reason {
     TooLarge,
     OutOfBudget,
     OutOfSpace,
+    NotInContext,
 }
 
 // The code of a reason.
@@ -79,6 +82,7 @@ pub fn code_of(reason: Reason) -> u32
         Reason::TooLarge => TOO_LARGE,
         Reason::OutOfBudget => OUT_OF_BUDGET,
         Reason::OutOfSpace => OUT_OF_SPACE,
+        Reason::NotInContext => NOT_IN_CONTEXT,
     }
 }
 
@@ -98,6 +102,7 @@ pub fn reason_of(code: u32) -> Reason
         MISMATCH => Reason::Mismatch,
         TOO_LARGE => Reason::TooLarge,
         OUT_OF_BUDGET => Reason::OutOfBudget,
-        _ => Reason::OutOfSpace,
+        OUT_OF_SPACE => Reason::OutOfSpace,
+        _ => Reason::NotInContext,
     }
 }

@@ -9,6 +9,7 @@ pub use codes::MALFORMED;
 pub use codes::MISMATCH;
 pub use codes::NO_SUCH_LINE;
 pub use codes::NOT_FUNCTION;
+pub use codes::NOT_IN_CONTEXT;
 pub use codes::NOT_TYPE;
 pub use codes::OUT_OF_BUDGET;
 pub use codes::OUT_OF_SPACE;

@@ -9,7 +9,7 @@ use lib.ListN.{length, length-map}
 use lib.Dec.{eqb}
 use borrow.Author.Tests.{eqb-true, eq-eqb, ne-eqb}
 use Rattle.aut68.specs.Expr.{Exprs, inFront, levels, levelss, countExprs}
-use Rattle.aut68.specs.Procedure.Answer.{_>>=_, give, refuse, Refusal, wrongArity}
+use Rattle.aut68.specs.Procedure.Answer.{Answer, _>>=_, give, refuse, Refusal, wrongArity}
 use Rattle.aut68.specs.Procedure.Resolve.{Naming, found, refused, leftOut}
 use Rattle.aut68.specs.Rules.Names.{Member, here, there, LeftOut, allWritten, firstLeftOut}
 use Rattle.lookup.specs.Lists.{Each}
@@ -107,6 +107,13 @@ left-out-complete {j} (firstLeftOut {v} {of} h) =
     let e = left-out-count h in
     rw (ne-eqb j (suc (length of)) (λ q. omega (arith, e, q)), eq-eqb v v refl, leftOut) (done-then _ (left-out-complete h) refl)
 
--- a refusal shows that nothing can be put in
+-- a refusal shows that nothing can be put in, and the other way round
 pub left-out-none : {j : ℕ} {of own us : List ℕ} {r : Refusal} → leftOut j of own tt ≡ refused r → ¬ LeftOut j of own us
 left-out-none h k = stop≢done (sym h ∙ left-out-complete k)
+
+pub left-out-refused : (j : ℕ) (of own : List ℕ) → ((us : List ℕ) → ¬ LeftOut j of own us) → leftOut j of own tt ≡ refused wrongArity
+left-out-refused j of own n = go (left-out-looked j of own)
+  where
+    go : {m : Answer (Unit {0}) (List ℕ)} → Judged (LeftOut j of own) (λ r. wrongArity ≡ r) m → m ≡ refused wrongArity
+    go (isDone h) = absurd (n _ h)
+    go (isStop e) = ap refused (sym e)

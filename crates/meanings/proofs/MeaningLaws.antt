@@ -9,7 +9,7 @@ use native.Mathlib.Omega.{arith}
 use lib.ListN.{length}
 use Rattle.aut68.specs.Bytes.{Bytes}
 use Rattle.aut68.specs.Lines.{Line, Lines, Kind, variable, primitive, abbreviation, lineOf, numberOf, kindNumber, rowCell}
-use Rattle.aut68.specs.Procedure.Answer.{codeOf, unknownName}
+use Rattle.aut68.specs.Procedure.Answer.{Refusal, codeOf}
 use Rattle.aut68.specs.Procedure.Resolve.{refused, member, answered, lookUp, sought, wanted, contextAt}
 use Rattle.aut68.specs.Procedure.Resolve as Resolve
 use Rattle.aut68.specs.Sizes.{cellFactor, lineLimit, nesting, atContext, atKind}
@@ -174,9 +174,8 @@ module _ {b : ℕ} {book tb : List ℕ} {lines indicator : ℕ} {w : List ℕ} {
               rw (hb .free d p l, sought) (subst (λ x. Meant ls (contextAt ls indicator) fault cell count (answered x tt)) (sym e) (f ls k e));
         }
 
-    pub means-nothing : answered (told r) tt ≡ refused unknownName → MeaningFound b book tb lines indicator w word 5 0 0
-    unfolding codeOf
-    means-nothing e = means-sought (λ ls k q. subst (λ m. Meant ls (contextAt ls indicator) 5 0 0 m) (sym e) (meansNothing refl))
+    pub means-nothing : {x : Refusal} {fault : ℕ} → fault ≡ codeOf x → answered (told r) tt ≡ refused x → MeaningFound b book tb lines indicator w word fault 0 0
+    means-nothing {fault = fault} c e = means-sought (λ ls k q. subst (λ m. Meant ls (contextAt ls indicator) fault 0 0 m) (sym e) (meansNothing c))
 
   module _ (l : nesting ≤ b) {v k : ℕ} (h : SoughtFound book tb lines indicator w word (Sought.Line v k)) where
     pub means-variable : k ≡ 0 → MeaningFound b book tb lines indicator w word 0 (cellFactor * v + 1) 0

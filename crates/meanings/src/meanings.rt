@@ -8,6 +8,7 @@ use constants::Cell;
 use constants::KIND;
 use constants::LINE_LIMIT;
 use constants::NESTING;
+use constants::NOT_IN_CONTEXT;
 use constants::UNKNOWN_NAME;
 use names::find;
 use names::part_is;
@@ -82,7 +83,7 @@ pub fn look_up(
     Sought::NotInForce { number: v }
 }
 
-// What a name means: its cell, and how many arguments it takes; or the refusal 5 as fault.
+// What a name means: its cell, and how many arguments it takes; or the refusal, 5 or 14, as fault.
 pub struct Meaning {
     pub fault: u32,
     pub cell: Cell,
@@ -131,7 +132,7 @@ pub fn meaning_of(
             wanted: 0,
         },
         Sought::NotInForce { number: _ } => Meaning {
-            fault: UNKNOWN_NAME,
+            fault: NOT_IN_CONTEXT,
             cell: 0,
             wanted: 0,
         },

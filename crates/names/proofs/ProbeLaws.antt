@@ -10,11 +10,11 @@ use lib.ListN.{length, getD, set, length-set}
 use borrow.Author.Tests.{leb-true, leb-false}
 use Rattle.aut68.specs.Bytes.{Bytes, sameBytes}
 use Rattle.aut68.specs.Lines.{Line, Lines, partOf, rowCell}
-use Rattle.aut68.specs.Rules.Names.{IsLine, anEarlier}
+use Rattle.aut68.specs.Rules.Names.{IsLine, anEarlier, NoneMeant}
 use Rattle.aut68.specs.Sizes.{cellValues, atNameStart, atNameLength}
 use Rattle.lookup.specs.LineNumbers.{line-positive, line-within}
 use Rattle.lookup.specs.SameBytes.{same-true, same-false}
-use Rattle.lookup.specs.Identifiers.{NoneMeant, denotes-line, number-absent, number-complete}
+use Rattle.lookup.specs.Identifiers.{denotes-line, number-absent, number-complete}
 use Rattle.names.specs.Known.{Known}
 use Rattle.names.specs.Hints.{slotOf, nameAt, Hinted, put, full, probes}
 use Rattle.names.specs.Posts.{numberOr, LineSought, LineFound, LineIs, NotePost}

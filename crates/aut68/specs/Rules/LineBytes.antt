@@ -13,9 +13,12 @@ use Rattle.aut68.specs.Rules.Grammar.{WellFormed}
 use Rattle.aut68.specs.Rules.Openings.{OpensAt}
 
 module _ (language : Language) where
-  -- The bytes are a well-formed line, nested at most 32 deep.
+  -- The bytes are a well-formed line, nested at most 32 deep: this one, some line.
+  abbrev pub ReadableAs : SourceLine → Bytes → Type 0
+  ReadableAs s bytes = WellFormed language s bytes × (lineDepth s ≤ nesting)
+
   abbrev pub Readable : Bytes → Type 0
-  Readable bytes = (s : SourceLine) × WellFormed language s bytes × (lineDepth s ≤ nesting)
+  Readable bytes = (s : SourceLine) × ReadableAs s bytes
 
   -- Some well-formed line begins with these bytes.
   abbrev pub Viable : Bytes → Type 0

@@ -1,6 +1,7 @@
 use native.Mathlib.Omega.{arith}
 use borrow.Author.Needs.{needs}
 use mathlib.Core.Path.{refl}
+use Rattle.aut68.specs.Procedure.Answer.{codeOf, unknownName, notInContext}
 use Rattle.aut68.specs.Procedure.Resolve.{answered}
 use Rattle.meanings.specs.Meanings.{told}
 use Rattle.meanings.proofs.MeaningLaws.{means-bound, means-nothing, means-variable, means-constant}
@@ -59,12 +60,12 @@ returns-3 c =
     means-constant (r .before .before .before .if1 .left) h (c .before .if2 .left) (c .field .ensures .0)
 
 returns-4 : tie.Need-returns-4
-unfolding told answered
-returns-4 c = means-nothing (c .before .before .before .if1 .left) (rw (c .enum-told .given .1) at (c .before .before .look-up .ensures)) refl
+unfolding told answered codeOf
+returns-4 c = means-nothing {x = unknownName} (c .before .before .before .if1 .left) (rw (c .enum-told .given .1) at (c .before .before .look-up .ensures)) refl refl
 
 returns-5 : tie.Need-returns-5
-unfolding told answered
-returns-5 c = means-nothing (c .before .before .before .if1 .left) (rw (c .enum-told2 .given .1) at (c .before .before .look-up .ensures)) refl
+unfolding told answered codeOf
+returns-5 c = means-nothing {x = notInContext} (c .before .before .before .if1 .left) (rw (c .enum-told2 .given .1) at (c .before .before .look-up .ensures)) refl refl
 
 pub meaning-of-spec : {M : Type 1} → statement M
 meaning-of-spec =
