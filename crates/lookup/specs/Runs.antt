@@ -1,12 +1,13 @@
 -- How a run goes: what is looked at ahead of the lines, and how the lines end.
-use mathlib.Core.Path.{_≡_, refl, ap, _∙_, subst}
+use mathlib.Core.Path.{_≡_, refl, ap, sym, _∙_, subst}
 use mathlib.Core.Logic.{_⊎_, inl, inr}
 use mathlib.Core.Bool.{Bool, true, false, false≢true}
 use mathlib.Core.List.{List, [], _∷_, _++_}
-use Prim.Native.Nat.{ℕ, zero, suc, _+_, _-_, _*_, _<_}
+use Prim.Native.Nat.{ℕ, zero, suc, _+_, _-_, _*_, _≤_, _<_}
 use native.Mathlib.Omega.{arith}
 use lib.Dec.{leb}
-use lib.ListN.{length, getD, length-append}
+use lib.ListN.{length, getD, take, length-append}
+use lib.Seq.{take-append-le, take-all}
 use borrow.Author.Tests.{le-leb, leb-true}
 use Rattle.aut68.specs.Language.{Language}
 use Rattle.aut68.specs.Sizes.{smallestLimit, largestLimit, workUnits, bookLimit}
@@ -43,11 +44,47 @@ module _ (language : Language) where
         let r = length-append ls (p .line ∷ []) in
         omega arith
 
-    pub passes-at : {ls all : Lines} {b c : ℕ} {pieces : List Bytes} → Passes ls b pieces all c → (k : ℕ) → k < length pieces
-        → (before : Lines) × (b′ b″ : ℕ) × (p : Passed) × (checkLine language before m (getD pieces k []) b′ ≡ done p b″)
+    passes-front : {ls all : Lines} {b c : ℕ} {pieces : List Bytes} → Passes ls b pieces all c → (n : ℕ) → n ≤ length ls → take n all ≡ take n ls
+    passes-front nonePasses n h = refl
+    passes-front (onePasses {ls} {p = p} e more) n h =
+        let r = length-append ls (p .line ∷ []) in
+        passes-front more n (omega arith) ∙ take-append-le n ls (p .line ∷ []) h
+
+    -- piece k + 1 passes after the lines of the pieces before it
+    pub record PassesAt (ls : Lines) (b : ℕ) (pieces : List Bytes) (all : Lines) (k : ℕ) : Type 0 where
+      pub before : Lines
+      pub left : ℕ
+      pub front : Passes ls b (take k pieces) before left
+      pub beforeIs : before ≡ take (length ls + k) all
+      pub passed : Passed
+      pub leftThen : ℕ
+      pub passes : checkLine language before m (getD pieces k []) left ≡ done passed leftThen
+
+    pub passes-at : {ls all : Lines} {b c : ℕ} {pieces : List Bytes} → Passes ls b pieces all c → (k : ℕ) → k < length pieces → PassesAt ls b pieces all k
     passes-at nonePasses k h = absurd (omega arith)
-    passes-at (onePasses {ls} {b = b} {b′} {p = p} e more) zero h = (ls, b, b′, p, e)
-    passes-at (onePasses e more) (suc k) h = passes-at more k (omega arith)
+    passes-at (onePasses {ls} {all} {b = b} {b′} {p = p} e more) zero h =
+        let r = length-append ls (p .line ∷ []) in
+        record {
+          before = ls;
+          left = b;
+          front = nonePasses;
+          beforeIs = sym (passes-front more (length ls + 0) (omega arith) ∙ take-append-le (length ls + 0) ls (p .line ∷ []) (omega arith) ∙ take-all (length ls + 0) ls (omega arith));
+          passed = p;
+          leftThen = b′;
+          passes = e;
+        }
+    passes-at (onePasses {ls} {all} {p = p} e more) (suc k) h =
+        let x = passes-at more k (omega arith) in
+        let n : length (ls ++ (p .line ∷ [])) + k ≡ length ls + suc k = (let r = length-append ls (p .line ∷ []) in omega arith) in
+        record {
+          before = x .before;
+          left = x .left;
+          front = onePasses e (x .front);
+          beforeIs = x .beforeIs ∙ ap (λ i. take i all) n;
+          passed = x .passed;
+          leftThen = x .leftThen;
+          passes = x .passes;
+        }
 
     -- How the pieces end: all pass; or some pass, and the next is refused.
     pub data LinesEnd (ls : Lines) (b : ℕ) (pieces : List Bytes) : Ending → Type 0 where

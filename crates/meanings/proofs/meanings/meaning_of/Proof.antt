@@ -61,11 +61,11 @@ returns-3 c =
 
 returns-4 : tie.Need-returns-4
 unfolding told answered codeOf
-returns-4 c = means-nothing {x = unknownName} (c .before .before .before .if1 .left) (rw (c .enum-told .given .1) at (c .before .before .look-up .ensures)) refl refl
+returns-4 c = means-nothing (c .before .before .before .if1 .left) (rw (c .enum-told .given .1) at (c .before .before .look-up .ensures)) {x = unknownName} refl refl
 
 returns-5 : tie.Need-returns-5
 unfolding told answered codeOf
-returns-5 c = means-nothing {x = notInContext} (c .before .before .before .if1 .left) (rw (c .enum-told2 .given .1) at (c .before .before .look-up .ensures)) refl refl
+returns-5 c = means-nothing (c .before .before .before .if1 .left) (rw (c .enum-told2 .given .1) at (c .before .before .look-up .ensures)) {x = notInContext} refl refl
 
 pub meaning-of-spec : {M : Type 1} → statement M
 meaning-of-spec =
