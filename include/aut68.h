@@ -36,8 +36,8 @@ enum {
     AUT68_OUT_OF_SPACE = 12,      /* table, shelf or index full, line 8,192, a book of more than 16,777,215 bytes (line 0), or an
                                      answer that does not fit (line 0) */
     AUT68_NO_SUCH_LINE = 13,      /* the line is 0 or above the last */
-    AUT68_NOT_IN_CONTEXT = 14     /* the name is that of an EB line outside the context of the line that uses it: its block has
-                                     closed. Of 5, 6 and 14 a line gets that of the first such name, from left to right */
+    AUT68_NOT_IN_CONTEXT = 14     /* the name has an EB line, outside the context of the line that uses it: its block has closed.
+                                     Of 5, 6 and 14 a line gets that of the first name, from the left, that has one of them */
 };
 
 /* A cell of the shelf and of the working store. */
