@@ -18,7 +18,7 @@ static const char *const MEANINGS[] = {
     [AUT68_LIMIT_OUT_OF_RANGE] = "limit out of range",
     [AUT68_MALFORMED] = "malformed",
     [AUT68_DUPLICATE] = "identifier taken",
-    [AUT68_UNKNOWN_NAME] = "unknown name, variable not in context, or indicator no EB line",
+    [AUT68_UNKNOWN_NAME] = "unknown name, or indicator no EB line",
     [AUT68_WRONG_ARITY] = "argument count",
     [AUT68_NOT_FUNCTION] = "applied thing is no function",
     [AUT68_NOT_TYPE] = "domain or category is no type",
@@ -26,6 +26,7 @@ static const char *const MEANINGS[] = {
     [AUT68_TOO_LARGE] = "larger than the limit",
     [AUT68_OUT_OF_BUDGET] = "budget spent",
     [AUT68_OUT_OF_SPACE] = "table, shelf or index full",
+    [AUT68_NOT_IN_CONTEXT] = "variable not in context",
 };
 
 /* All of standard input, its length in *length; no memory: NULL. */

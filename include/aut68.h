@@ -18,15 +18,15 @@ enum {
     AUT68_ROW_WIDTH = 8     /* table cells for each line */
 };
 
-/* What the check of a book ends with: 0 to 12. Codes 0 and 3 to 9 are verdicts; 3 to 9 call the book wrong. Any other call on a
-   book checks it first and passes a refusal on; of an accepted book it ends with 0, 12 or 13. */
+/* What the check of a book ends with: 0 to 12, or 14. Codes 0, 3 to 9 and 14 are verdicts; 3 to 9 and 14 call the book wrong. Any
+   other call on a book checks it first and passes a refusal on; of an accepted book it ends with 0, 12 or 13. */
 enum {
     AUT68_ACCEPTED = 0,
     AUT68_WORK_TOO_SMALL = 1,     /* under AUT68_WORK_UNITS * limit working cells; line 0, nothing written */
     AUT68_LIMIT_OUT_OF_RANGE = 2, /* looked at before 1; line 0, nothing written */
     AUT68_MALFORMED = 3,
     AUT68_DUPLICATE = 4,
-    AUT68_UNKNOWN_NAME = 5,       /* or a variable not in context, or an indicator that is no EB line */
+    AUT68_UNKNOWN_NAME = 5,       /* no line above has the name; or an indicator that is no EB line */
     AUT68_WRONG_ARITY = 6,        /* more arguments than its context has variables, or some left out that cannot be put in */
     AUT68_NOT_FUNCTION = 7,
     AUT68_NOT_TYPE = 8,
@@ -35,7 +35,9 @@ enum {
     AUT68_OUT_OF_BUDGET = 11,
     AUT68_OUT_OF_SPACE = 12,      /* table, shelf or index full, line 8,192, a book of more than 16,777,215 bytes (line 0), or an
                                      answer that does not fit (line 0) */
-    AUT68_NO_SUCH_LINE = 13       /* the line is 0 or above the last */
+    AUT68_NO_SUCH_LINE = 13,      /* the line is 0 or above the last */
+    AUT68_NOT_IN_CONTEXT = 14     /* the name has an EB line, outside the context of the line that uses it: its block has closed.
+                                     Of 5, 6 and 14 a line gets that of the first name, from the left, that has one of them */
 };
 
 /* A cell of the shelf and of the working store. */

@@ -40,9 +40,10 @@ pub enum Refusal {
     OutOfBudget = 11,
     OutOfSpace = 12,
     NoSuchLine = 13,
+    NotInContext = 14,
 }
 
-/// What was done for arguments left out, for the counts of the differential run.
+/// What was met on the way, for the counts of the differential run.
 #[derive(Clone, Copy, Debug, Default)]
 pub struct Notes {
     /// Variables put in, in lines that are recorded.
@@ -50,8 +51,26 @@ pub struct Notes {
     /// The outcome is 10, of a line that is within the limits as written: its completed size or nesting is above them.
     pub only_completed_size: bool,
     pub only_completed_nesting: bool,
-    /// The outcome is 5 or 6, of a line that is too large or nested too deep when completed.
-    pub ahead_of_size: bool,
+    pub faults: Faults,
+}
+
+/// What is wrong in the refused line, from its identifier to its storage, as far as it was read; the outcome may be ahead of it.
+#[derive(Clone, Copy, Debug, Default)]
+pub struct Faults {
+    /// A bit for each code.
+    codes: u32,
+    /// The outcome is 5, for an indicator that is a constant.
+    pub constant_indicator: bool,
+}
+
+impl Faults {
+    fn add(&mut self, refusal: Refusal) {
+        self.codes |= 1 << refusal as u8;
+    }
+
+    pub fn has(&self, code: usize) -> bool {
+        self.codes >> code & 1 == 1
+    }
 }
 
 pub fn check(book: &[u8], budget: u32, limit: u32, stores: &mut Stores) -> Outcome {
@@ -109,29 +128,29 @@ fn check_lines(
     let mut used = 0;
     let mut indexed = 0;
     while !reader.at_end() {
-        let line = reader.line(lines, &names)?;
+        let read = reader.line(lines, &names);
+        notes.faults = reader.faults();
+        let line = read?;
         let cells = reader.cells();
-        if names.contains(line.identifier) {
-            return Err(Refusal::Duplicate);
-        }
         let parts = [line.middle, line.category];
         let too_large = parts.iter().any(|p| p.too_large);
         let too_deep = parts.iter().any(|p| p.too_deep);
-        if let Some(refusal) = reader.name_refusal() {
-            notes.ahead_of_size = too_large || too_deep;
-            return Err(refusal);
-        }
-        if too_large || too_deep {
-            let as_written = parts.iter().any(|p| p.written() > limit);
-            notes.only_completed_size = too_large && !as_written;
-            notes.only_completed_nesting = too_deep && !as_written;
-            return Err(Refusal::TooLarge);
-        }
         let count = lines.count();
         let entry = dependencies.of_line(count + 1, line.indicator, cells);
         let full = table.len() / ROW_WIDTH <= count || terms.len() - used < cells.len() || index.len() - indexed <= entry.len();
-        if full || count == MOST_LINES {
-            return Err(Refusal::OutOfSpace);
+        // In the order in which they are looked at.
+        let faults = [
+            names.contains(line.identifier).then_some(Refusal::Duplicate),
+            reader.name_refusal(),
+            (too_large || too_deep).then_some(Refusal::TooLarge),
+            (full || count == MOST_LINES).then_some(Refusal::OutOfSpace),
+        ];
+        if let Some(&refusal) = faults.iter().flatten().next() {
+            faults.iter().flatten().for_each(|&fault| notes.faults.add(fault));
+            let only_completed = refusal == Refusal::TooLarge && parts.iter().all(|p| p.written() <= limit);
+            notes.only_completed_size = too_large && only_completed;
+            notes.only_completed_nesting = too_deep && only_completed;
+            return Err(refusal);
         }
         let middle = line.middle.length;
         checker.line(lines, &terms[..used], cells, middle)?;

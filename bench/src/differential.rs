@@ -2,6 +2,7 @@
 
 mod blocks;
 mod calls;
+mod closed;
 mod comparison;
 mod largest;
 mod mutate;
@@ -26,8 +27,8 @@ const LONGEST: Duration = Duration::from_secs(110);
 /// So many books are made from one.
 const BOOKS_FROM_ONE: usize = 15;
 
-/// Prints how often each code, and each situation of completed lines and of lists, was met; false if there was a difference, or
-/// one of these was not met.
+/// Prints how often each code, and each situation of refused and of completed lines and of lists, was met; false if there was a
+/// difference, or one of these was not met.
 pub fn run() -> bool {
     let start = Instant::now();
     let mut comparison = Comparison::default();

@@ -26,5 +26,5 @@ pub const NESTING: usize = 32;
 
 pub const LONGEST_NAME: usize = 32;
 
-/// How many codes there are, that of acceptance among them; the check of a book gives all but the last.
-pub const CODES: usize = 14;
+/// How many codes there are, that of acceptance among them.
+pub const CODES: usize = 15;

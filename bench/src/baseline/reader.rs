@@ -5,7 +5,7 @@ use super::cells;
 use super::lines::{Context, Kind, Lines};
 use super::names::Names;
 use super::source::{Line, Part};
-use super::Refusal;
+use super::{Faults, Refusal};
 use crate::sizes::{Cell, LONGEST_NAME, NESTING};
 
 /// Which bytes are letters, digits or underscore.
@@ -31,6 +31,8 @@ pub struct Reader<'b> {
     bound: Vec<&'b [u8]>,
     /// The leftmost refusal of a name or argument count, and the place of that name.
     refused: Option<(usize, Refusal)>,
+    /// All that is refused in the line so far.
+    faults: Faults,
 }
 
 /// What names mean in the current line.
@@ -43,7 +45,7 @@ struct Scope<'s, 'b> {
 impl<'b> Reader<'b> {
     pub fn new(book: &'b [u8], limit: usize) -> Self {
         let (cells, bound) = (Vec::new(), Vec::with_capacity(NESTING));
-        Reader { book, at: 0, limit, cells, part: Part::default(), begin: 0, bound, refused: None }
+        Reader { book, at: 0, limit, cells, part: Part::default(), begin: 0, bound, refused: None, faults: Faults::default() }
     }
 
     pub fn at_end(&self) -> bool {
@@ -58,12 +60,17 @@ impl<'b> Reader<'b> {
         self.refused.map(|(_, refusal)| refusal)
     }
 
+    pub fn faults(&self) -> Faults {
+        self.faults
+    }
+
     /// Reads a line. A refusal of its indicator is given too; later ones are left to the caller, in their order.
     pub fn line(&mut self, lines: &mut Lines, names: &Names<'b>) -> Result<Line<'b>, Refusal> {
         self.cells.clear();
         self.begin = 0;
         self.bound.clear();
         self.refused = None;
+        self.faults = Faults::default();
 
         self.spaces();
         let indicator = if NAME_BYTE[self.peek() as usize] { Some(self.fresh_name()?) } else { None };
@@ -94,7 +101,11 @@ impl<'b> Reader<'b> {
             return Err(Refusal::Malformed);
         }
         self.symbol(b'\n')?;
-        let indicator = meant.ok_or(Refusal::UnknownName)?;
+        let Some(indicator) = meant else {
+            // Without its context nothing is said of its names.
+            self.faults = Faults { constant_indicator: indicator.is_some_and(|name| names.contains(name)), ..Faults::default() };
+            return Err(Refusal::UnknownName);
+        };
         Ok(Line { start, identifier, indicator, context, kind, middle, category })
     }
 
@@ -177,13 +188,12 @@ impl<'b> Reader<'b> {
 
     /// The name that was read at `start`, and its arguments.
     fn named(&mut self, scope: &Scope<'_, 'b>, start: usize, name: &'b [u8], depth: usize) -> Result<(), Refusal> {
-        let (cell, wanted) = match self.meaning(scope, name) {
-            Some(meaning) => meaning,
-            None => {
-                self.refuse(start, Refusal::UnknownName);
-                (cells::TYPE, usize::MAX)
-            }
-        };
+        let meaning = self.meaning(scope, name);
+        if let Err(refusal) = meaning {
+            self.refuse(start, refusal);
+        }
+        // A name that is refused stands for one cell.
+        let (cell, wanted) = meaning.unwrap_or((cells::TYPE, 0));
         self.cells.push(cell);
         let arguments = self.cells.len();
         self.spaces();
@@ -202,12 +212,10 @@ impl<'b> Reader<'b> {
             }
             self.at += 1;
         }
-        if found != wanted {
-            if found < wanted && cell != cells::TYPE {
-                self.complete(scope, start, cells::value(cell), arguments, found, depth);
-            } else {
-                self.refuse(start, Refusal::WrongArity);
-            }
+        if found < wanted {
+            self.complete(scope, start, cells::value(cell), arguments, found, depth);
+        } else if found > wanted && meaning != Err(Refusal::UnknownName) {
+            self.refuse(start, Refusal::WrongArity);
         }
         Ok(())
     }
@@ -233,24 +241,25 @@ impl<'b> Reader<'b> {
         }
     }
 
-    /// The cell of a name and how many arguments it takes.
+    /// The cell of a name and how many arguments it takes; or that no line has it, or a variable outside the context.
     #[inline]
-    fn meaning(&self, scope: &Scope<'_, 'b>, name: &[u8]) -> Option<(Cell, usize)> {
+    fn meaning(&self, scope: &Scope<'_, 'b>, name: &[u8]) -> Result<(Cell, usize), Refusal> {
         if let Some(between) = self.bound.iter().rev().position(|&b| b == name) {
-            return Some((cells::cell(cells::BOUND, between as Cell), 0));
+            return Ok((cells::cell(cells::BOUND, between as Cell), 0));
         }
-        let line = scope.names.find(name)?;
+        let line = scope.names.find(name).ok_or(Refusal::UnknownName)?;
         if scope.lines.kind(line) != Kind::Variable {
-            Some((cells::cell(cells::CONSTANT, line), scope.lines.context_length(line)))
+            Ok((cells::cell(cells::CONSTANT, line), scope.lines.context_length(line)))
         } else if scope.lines.in_context(scope.context, line) {
-            Some((cells::cell(cells::VARIABLE, line), 0))
+            Ok((cells::cell(cells::VARIABLE, line), 0))
         } else {
-            None
+            Err(Refusal::NotInContext)
         }
     }
 
     /// Keeps the refusal of the leftmost name; at one name the earlier refusal stays.
     fn refuse(&mut self, at: usize, refusal: Refusal) {
+        self.faults.add(refusal);
         if self.refused.map_or(true, |(earliest, _)| at < earliest) {
             self.refused = Some((at, refusal));
         }

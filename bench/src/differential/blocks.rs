@@ -12,7 +12,7 @@ struct Line {
 
 struct Blocks<'r> {
     random: &'r mut Random,
-    /// Whether arguments are sometimes left out where they may not be, or one too many is written.
+    /// Whether arguments are sometimes left out where they may not be, one too many is written, or any variable is used.
     careless: bool,
     text: String,
     variables: Vec<Line>,
@@ -31,7 +31,7 @@ pub fn book(random: &mut Random) -> Vec<u8> {
         book.line("t");
     }
     // A name or a count that is wrong, however large the middle before it is.
-    let category = *book.random.choose(&["t", "t", "nowhere", "t(t)"]);
+    let category = *book.random.choose(&["t", "t", "nowhere", "t(t)", "v0", "v0(t)"]);
     book.line(category);
     book.text.into_bytes()
 }
@@ -129,7 +129,10 @@ impl Blocks<'_> {
     /// A lone name: `o`, a variable or a constant.
     fn leaf(&mut self, context: &[usize]) -> String {
         match (self.random.below(8), self.around(context)) {
-            (0, _) if self.careless => self.random.choose(&self.constants).name.clone(),
+            (0, _) if self.careless => {
+                let lines = if self.random.once_in(2) { &self.constants } else { &self.variables };
+                self.random.choose(lines).name.clone()
+            }
             (0..=2, Some(constant)) => self.constants[constant].name.clone(),
             (3..=6, _) if !context.is_empty() => self.variables[*self.random.choose(context)].name.clone(),
             _ => "o".to_string(),

@@ -1,7 +1,7 @@
 //! The verified program and the baseline on the same calls, and what they leave in every cell.
 
 use super::calls::{pattern, Call, Question};
-use crate::baseline::{self, Notes};
+use crate::baseline::{self, Notes, Refusal};
 use crate::random::Random;
 use crate::sizes::CODES;
 use crate::stores::Stores;
@@ -11,15 +11,21 @@ const MOST_SHOWN: usize = 5;
 /// Of the refused books every so many is asked about, of the accepted ones every second.
 const REFUSED_ASKED: usize = 8;
 
+/// Two faults in one line: the code that it gets, and the one that it would get without the first.
+const RIVALS: [[usize; 2]; 11] =
+    [[3, 14], [4, 14], [5, 14], [6, 14], [10, 14], [14, 5], [14, 6], [14, 10], [14, 12], [5, 10], [6, 10]];
+
 /// The two programs side by side, and the counts of what they gave.
 #[derive(Default)]
 pub struct Comparison {
     ours: Stores,
     theirs: Stores,
     codes: [usize; CODES],
-    /// Books with variables put in, with 10 for a completed size alone, for a completed nesting alone, with 5 or 6 ahead
-    /// of such a 10.
-    completed: [usize; 4],
+    /// Books with variables put in, with 10 for a completed size alone, for a completed nesting alone.
+    completed: [usize; 3],
+    /// Books with two faults in the refused line; with 5 for a constant as indicator.
+    rivals: [usize; RIVALS.len()],
+    constant_indicators: usize,
     /// The codes of `rests_on`; of those with 12, the lists that do not fit.
     answers: [usize; CODES],
     unfit: usize,
@@ -49,9 +55,17 @@ impl Comparison {
         }
         self.codes[theirs.code as usize] += 1;
         self.steps += theirs.steps;
-        let met = [notes.put_in > 0, notes.only_completed_size, notes.only_completed_nesting, notes.ahead_of_size];
-        met.iter().zip(&mut self.completed).for_each(|(met, count)| *count += usize::from(*met));
+        self.note(&notes, theirs.code as usize);
         theirs
+    }
+
+    fn note(&mut self, notes: &Notes, code: usize) {
+        let met = [notes.put_in > 0, notes.only_completed_size, notes.only_completed_nesting];
+        met.iter().zip(&mut self.completed).for_each(|(met, count)| *count += usize::from(*met));
+        for ([first, other], count) in RIVALS.iter().zip(&mut self.rivals) {
+            *count += usize::from(*first == code && notes.faults.has(*other));
+        }
+        self.constant_indicators += usize::from(notes.faults.constant_indicator);
     }
 
     /// What the last line of an accepted book rests on, with just enough room and with one cell less.
@@ -97,13 +111,18 @@ impl Comparison {
         for (code, (checks, answers)) in self.codes.iter().zip(&self.answers).enumerate() {
             println!("{code:>4} {checks:>8} {answers:>8}");
         }
-        let [put_in, size, nesting, ahead] = self.completed;
+        let [put_in, size, nesting] = self.completed;
         println!("12 for a list that does not fit: {}", self.unfit);
         println!("arguments put in: {put_in} books");
-        println!("10 on the completed form alone: {size} for its size, {nesting} for its nesting; 5 or 6 ahead of 10: {ahead}");
+        println!("10 on the completed form alone: {size} for its size, {nesting} for its nesting");
+        for ([first, other], count) in RIVALS.iter().zip(&self.rivals) {
+            println!("{first} ahead of {other}: {count}");
+        }
+        println!("5 for a constant as indicator: {}", self.constant_indicators);
         println!("{} head steps, {} differences", self.steps, self.differences);
-        let of_the_check = &self.codes[..CODES - 1];
-        let counts = of_the_check.iter().chain(&self.answers).chain(&self.completed).chain([&self.unfit]);
-        self.differences == 0 && counts.into_iter().all(|&count| count > 0)
+        // 13 is not met in the check of a book.
+        let of_the_check = (0..CODES).filter(|&code| code != Refusal::NoSuchLine as usize).map(|code| &self.codes[code]);
+        let counts = of_the_check.chain(&self.answers).chain(&self.completed).chain(&self.rivals);
+        self.differences == 0 && counts.chain([&self.unfit, &self.constant_indicators]).all(|&count| count > 0)
     }
 }

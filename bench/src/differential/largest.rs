@@ -12,12 +12,15 @@ pub fn books() -> Vec<(Vec<u8>, Call)> {
         budget: 9, limit: SMALLEST_LIMIT, table: ROW_WIDTH * (MOST_LINES + 2), terms: MOST_LINES + 2, work: 2_050,
         index: MOST_LINES + 2,
     };
-    let lines = |count: usize| -> Vec<u8> { (0..count).flat_map(|i| format!("*n{i}:=PN:type\n").into_bytes()).collect() };
+    let line = |i: usize| format!("*n{i}:={}:type\n", if i == 2 { "EB" } else { "PN" }).into_bytes();
+    let lines = |count: usize| -> Vec<u8> { (0..count).flat_map(line).collect() };
     let with = |line: &str| [&lines(MOST_LINES)[..], line.as_bytes()].concat();
     let mut books = vec![lines(MOST_LINES - 1), lines(MOST_LINES), lines(MOST_LINES + 1)];
-    for last in ["*a:=PN:b\n", "*n7:=PN:type\n", "*a:=n0(n1):type\n", "*a:=n0:n1\n", "*a:=PN:type", "a*b:=PN:type\n"] {
-        books.push(with(last));
-    }
+    let lasts = [
+        "*a:=PN:b\n", "*n7:=PN:type\n", "*a:=n0(n1):type\n", "*a:=n0:n1\n", "*a:=n2:n1\n", "*a:=PN:type", "a*b:=PN:type\n",
+        "n1*b:=PN:type\n",
+    ];
+    books.extend(lasts.map(with));
     // 2^16 + 1 and 2^32 + 1 cells when completed.
     for (variables, names) in [(256, 256), (4_096, 1 << 20)] {
         books.extend(["type", "nowhere"].map(|category| completed(variables, names, category)));

@@ -1,17 +1,19 @@
 //! Changes to a book: of its bytes, its symbols, its lines.
 
+use super::closed;
 use crate::random::Random;
 use crate::sizes::LONGEST_NAME;
 
 /// Bytes that stand in books, and some that do not.
-const BYTES: &[u8] = b" \n*:=(),<>[]_aEPNTBtype019Zz\t\r\0@{}\x7f\x80\xff";
-const WORDS: [&str; 3] = ["type", "PN", "EB"];
+pub const BYTES: &[u8] = b" \n*:=(),<>[]_aEPNTBtype019Zz\t\r\0@{}\x7f\x80\xff";
+pub const WORDS: [&str; 3] = ["type", "PN", "EB"];
 
 pub fn mutate(random: &mut Random, book: &mut Vec<u8>) {
-    match random.below(10) {
+    match random.below(14) {
         0 => byte(random, book),
         1..=5 => symbol(random, book),
         6..=8 => line(random, book),
+        9..=12 => closed::use_variable(random, book),
         _ => cut(random, book),
     }
 }
@@ -42,7 +44,7 @@ fn is_name_byte(byte: u8) -> bool {
 }
 
 /// The names and single bytes of a book; `:=` is one symbol.
-fn symbols(book: &[u8]) -> Vec<Vec<u8>> {
+pub fn symbols(book: &[u8]) -> Vec<Vec<u8>> {
     let mut symbols: Vec<Vec<u8>> = Vec::new();
     let mut at = 0;
     while at < book.len() {
@@ -57,7 +59,7 @@ fn symbols(book: &[u8]) -> Vec<Vec<u8>> {
     symbols
 }
 
-fn is_name(symbol: &[u8]) -> bool {
+pub fn is_name(symbol: &[u8]) -> bool {
     is_name_byte(symbol[0])
 }
 
@@ -152,7 +154,7 @@ fn nest(random: &mut Random, symbol: &mut Vec<u8>, other: &[u8]) {
 }
 
 /// The lines with their byte 10; the last may lack it.
-fn lines(book: &[u8]) -> Vec<Vec<u8>> {
+pub fn lines(book: &[u8]) -> Vec<Vec<u8>> {
     book.split_inclusive(|&b| b == b'\n').map(<[u8]>::to_vec).collect()
 }
 
@@ -202,7 +204,7 @@ fn exchange_neighbours(random: &mut Random, lines: &mut [Vec<u8>]) {
 }
 
 /// What stands up to `:=`, between it and the colon, and behind that.
-fn parts(line: &[u8]) -> Option<(&[u8], &[u8], &[u8])> {
+pub fn parts(line: &[u8]) -> Option<(&[u8], &[u8], &[u8])> {
     let middle = line.windows(2).position(|w| w == b":=")? + 2;
     let colon = middle + line[middle..].iter().position(|&b| b == b':')?;
     Some((&line[..middle], &line[middle..colon], &line[colon + 1..]))
