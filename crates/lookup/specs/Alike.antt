@@ -4,14 +4,13 @@
 use mathlib.Core.Path.{_≡_, refl, sym, subst}
 use mathlib.Core.Logic.{_≢_, _↔_}
 use Prim.Native.Nat.{ℕ}
-use native.Mathlib.Omega.{arith}
 use mathlib.Core.List.{List, [], _∷_, map}
 use Rattle.aut68.specs.Bytes.{Bytes}
 use Rattle.aut68.specs.Source.{Src, Srcs, Middle, SourceLine, countSrcs}
 use Rattle.aut68.specs.Expr.{Expr, Exprs}
 use Rattle.aut68.specs.Lines.{Line, Lines, Kind, variable}
 use Rattle.aut68.specs.Rules.Names.{IsLine, Denotes, Member, BoundAt, Free, LeftOut, Means, MeanAll, aBound, aVariable, aConstant, anApplication, anAbstraction, noMore, oneMore}
-use Rattle.aut68.specs.Rules.Names.{MiddleMeans, isEB, isPN, isMeaning, aType, aProp}
+use Rattle.aut68.specs.Rules.Names.{MiddleMeans, isMeaning, aType, aProp}
 use Rattle.aut68.specs.Rules.NameFaults.{NameFault, NotInContext, outsideContext, Miscounted, ofBound, ofVariable, ofConstant}
 use Rattle.aut68.specs.Rules.NameFaults.{First, itself, FirstIn, FirstOf}
 use Rattle.aut68.specs.Rules.NameFaults as F

@@ -112,17 +112,6 @@ module _ (language : Language) where
         go f (done p b′) q = onto q (f (oneMore k at p) (at + length bytes) b′)
         go f (stop r b′) q = oneStops [] bytes more refl nonePasses q
 
-    -- the pieces end where the first is refused
-    pub lines-stop : {past : List Bytes} (bytes : Bytes) {r : Refusal} {c c′ : ℕ} {ls₀ ls : Lines} {b : ℕ} → Passes ls₀ b past ls c → checkLine language ls m bytes c ≡ stop r c′
-        → (rest : List Bytes) (k : Recorded) (at : ℕ) → k .recorded ≡ ls₀
-        → (k′ : Recorded) × (k′ .recorded ≡ ls) × (checkLines language m k at b (past ++ bytes ∷ rest) ≡ refusedAt r (suc (length ls)) (m .budget - c′) k′)
-    unfolding checkLines oneMore
-    lines-stop bytes {r} {c} {c′} nonePasses q rest k at e =
-        (k, e, rw (ap (λ x. checkLine language x m bytes c) e ∙ q, checkLines) (ap (λ (x : Lines). refusedAt r (suc (length x)) (m .budget - c′) k) e))
-    lines-stop bytes (onePasses {b = b} {bytes = x} {p = p} h more) q rest k at e =
-        let (k′, i, z) = lines-stop bytes more q rest (oneMore k at p) (at + length x) (ap (λ (y : Lines). y ++ (p .line ∷ [])) e) in
-        (k′, i, rw (ap (λ y. checkLine language y m x b) e ∙ h, checkLines) z)
-
   -- ---- ahead of the lines
 
   -- a call that is refused before the first line

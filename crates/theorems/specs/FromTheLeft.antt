@@ -15,8 +15,8 @@ use Rattle.aut68.specs.Procedure.Answer.{codeOf, tooLarge}
 use Rattle.aut68.specs.Procedure.Run.{Ending, codeAt, lineAt, recordedAt, nothing, run}
 use Rattle.aut68.specs.Rules.Derivation.{noMore}
 use Rattle.aut68.specs.Demands.{Wrong, WrongCode, Admitted, GetsTo, ByItsBytes, ByItsNames, FromTheLeft}
-use Rattle.lookup.specs.Answers.{code-positive, accepted-undecided}
-use Rattle.lookup.specs.Runs.{passes-length, Passes, PassesAt, passes-at, LinesEnd, allPass, oneStops, Early, unfit, tooLong, early-undecided, run-admitted, run-starts, lines-end}
+use Rattle.lookup.specs.Answers.{accepted-undecided}
+use Rattle.lookup.specs.Runs.{passes-length, Passes, passes-at, LinesEnd, allPass, oneStops, Early, unfit, tooLong, early-undecided, run-admitted, run-starts, lines-end}
 use Rattle.verdicts.specs.BookVerdicts.{passes-derived}
 use Rattle.theorems.specs.LineBytes.{refused-by-bytes, passed-by-bytes}
 use Rattle.theorems.specs.LineNames.{refused-by-names, passed-by-names}

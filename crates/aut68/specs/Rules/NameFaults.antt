@@ -37,8 +37,8 @@ module _ (ls : Lines) (context : List ℕ) (bs : List Bytes) (w : Bytes) (j : �
 
 -- 5: as an indicator it has "no such line", or one that is no `EB` line
 pub data NoVariable (ls : Lines) (w : Bytes) : Type 0 where
-  noLine : NoneMeant ls w → NoVariable ls w
-  aConstant : {v : ℕ} {l : Line} → IsLine ls v l → Denotes ls w v → l .kind ≢ variable → NoVariable ls w
+  noSuchLine : NoneMeant ls w → NoVariable ls w
+  isConstant : {v : ℕ} {l : Line} → IsLine ls v l → Denotes ls w v → l .kind ≢ variable → NoVariable ls w
 
 -- ---- the first of an expression, of a line
 
