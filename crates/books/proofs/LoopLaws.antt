@@ -12,7 +12,7 @@ use Rattle.aut68.specs.Procedure.Answer.{done, stop, Refusal}
 use Rattle.aut68.specs.Procedure.CheckLine.{Passed, checkLine}
 use Rattle.aut68.specs.Procedure.Run.{Recorded, Ending, refusedAt, nothing, oneMore, checkLines, codeAt, lineAt, stepsAt, recordedAt, tableEnd, termsEnd, indexEnd}
 use Rattle.cells.specs.Layout.{readerUnits}
-use Rattle.cells.specs.Results.{code-nonzero}
+use Rattle.lookup.specs.Answers.{code-nonzero}
 use Rattle.names.specs.HintLaws.{no-line-hinted}
 use Rattle.records.specs.Reached.{reached-nothing}
 use Rattle.records.specs.Indexed.{indexed-nothing}

@@ -11,7 +11,8 @@ use Rattle.aut68.specs.Procedure.Answer.{Answer, done, stop, give, aside, andTh
 use Rattle.aut68.specs.Procedure.Resolve.{found}
 use Rattle.aut68.specs.Procedure.Resolve as Resolve
 use Rattle.aut68.specs.Procedure.CheckLine.{Passed, readLine, room, store, checkCategories, checkLine}
-use Rattle.cells.specs.Results.{Result, passed, refused, code-nonzero}
+use Rattle.lookup.specs.Answers.{code-nonzero}
+use Rattle.cells.specs.Results.{Result, passed, refused}
 
 -- ---- what a result says
 

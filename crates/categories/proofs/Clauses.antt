@@ -17,7 +17,8 @@ use Rattle.aut68.specs.Procedure.Compare.{compare}
 use Rattle.aut68.specs.Procedure.Category.{nth, theLine, made, headForm, parts, toFunction, servesAsType, opens, categoryAt, category, arguments}
 use Rattle.aut68.specs.Procedure.CheckLine.{checkDomain, checkSupertype, checkWritten}
 use Rattle.calculus.specs.Actions.{the-line, isType-true}
-use Rattle.cells.specs.Results.{Result, passed, refused, code-nonzero}
+use Rattle.lookup.specs.Answers.{code-nonzero}
+use Rattle.cells.specs.Results.{Result, passed, refused}
 use Rattle.instances.specs.Unchanged.{instantiate-empty}
 use Rattle.typing.specs.FittingPosts.{wantedFits}
 use Rattle.typing.specs.ApplicationPosts.{applying}

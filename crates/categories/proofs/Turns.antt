@@ -16,7 +16,8 @@ use Rattle.calculus.specs.Resolved.{AllKnown}
 use Rattle.cells.specs.Cells.{At, copyCells}
 use Rattle.cells.specs.Layout.{unitAt, levelUnit}
 use Rattle.cells.specs.Forests.{join, count-join, size-is-length, sizes-is-length, at-inside}
-use Rattle.cells.specs.Results.{Result, passed, refused, then-refused, code-nonzero}
+use Rattle.lookup.specs.Answers.{code-nonzero}
+use Rattle.cells.specs.Results.{Result, passed, refused, then-refused}
 use Rattle.cells.specs.Stores.{outside-same, at-kept}
 use Rattle.cells.specs.CopyLaws.{copy-at}
 use Rattle.cells.specs.declared.scope.Scope.{Scope}

@@ -2,18 +2,14 @@
 use mathlib.Core.Path.{_≡_, sym, _∙_}
 use mathlib.Core.Logic.{_≢_}
 use Prim.Native.Nat.{ℕ}
-use native.Mathlib.Omega.{arith}
 use Rattle.aut68.specs.Procedure.Answer.{Answer, done, stop, andThen, Act, Refusal, codeOf}
-use Rattle.lookup.specs.Answers.{code-positive}
+use Rattle.lookup.specs.Answers.{code-nonzero}
 
 -- Code 0 where the procedure goes on with a value, of which R holds; else the code of its refusal. What is left (of the budget) is
 -- the procedure's in both cases.
 pub data Result {S A : Type 0} (R : A → Type 0) (code : ℕ) (rest : S) : Answer S A → Type 0 where
   passed : {a : A} → code ≡ 0 → R a → Result R code rest (done a rest)
   refused : {r : Refusal} → code ≡ codeOf r → Result R code rest (stop r rest)
-
-pub code-nonzero : (r : Refusal) → codeOf r ≢ 0
-code-nonzero r e = let p = code-positive r in absurd (omega arith)
 
 module _ {S A B : Type 0} {R : A → Type 0} {Q : B → Type 0} {code : ℕ} {rest : S} (f : A → Act S B) where
   -- what comes after a refusal is that refusal

@@ -17,7 +17,8 @@ use Rattle.cells.specs.Cells.{At, Outside, AnyVariable, partsAfter, AllFormed}
 use Rattle.cells.specs.Forests.{size-is-length, sizes-is-length, cells-split, parts-count, at-inside, at-first, at-parts, at-front, at-second, at-one, cells-one, cells-long}
 use Rattle.cells.specs.Layout.{unitAt, sideUnit}
 use Rattle.cells.specs.Posts.{Skipped}
-use Rattle.cells.specs.Results.{Result, passed, refused, code-nonzero, then-refused}
+use Rattle.lookup.specs.Answers.{code-nonzero}
+use Rattle.cells.specs.Results.{Result, passed, refused, then-refused}
 use Rattle.cells.specs.Stores.{outside-same, outside-then, outside-more, outside-below}
 use Rattle.heads.specs.Book.{Book, category-wf}
 use Rattle.sides.specs.Posts.{Side, Pair}

@@ -14,7 +14,7 @@ use Rattle.aut68.specs.Bytes.{Bytes, opensExpression, nameByte}
 use Rattle.aut68.specs.Procedure.Answer.{Answer, done, stop, andThen, Refusal, codeOf, malformed, tooLarge, give}
 use Rattle.aut68.specs.Procedure.Parse.{Read, spaces, byte, symbol, starts, commaOrClose, arguments, argumentsIfAny, named, application, abstraction, wordAt, anExpression}
 use Rattle.aut68.specs.Source.{Src, nil}
-use Rattle.cells.specs.Results.{code-nonzero}
+use Rattle.lookup.specs.Answers.{code-nonzero}
 use Rattle.lookup.specs.Answers.{stop≢done}
 use Rattle.kinds.specs.Kinds.{kindOf, placeOr0, opensKind, opens-of-kind, test-of-kind}
 use Rattle.symbols.specs.Symbols.{firstKind}

@@ -1,8 +1,8 @@
 -- What is written of an expression, from what is written of its parts.
 use mathlib.Core.Path.{_≡_, refl, sym, ap, ap₂, _∙_, subst}
 use mathlib.Core.Logic.{_≢_}
-use mathlib.Core.List.{List, [], _∷_, _++_, append-assoc}
-use Prim.Native.Nat.{ℕ, suc, _+_, _*_, _-_, _≤_, _<_, max}
+use mathlib.Core.List.{List, [], _∷_, _++_}
+use Prim.Native.Nat.{ℕ, suc, _+_, _*_, _-_, _≤_, max}
 use native.Mathlib.Omega.{arith}
 use lib.ListN.{length}
 use lib.Seq.{slice}
@@ -12,12 +12,12 @@ use Rattle.aut68.specs.Source as Source
 use Rattle.aut68.specs.Expr.{Expr, Exprs, cells, cellss, levels, levelss, inFront}
 use Rattle.aut68.specs.Expr as Expr
 use Rattle.aut68.specs.Lines.{Lines}
-use Rattle.aut68.specs.Procedure.Answer.{Answer, andThen, _>>=_, give, codeOf, wrongArity}
+use Rattle.aut68.specs.Procedure.Answer.{Answer, andThen, _>>=_, give, codeOf}
 use Rattle.aut68.specs.Procedure.Resolve.{Naming, found, Meaning, aBound, aVariable, aConstant, leftOut, resolve, resolves, wanted, build, contextAt}
 use Rattle.aut68.specs.Sizes.{cellFactor, nesting}
 use Rattle.lookup.specs.Answers.{done-value}
 use Rattle.lookup.specs.Completing.{left-out-sound, no-context}
-use Rattle.cells.specs.Results.{code-nonzero}
+use Rattle.lookup.specs.Answers.{code-nonzero}
 use Rattle.cells.specs.declared.scope.Scope.{Scope}
 use Rattle.names.specs.Known.{Known}
 use Rattle.names.specs.Hints.{Hinted}

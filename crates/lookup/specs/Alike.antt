@@ -30,7 +30,7 @@ pub record UsedAlike (ρ : ℕ → ℕ) (k l : Line) : Type 0 where
 abbrev pub AlikeAt : (ℕ → ℕ) → Lines → Lines → Bytes → Type 0
 AlikeAt ρ ls₀ ls w = (u v : ℕ) (k l : Line) → IsLine ls₀ u k → Denotes ls₀ w u → IsLine ls v l → Denotes ls w v → (v ≡ ρ u) × UsedAlike ρ k l
 
-module _ (ρ : ℕ → ℕ) (ls₀ : Lines) (context₀ : List ℕ) (ls : Lines) (context : List ℕ) (same : context ≡ map ρ context₀) where
+module _ (ρ : ℕ → ℕ) (ls₀ : Lines) (context₀ : List ℕ) (ls : Lines) where
   -- a name in order there, with j arguments
   pub data InOrder (bs : List Bytes) (w : Bytes) (j : ℕ) : Type 0 where
     boundName : {i : ℕ} → BoundAt w bs i → j ≡ 0 → InOrder bs w j
@@ -38,79 +38,81 @@ module _ (ρ : ℕ → ℕ) (ls₀ : Lines) (context₀ : List ℕ) (ls : Lines)
     constantName : {u : ℕ} {k : Line} {us : List ℕ} → AlikeAt ρ ls₀ ls w → Free w bs → IsLine ls₀ u k → Denotes ls₀ w u → k .kind ≢ variable
         → LeftOut j (k .context) context₀ us → InOrder bs w j
 
-  moved : {j : ℕ} {vs of us : List ℕ} → ((ws : List ℕ) → ¬ LeftOut j vs context ws) → vs ≡ map ρ of → LeftOut j of context₀ us → ⊥
-  moved {j} {vs} {of} {us} h e c =
-      let c₁ : LeftOut j (map ρ of) context (map ρ us) = subst (λ x. LeftOut j (map ρ of) x (map ρ us)) (sym same) (left-out-map ρ c) in
-      h (map ρ us) (subst (λ x. LeftOut j x context (map ρ us)) (sym e) c₁)
+  -- in the context of the same variables, renumbered
+  module _ (context : List ℕ) (same : context ≡ map ρ context₀) where
+    moved : {j : ℕ} {vs of us : List ℕ} → ((ws : List ℕ) → ¬ LeftOut j vs context ws) → vs ≡ map ρ of → LeftOut j of context₀ us → ⊥
+    moved {j} {vs} {of} {us} h e c =
+        let c₁ : LeftOut j (map ρ of) context (map ρ us) = subst (λ x. LeftOut j (map ρ of) x (map ρ us)) (sym same) (left-out-map ρ c) in
+        h (map ρ us) (subst (λ x. LeftOut j x context (map ρ us)) (sym e) c₁)
 
-  -- its count is right here
-  pub right-count : {bs : List Bytes} {w : Bytes} {j : ℕ} → InOrder bs w j → ¬ Miscounted ls context bs w j
-  right-count (boundName b z) (ofBound c n) = n z
-  right-count (boundName b z) (ofVariable f i q k m n) = n z
-  right-count (boundName b z) (ofConstant f i q k n) = free-bound f b
-  right-count (variableName g i₀ q₀ k₀ m₀ z) (ofBound c n) = n z
-  right-count (variableName g i₀ q₀ k₀ m₀ z) (ofVariable f i q k m n) = n z
-  right-count (variableName g i₀ q₀ k₀ m₀ z) (ofConstant f i q k n) = k (g _ _ _ _ i₀ q₀ i q .1 .sameKind .0 k₀)
-  right-count (constantName g f₀ i₀ q₀ k₀ c) (ofBound b n) = free-bound f₀ b
-  right-count (constantName g f₀ i₀ q₀ k₀ c) (ofVariable f i q k m n) = k₀ (g _ _ _ _ i₀ q₀ i q .1 .sameKind .1 k)
-  right-count (constantName g f₀ i₀ q₀ k₀ c) (ofConstant f i q k n) = moved n (g _ _ _ _ i₀ q₀ i q .1 .sameContext) c
+    -- its count is right here
+    pub right-count : {bs : List Bytes} {w : Bytes} {j : ℕ} → InOrder bs w j → ¬ Miscounted ls context bs w j
+    right-count (boundName b z) (ofBound c n) = n z
+    right-count (boundName b z) (ofVariable f i q k m n) = n z
+    right-count (boundName b z) (ofConstant f i q k n) = free-bound f b
+    right-count (variableName g i₀ q₀ k₀ m₀ z) (ofBound c n) = n z
+    right-count (variableName g i₀ q₀ k₀ m₀ z) (ofVariable f i q k m n) = n z
+    right-count (variableName g i₀ q₀ k₀ m₀ z) (ofConstant f i q k n) = k (g _ _ _ _ i₀ q₀ i q .1 .sameKind .0 k₀)
+    right-count (constantName g f₀ i₀ q₀ k₀ c) (ofBound b n) = free-bound f₀ b
+    right-count (constantName g f₀ i₀ q₀ k₀ c) (ofVariable f i q k m n) = k₀ (g _ _ _ _ i₀ q₀ i q .1 .sameKind .1 k)
+    right-count (constantName g f₀ i₀ q₀ k₀ c) (ofConstant f i q k n) = moved n (g _ _ _ _ i₀ q₀ i q .1 .sameContext) c
 
-  -- a variable of the context there is one here
-  pub in-force : {bs : List Bytes} {w : Bytes} {j : ℕ} → InOrder bs w j → ¬ NotInContext ls context bs w j
-  in-force (boundName b z) (outsideContext f i q k n) = free-bound f b
-  in-force (variableName {u} g i₀ q₀ k₀ m₀ z) (outsideContext {v} f i q k n) =
-      n (subst (λ x. Member x context) (sym (g _ _ _ _ i₀ q₀ i q .0)) (subst (Member (ρ u)) (sym same) (member-map ρ m₀)))
-  in-force (constantName g f₀ i₀ q₀ k₀ c) (outsideContext f i q k n) = k₀ (g _ _ _ _ i₀ q₀ i q .1 .sameKind .1 k)
+    -- a variable of the context there is one here
+    pub in-force : {bs : List Bytes} {w : Bytes} {j : ℕ} → InOrder bs w j → ¬ NotInContext ls context bs w j
+    in-force (boundName b z) (outsideContext f i q k n) = free-bound f b
+    in-force (variableName {u} g i₀ q₀ k₀ m₀ z) (outsideContext {v} f i q k n) =
+        n (subst (λ x. Member x context) (sym (g _ _ _ _ i₀ q₀ i q .0)) (subst (Member (ρ u)) (sym same) (member-map ρ m₀)))
+    in-force (constantName g f₀ i₀ q₀ k₀ c) (outsideContext f i q k n) = k₀ (g _ _ _ _ i₀ q₀ i q .1 .sameKind .1 k)
 
-  -- ---- a fault that no name in order has is the first in no expression
+    -- ---- a fault that no name in order has is the first in no expression
 
-  module _ (fault : NameFault) (none : (bs : List Bytes) (w : Bytes) (j : ℕ) → InOrder bs w j → ¬ fault ls context bs w j) where
-    at-name : {bs : List Bytes} {w : Bytes} {xs : Srcs} → InOrder bs w (countSrcs xs) → ¬ FirstIn ls context fault bs xs → ¬ First ls context fault bs (Src.name w xs)
-    at-name o h (itself f) = none _ _ _ o f
-    at-name o h (F.inArgument f i q k c g) = h g
+    module _ (fault : NameFault) (none : (bs : List Bytes) (w : Bytes) (j : ℕ) → InOrder bs w j → ¬ fault ls context bs w j) where
+      at-name : {bs : List Bytes} {w : Bytes} {xs : Srcs} → InOrder bs w (countSrcs xs) → ¬ FirstIn ls context fault bs xs → ¬ First ls context fault bs (Src.name w xs)
+      at-name o h (itself f) = none _ _ _ o f
+      at-name o h (F.inArgument f i q k c g) = h g
 
-    at-application : {bs : List Bytes} {a b : Src} → ¬ First ls context fault bs a → ¬ First ls context fault bs b → ¬ First ls context fault bs (Src.app a b)
-    at-application h k (F.inA f) = h f
-    at-application h k (F.inB m f) = k f
+      at-application : {bs : List Bytes} {a b : Src} → ¬ First ls context fault bs a → ¬ First ls context fault bs b → ¬ First ls context fault bs (Src.app a b)
+      at-application h k (F.inA f) = h f
+      at-application h k (F.inB m f) = k f
 
-    at-abstraction : {bs : List Bytes} {x : Bytes} {a b : Src} → ¬ First ls context fault bs a → ¬ First ls context fault (x ∷ bs) b → ¬ First ls context fault bs (Src.abs x a b)
-    at-abstraction h k (F.inDomain f) = h f
-    at-abstraction h k (F.inBody m f) = k f
+      at-abstraction : {bs : List Bytes} {x : Bytes} {a b : Src} → ¬ First ls context fault bs a → ¬ First ls context fault (x ∷ bs) b → ¬ First ls context fault bs (Src.abs x a b)
+      at-abstraction h k (F.inDomain f) = h f
+      at-abstraction h k (F.inBody m f) = k f
 
-    at-type : {bs : List Bytes} → ¬ First ls context fault bs Src.type
-    at-type h = elim h [ ]
+      at-type : {bs : List Bytes} → ¬ First ls context fault bs Src.type
+      at-type h = elim h [ ]
 
-    at-prop : {bs : List Bytes} → ¬ First ls context fault bs Src.prop
-    at-prop h = elim h [ ]
+      at-prop : {bs : List Bytes} → ¬ First ls context fault bs Src.prop
+      at-prop h = elim h [ ]
 
-    at-none : {bs : List Bytes} → ¬ FirstIn ls context fault bs Srcs.nil
-    at-none h = elim h [ ]
+      at-none : {bs : List Bytes} → ¬ FirstIn ls context fault bs Srcs.nil
+      at-none h = elim h [ ]
 
-    at-more : {bs : List Bytes} {a : Src} {xs : Srcs} → ¬ First ls context fault bs a → ¬ FirstIn ls context fault bs xs → ¬ FirstIn ls context fault bs (Srcs.cons a xs)
-    at-more h k (F.inFirst f) = h f
-    at-more h k (F.inRest m f) = k f
+      at-more : {bs : List Bytes} {a : Src} {xs : Srcs} → ¬ First ls context fault bs a → ¬ FirstIn ls context fault bs xs → ¬ FirstIn ls context fault bs (Srcs.cons a xs)
+      at-more h k (F.inFirst f) = h f
+      at-more h k (F.inRest m f) = k f
 
-    mutual
-      unfolding countSrcs
+      mutual
+        unfolding countSrcs
 
-      no-first : {bs : List Bytes} {x : Src} {e : Expr} → Means ls₀ context₀ bs x e → ((w : Bytes) → OccursFree w bs x → AlikeAt ρ ls₀ ls w) → ¬ First ls context fault bs x
-      no-first (aBound b) g = at-name (boundName b refl) at-none
-      no-first (aVariable f i q k m) g = at-name (variableName (g _ (O.itself f)) i q k m refl) at-none
-      no-first (aConstant {l = l} {us = us} f i q k a c e) g =
-          at-name (constantName (g _ (O.itself f)) f i q k (subst (λ n. LeftOut n (l .context) context₀ us) (sym (count-all ls₀ context₀ a)) c)) (no-first-in a (λ w o. g w (inArgument o)))
-      no-first (anApplication h k) g = at-application (no-first h (λ w o. g w (inA o))) (no-first k (λ w o. g w (inB o)))
-      no-first (anAbstraction h k) g = at-abstraction (no-first h (λ w o. g w (inDomain o))) (no-first k (λ w o. g w (inBody o)))
-      no-first aType g = at-type
-      no-first aProp g = at-prop
+        no-first : {bs : List Bytes} {x : Src} {e : Expr} → Means ls₀ context₀ bs x e → ((w : Bytes) → OccursFree w bs x → AlikeAt ρ ls₀ ls w) → ¬ First ls context fault bs x
+        no-first (aBound b) g = at-name (boundName b refl) at-none
+        no-first (aVariable f i q k m) g = at-name (variableName (g _ (O.itself f)) i q k m refl) at-none
+        no-first (aConstant {l = l} {us = us} f i q k a c e) g =
+            at-name (constantName (g _ (O.itself f)) f i q k (subst (λ n. LeftOut n (l .context) context₀ us) (sym (count-all ls₀ context₀ a)) c)) (no-first-in a (λ w o. g w (inArgument o)))
+        no-first (anApplication h k) g = at-application (no-first h (λ w o. g w (inA o))) (no-first k (λ w o. g w (inB o)))
+        no-first (anAbstraction h k) g = at-abstraction (no-first h (λ w o. g w (inDomain o))) (no-first k (λ w o. g w (inBody o)))
+        no-first aType g = at-type
+        no-first aProp g = at-prop
 
-      no-first-in : {bs : List Bytes} {xs : Srcs} {es : Exprs} → MeanAll ls₀ context₀ bs xs es → ((w : Bytes) → OccursFreeIn w bs xs → AlikeAt ρ ls₀ ls w) → ¬ FirstIn ls context fault bs xs
-      no-first-in noMore g = at-none
-      no-first-in (oneMore h k) g = at-more (no-first h (λ w o. g w (inFirst o))) (no-first-in k (λ w o. g w (inRest o)))
+        no-first-in : {bs : List Bytes} {xs : Srcs} {es : Exprs} → MeanAll ls₀ context₀ bs xs es → ((w : Bytes) → OccursFreeIn w bs xs → AlikeAt ρ ls₀ ls w) → ¬ FirstIn ls context fault bs xs
+        no-first-in noMore g = at-none
+        no-first-in (oneMore h k) g = at-more (no-first h (λ w o. g w (inFirst o))) (no-first-in k (λ w o. g w (inRest o)))
 
-    pub no-first-of : {s : SourceLine} {k : Kind} {e : Expr} → MiddleMeans ls₀ context₀ (s .middle) k → Means ls₀ context₀ [] (s .category) e
-        → ((w : Bytes) → Names s w → AlikeAt ρ ls₀ ls w) → ¬ FirstOf ls context fault s
-    no-first-of {k = k} m c g (F.inMiddle {x} e f) = at-middle (subst (λ y. MiddleMeans ls₀ context₀ y k) e m)
-      where
-        at-middle : {n : Kind} → MiddleMeans ls₀ context₀ (Middle.meaning x) n → ⊥
-        at-middle (isMeaning h) = no-first h (λ w o. g w (inMiddle e o)) f
-    no-first-of m c g (F.inCategory n f) = no-first c (λ w o. g w (inCategory o)) f
+      pub no-first-of : {s : SourceLine} {k : Kind} {e : Expr} → MiddleMeans ls₀ context₀ (s .middle) k → Means ls₀ context₀ [] (s .category) e
+          → ((w : Bytes) → Names s w → AlikeAt ρ ls₀ ls w) → ¬ FirstOf ls context fault s
+      no-first-of {k = k} m c g (F.inMiddle {x} e f) = at-middle (subst (λ y. MiddleMeans ls₀ context₀ y k) e m)
+        where
+          at-middle : {n : Kind} → MiddleMeans ls₀ context₀ (Middle.meaning x) n → ⊥
+          at-middle (isMeaning h) = no-first h (λ w o. g w (inMiddle e o)) f
+      no-first-of m c g (F.inCategory n f) = no-first c (λ w o. g w (inCategory o)) f

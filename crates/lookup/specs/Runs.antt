@@ -18,13 +18,13 @@ use Rattle.aut68.specs.Procedure.Answer.{Answer, done, stop, Refusal, isVerdict
 use Rattle.aut68.specs.Procedure.CheckLine.{Passed, checkLine}
 use Rattle.aut68.specs.Procedure.Run.{Recorded, Ending, turnedAway, accepted, refusedAt, codeAt, oneMore, checkLines, nothing, run}
 use Rattle.aut68.specs.Demands.{Accepted, Wrong, Verdict, Admitted}
-use Rattle.lookup.specs.Answers.{Decides, wrong-decides, space-undecided, code-positive}
+use Rattle.lookup.specs.Answers.{Decides, wrong-decides, space-undecided, code-nonzero}
 
 -- ---- verdicts
 
 pub verdict-decides : (r : Refusal) (line steps : ℕ) (k : Recorded) → Verdict (refusedAt r line steps k) → Decides r
 unfolding Verdict Accepted Wrong codeAt
-verdict-decides r line steps k (inl e) = let p = code-positive r in absurd (omega arith)
+verdict-decides r line steps k (inl e) = absurd (code-nonzero r e)
 verdict-decides r line steps k (inr h) = wrong-decides r h
 
 module _ (language : Language) where
@@ -127,8 +127,8 @@ module _ (language : Language) where
 
   pub early-refused : {e : Ending} → Early e → ¬ Accepted e
   unfolding Accepted codeAt
-  early-refused (unfit {r} q) h = let p = code-positive r in omega arith
-  early-refused tooLong h = let p = code-positive outOfSpace in omega arith
+  early-refused (unfit {r} q) h = code-nonzero r h
+  early-refused tooLong h = code-nonzero outOfSpace h
 
   module _ (book : Bytes) (m : Limits) where
     pub run-admitted : Admitted language book m → run language book m ≡ checkLines language m nothing 0 (m .budget) (lines book)

@@ -18,8 +18,8 @@ use Rattle.aut68.specs.Procedure.Resolve.{Naming, found, unused, resolveMiddle,
 use Rattle.aut68.specs.Procedure.Resolve as Resolve
 use Rattle.aut68.specs.Sizes.{lineLimit, atContext}
 use Rattle.lookup.specs.LineNumbers.{line-lineOf}
-use Rattle.lookup.specs.Answers.{done-value, stop≢done}
-use Rattle.cells.specs.Results.{Result, code-nonzero}
+use Rattle.lookup.specs.Answers.{done-value, stop≢done, code-nonzero}
+use Rattle.cells.specs.Results.{Result}
 use Rattle.cells.specs.Results as Results
 use Rattle.names.specs.Known.{Known}
 use Rattle.names.specs.Hints.{Hinted}

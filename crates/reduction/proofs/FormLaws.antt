@@ -21,7 +21,8 @@ use Rattle.cells.specs.Cells.{AllFormed, Wf, At}
 use Rattle.cells.specs.Forests.{at-first, at-inside, at-front, at-one, at-tail, cells-one, cells-long, size-is-length}
 use Rattle.cells.specs.Layout.{unitAt, scratchUnit}
 use Rattle.cells.specs.Posts.{Skipped}
-use Rattle.cells.specs.Results.{Result, passed, refused, code-nonzero}
+use Rattle.lookup.specs.Answers.{code-nonzero}
+use Rattle.cells.specs.Results.{Result, passed, refused}
 use Rattle.terms.specs.Made.{noRoom}
 use Rattle.heads.specs.Book.{Book, known-wf}
 use Rattle.heads.specs.Heads.{HeadIs, no-head, contraction, unfolding-of}

@@ -8,12 +8,12 @@ use Rattle.aut68.specs.Language.{Language}
 use Rattle.aut68.specs.Stores.{Limits}
 use Rattle.aut68.specs.Bytes.{Bytes}
 use Rattle.aut68.specs.Lines.{Lines}
-use Rattle.aut68.specs.Procedure.Answer.{done, stop, Refusal, codeOf, unknownName}
+use Rattle.aut68.specs.Procedure.Answer.{done, stop, Refusal, codeOf, unknownName, wrongArity, notInContext}
 use Rattle.aut68.specs.Procedure.CheckLine.{Passed, checkLine}
 use Rattle.aut68.specs.Rules.NameFaults.{IndicatorFault, FirstName, Unknown}
 use Rattle.aut68.specs.Rules.Derivation.{Derived}
 use Rattle.aut68.specs.Demands.{ByItsNames}
-use Rattle.lookup.specs.Answers.{stop≢done, stop-reason}
+use Rattle.lookup.specs.Answers.{stop≢done, stop-reason, code-nonzero}
 use Rattle.lookup.specs.NameFaults.{NameRefusal, unknown, outOfContext, miscounted, refusalFor, FaultFor}
 use Rattle.lookup.specs.DerivedBooks.{distinct-names, right-contexts}
 use Rattle.reading.specs.Stages.{Unread, isMalformed, isTaken, noIndicator, noName, isLarge, indicator-unread, name-unread, unread-stops}
@@ -100,12 +100,11 @@ module _ (language : Language) {ls : Lines} {past : List Bytes} (D : Derived lan
   -- ---- a line that passed
 
   pub passed-by-names : {p : Passed} {b′ : ℕ} → checkLine language ls m bytes b ≡ done p b′ → (k code line : ℕ) → (line ≡ suc k → code ≡ 0) → ByItsNames language k ls bytes code line
-  unfolding codeOf
   passed-by-names f k code line n =
       record {
-        isUnknown = (λ h. (let z = n (h .1) in absurd (omega (arith, h .0))), λ h. absurd (unknown-not h));
-        isNotInContext = (λ h. (let z = n (h .1) in absurd (omega (arith, h .0))), λ x. absurd (stop≢done (sym (name-stops outOfContext x) ∙ f)));
-        isMiscounted = (λ h. (let z = n (h .1) in absurd (omega (arith, h .0))), λ x. absurd (stop≢done (sym (name-stops miscounted x) ∙ f)));
+        isUnknown = (λ h. absurd (code-nonzero unknownName (sym (h .0) ∙ n (h .1))), λ h. absurd (unknown-not h));
+        isNotInContext = (λ h. absurd (code-nonzero notInContext (sym (h .0) ∙ n (h .1))), λ x. absurd (stop≢done (sym (name-stops outOfContext x) ∙ f)));
+        isMiscounted = (λ h. absurd (code-nonzero wrongArity (sym (h .0) ∙ n (h .1))), λ x. absurd (stop≢done (sym (name-stops miscounted x) ∙ f)));
       }
     where
       unknown-not : IndicatorFault language ls bytes ⊎ FirstName language ls bytes Unknown → ⊥

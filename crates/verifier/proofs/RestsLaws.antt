@@ -15,8 +15,8 @@ use Rattle.aut68.specs.Procedure.Answer.{Refusal, codeOf}
 use Rattle.aut68.specs.Procedure.Calls.{declineCode, noSuchLine, answerTooLong}
 use Rattle.aut68.specs.Procedure.Run.{Ending, turnedAway, accepted, refusedAt, run, codeAt, recordedAt, over, workEnd}
 use Rattle.aut68.specs.Demands.{Verdict, Accepted, Determined}
-use Rattle.aut68.specs.Resting.{Told, noLine, tooLong, written, TellsRests}
-use Rattle.lookup.specs.Answers.{code-positive}
+use Rattle.aut68.specs.Resting.{noLine, tooLong, written, TellsRests}
+use Rattle.lookup.specs.Answers.{code-nonzero}
 use Rattle.lookup.specs.Following.{named-before}
 use Rattle.lookup.specs.Runs.{verdict-admitted}
 use Rattle.records.specs.OnRecord.{on-record}
@@ -59,7 +59,7 @@ module _ (book : Bytes) (N L : ℕ) (s : Stores) {code line steps : ℕ} {tb ts 
   work-zeros = d .workIs ∙ of ending accepted-code
     where
       of : (e : Ending) → codeAt e ≡ 0 → workEnd L e (s .work) ≡ over (replicate (workUnits * L) 0) (s .work)
-      of (turnedAway r) z = absurd (omega (arith, z, code-positive r))
+      of (turnedAway r) z = absurd (code-nonzero r z)
       of (accepted n k) z = refl
       of (refusedAt r l n k) z = refl
 
