@@ -1,21 +1,21 @@
 -- What is claimed of the lines that a line rests on, and of the call that tells them, as types. The proofs are elsewhere.
 use mathlib.Core.Path.{_≡_}
-use mathlib.Core.Logic.{_↔_, _⊎_, _≢_}
+use mathlib.Core.Logic.{_↔_, _⊎_}
 use Prim.Native.Nat.{ℕ, _≤_, _<_}
 use mathlib.Core.List.{List, [], map}
 use lib.ListN.{length}
 use Rattle.aut68.specs.Language.{Language}
-use Rattle.aut68.specs.Stores.{Stores, Limits, limitsOf, Larger}
+use Rattle.aut68.specs.Stores.{Stores, limitsOf}
 use Rattle.aut68.specs.Bytes.{Bytes, lines, joined}
 use Rattle.aut68.specs.Lines.{Line, Lines}
 use Rattle.aut68.specs.Index.{namesOf}
 use Rattle.aut68.specs.Renumbering.{renumberLine}
 use Rattle.aut68.specs.Procedure.Calls.{declineCode, noSuchLine, answerTooLong}
-use Rattle.aut68.specs.Procedure.Run.{run, codeAt, lineAt, stepsAt, recordedAt, over}
+use Rattle.aut68.specs.Procedure.Run.{run, codeAt, recordedAt}
 use Rattle.aut68.specs.Rules.Names.{IsLine, Member}
 use Rattle.aut68.specs.Rules.Derivation.{Derived, Correct}
 use Rattle.aut68.specs.Rules.Following.{NamesLine, Reaches, Ascends, RestsOn, Deleted}
-use Rattle.aut68.specs.Demands.{Verdict, Checks}
+use Rattle.aut68.specs.Admission.{Writes, AdmitsFirst}
 
 -- ---- the index
 
@@ -45,34 +45,20 @@ Deletion = (language : Language) (pieces : List Bytes) (ls : Lines) (v : ℕ) �
 
 -- ---- the call that tells what a line rests on
 
--- What it says of line v of the lines ls, and what it leaves of the lent store `old`: exactly one of the three.
+-- What it says of line v of the lines ls, and what it leaves of the lent store `old`: exactly one of the two.
 pub data Told (ls : Lines) (v : ℕ) (old : List ℕ) (code count : ℕ) (new : List ℕ) : Type 0 where
   -- "13, the line is 0 or above the last"
   noLine : (v ≡ 0) ⊎ (length ls < v) → code ≡ declineCode noSuchLine → count ≡ 0 → new ≡ old → Told ls v old code count new
   -- "a list that does not fit gives 12 and none of it is written"
-  tooLong : (list : List ℕ) → 1 ≤ v → v ≤ length ls → RestsOn ls v list → length old < length list
-      → code ≡ declineCode answerTooLong → count ≡ 0 → new ≡ old → Told ls v old code count new
-  written : (list : List ℕ) → 1 ≤ v → v ≤ length ls → RestsOn ls v list → length list ≤ length old
-      → code ≡ 0 → count ≡ length list → new ≡ over list old → Told ls v old code count new
+  told : (list : List ℕ) → 1 ≤ v → v ≤ length ls → RestsOn ls v list → Writes list answerTooLong old code count new → Told ls v old code count new
 
 -- What the call promises, of the bytes, the budget N, the limit L, the stores at entry, the line v, the cells of the answer's store at
 -- entry, the outcome, the stores and the answer's store at exit. Each field names two wrong programs that it shuts out.
 pub record TellsRests (language : Language) (book : Bytes) (N L : ℕ) (s : Stores) (v : ℕ) (old : List ℕ) (code line steps count : ℕ) (s′ : Stores) (new : List ℕ) : Type 0 where
-  -- "A call on an accepted book admits it first, on a budget apart": the four stores are left as the check leaves them. Shut out: a
-  -- program that leaves its marks in the working store; one that trusts the rows it finds in the table.
-  pub admission : let e = run language book (limitsOf N L s) in Checks language book N L s (codeAt e) (lineAt e) (stepsAt e) s′
-  -- "and passes a refusal on". Shut out: a program that answers 13 for a refused book; one that writes the answer of the lines before
-  -- the refused one.
-  pub refused : let e = run language book (limitsOf N L s) in
-      codeAt e ≢ 0 → (code ≡ codeAt e) × (line ≡ lineAt e) × (steps ≡ stepsAt e) × (count ≡ 0) × (new ≡ old)
-  -- "what it gives after that has line 0, its own steps and the length of the answer it wrote, else 0"; following names takes no step.
-  -- Shut out: a program that leaves the line itself out; one that writes a list before it is known to fit.
-  pub told : let e = run language book (limitsOf N L s) in
-      codeAt e ≡ 0 → (line ≡ 0) × (steps ≡ 0) × Told (recordedAt e .recorded) v old code count new
-  -- "To be shown: deleting all lines not reached leaves a book that the rules find correct." Shut out, since `told` speaks of the same
+  -- The book is admitted first; following names takes no step. Shut out: a program that leaves the line itself out; one that writes a
+  -- list before it is known to fit.
+  pub admitsFirst : AdmitsFirst language book N L s code line steps count s′ (new ≡ old) (λ ls. (steps ≡ 0) × Told ls v old code count new)
+  -- "To be shown: deleting all lines not reached leaves a book that the rules find correct." Shut out, since the list is of the same
   -- lines: a program that forgets a line's indicator; one that forgets what is put in.
   pub deleting : let e = run language book (limitsOf N L s) in
       codeAt e ≡ 0 → 1 ≤ v → v ≤ length (recordedAt e .recorded) → Remains language (lines book) (recordedAt e .recorded) v
-  -- "a verdict is kept under larger budgets and size limits given the same index too": the admission ends alike, so the call tells of the
-  -- same lines. Shut out: a program that admits more lines where it has more budget; one that records them otherwise.
-  pub limits : let e = run language book (limitsOf N L s) in (m′ : Limits) → Larger (limitsOf N L s) m′ → Verdict e → run language book m′ ≡ e

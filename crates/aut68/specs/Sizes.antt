@@ -64,3 +64,13 @@ atCategory = 6
 
 abbrev pub atEnd : ℕ
 atEnd = 7
+
+-- A printed row: columns 1 to 5 for the number, a blank one, columns 7 to 72 for the text, and byte 10.
+abbrev pub numberColumns : ℕ
+numberColumns = 5
+
+abbrev pub textColumns : ℕ
+textColumns = 66
+
+abbrev pub pageRow : ℕ
+pageRow = 73

@@ -32,10 +32,13 @@ pub const NO_SUCH_LINE: u32 = 13;
 
 pub const NOT_IN_CONTEXT: u32 = 14;
 
+pub const STORE_TOO_SMALL: u32 = 15;
+
 // Why a call on a book that was admitted writes no answer.
 pub enum Cause {
     NoSuchLine,
     AnswerTooLong,
+    StoreTooSmall,
 }
 
 // The code of a cause.
@@ -45,6 +48,7 @@ pub fn cause_code(cause: Cause) -> u32
     match cause {
         Cause::NoSuchLine => NO_SUCH_LINE,
         Cause::AnswerTooLong => OUT_OF_SPACE,
+        Cause::StoreTooSmall => STORE_TOO_SMALL,
     }
 }
 

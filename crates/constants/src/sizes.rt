@@ -47,3 +47,10 @@ pub const MIDDLE_START: usize = 5;
 pub const CATEGORY_START: usize = 6;
 
 pub const CATEGORY_END: usize = 7;
+
+// A printed row: NUMBER_COLUMNS columns, a blank one, TEXT_COLUMNS columns, and byte 10.
+pub const NUMBER_COLUMNS: usize = 5;
+
+pub const TEXT_COLUMNS: usize = 66;
+
+pub const PAGE_ROW: usize = 73;

@@ -8,20 +8,14 @@ use constants::ROW_WIDTH;
 use constants::WORK_UNITS;
 use outcomes::Numbers;
 use outcomes::recorded;
-ghost use Rattle.io.specs.Counts.{Counts};
-
-// The most bytes and lines of a book, the cells of its term store and of its index, the budget, the limit.
-const BYTES: usize = 65536;
-
-const LINES: usize = 2048;
-
-const TERMS: usize = 32768;
-
-const INDEX: usize = 16384;
-
-const BUDGET: u32 = 100000;
-
-const LIMIT: usize = 256;
+use programs::BUDGET;
+use programs::BYTES;
+use programs::INDEX;
+use programs::LIMIT;
+use programs::LINES;
+use programs::TERMS;
+use programs::read_book;
+use programs::write_first;
 
 // The listing of a book, at the start of out. The answer: how many bytes it has.
 fn listing(book: &[u8], out: &mut [u8]) -> usize {
@@ -53,51 +47,6 @@ fn listing(book: &[u8], out: &mut [u8]) -> usize {
     let n = recorded(r);
     put_lines(out, &table, n);
     put_outcome(out, n, r)
-}
-
-// Writes the first n bytes of out.
-fn write_first(fd: i32, out: &[u8], n: usize) {
-    if n <= out.len() {
-        io::write_all(fd, &out[..n]);
-    }
-}
-
-// What was read: so many bytes, up to the end of the input or of the room for them; or a read failed behind them.
-struct Reading {
-    bytes: usize,
-    failed: bool,
-}
-
-// One read into book.
-fn read_once(fd: i32, book: &mut [u8]) -> Reading
-    ensures { λ r. ⌜ Counts (r .bytes) (now (book .exit)) ⌝ }
-{
-    let got = libc::read(fd, book);
-    Reading {
-        bytes: io::count(got, book),
-        failed: got < 0,
-    }
-}
-
-// Reads until book is full or the input ends.
-fn read_book(fd: i32, book: &mut [u8]) -> Reading
-    ensures { λ r. ⌜ Counts (r .bytes) (now (book .exit)) ⌝ }
-{
-    let mut n = 0;
-    while n < book.len() {
-        let more = read_once(fd, &mut book[n..]);
-        if more.bytes == 0 {
-            return Reading {
-                bytes: n,
-                failed: more.failed,
-            };
-        }
-        n = n + more.bytes;
-    }
-    Reading {
-        bytes: n,
-        failed: false,
-    }
 }
 
 // Lists the book that `from` has, on `to`. Where a read fails, standard error says why, and nothing is listed.

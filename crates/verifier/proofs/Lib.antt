@@ -1,3 +1,2 @@
 -- Laws that the proofs of the public functions cite.
 pub mod EndingCodes
-pub mod RestsLaws

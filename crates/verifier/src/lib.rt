@@ -1,8 +1,7 @@
 // AUT-68 books: the public library. `check_book` checks a book; aut68's Demands has what it promises (`Checks`), crate `outcomes`
-// the code, line and steps of each outcome. `rests_on` tells what a line rests on; aut68's Resting has what it promises (`TellsRests`).
-// `identifier` fetches a recorded line's identifier as the part of the book.
+// the code, line and steps of each outcome. `rests_on` (crate `resting`) tells what a line rests on, `print_pages` (crate `printing`)
+// prints a book; aut68's Resting and Printing have what they promise (`TellsRests`, `PrintsPages`). `identifier` fetches a recorded line's identifier as the part of the book.
 mod book;
-mod rests;
 
 pub use book::check_book;
 pub use constants::Cause;
@@ -16,4 +15,5 @@ pub use outcomes::Numbers;
 pub use outcomes::Outcome;
 pub use outcomes::answer_numbers;
 pub use outcomes::numbers_of;
-pub use rests::rests_on;
+pub use printing::print_pages;
+pub use resting::rests_on;

@@ -3,10 +3,12 @@
 use Prim.Native.Nat.{ℕ}
 use Rattle.aut68.specs.Procedure.Answer.{codeOf, outOfSpace}
 
--- Why a call on a book that was admitted writes no answer: the line is 0 or above the last; the answer does not fit its store.
+-- Why a call on a book that was admitted writes no answer: the line is 0 or above the last; the list of lines does not fit the answer's
+-- store; "page store too small".
 pub data Decline : Type 0 where
-  noSuchLine answerTooLong : Decline
+  noSuchLine answerTooLong storeTooSmall : Decline
 
 unfoldable pub declineCode : Decline → ℕ
 declineCode noSuchLine = 13
 declineCode answerTooLong = codeOf outOfSpace
+declineCode storeTooSmall = 15

@@ -2,8 +2,8 @@
 use lib.ListN.{length-take}
 use borrow.Author.Needs.{needs}
 use native.Mathlib.Omega.{arith}
-use Rattle.listing.proofs.write_first.Statement.{statement}
-use Rattle.listing.proofs.write_first.Tie as tie
+use Rattle.programs.proofs.write_first.Statement.{statement}
+use Rattle.programs.proofs.write_first.Tie as tie
 
 slice-aggregate-write-all : tie.Need-slice-aggregate-write-all
 slice-aggregate-write-all c = simp length-take (omega arith)

@@ -7,10 +7,10 @@ use Rattle.aut68.specs.Language.{aut68}
 use Rattle.aut68.specs.Procedure.Answer.{codeOf}
 use Rattle.aut68.specs.Procedure.Calls.{declineCode}
 use Rattle.theorems.specs.Resting.{tells-refusal}
-use Rattle.verifier.proofs.RestsLaws.{refusal-code, work-fits, tells-no-line, tells-too-long, tells-list}
+use Rattle.resting.proofs.RestsLaws.{refusal-code, work-fits, tells-no-line, tells-too-long, tells-list}
 use borrow.Author.Needs.{needs}
-use Rattle.verifier.proofs.rests.rests_on.Statement.{statement}
-use Rattle.verifier.proofs.rests.rests_on.Tie as tie
+use Rattle.resting.proofs.rests_on.Statement.{statement}
+use Rattle.resting.proofs.rests_on.Tie as tie
 
 admit-requires : tie.Need-admit-requires
 admit-requires c κs = tt

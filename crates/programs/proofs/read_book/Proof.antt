@@ -6,8 +6,8 @@ use lib.ListN.{length}
 use lib.Seq.{length-take-le}
 use borrow.Author.Needs.{needs}
 use Rattle.io.specs.Counts.{Counts}
-use Rattle.listing.proofs.read_book.Statement.{statement}
-use Rattle.listing.proofs.read_book.Tie as tie
+use Rattle.programs.proofs.read_book.Statement.{statement}
+use Rattle.programs.proofs.read_book.Tie as tie
 
 counts : (n : ℕ) (bytes : List ℕ) → n ≤ length bytes → Counts n bytes
 counts n bytes h = (h, sym (length-take-le n bytes h))

@@ -1,0 +1,2 @@
+-- What the contracts say of rows.
+pub mod Posts

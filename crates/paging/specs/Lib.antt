@@ -1,0 +1,1 @@
+-- Printed pages: spaces dropped, and lines read back.
