@@ -6,7 +6,7 @@ use mathlib.Core.List.{List, []}
 use lib.ListN.{take, getD}
 use Rattle.aut68.specs.Language.{Language}
 use Rattle.aut68.specs.Sizes.{rowWidth}
-use Rattle.aut68.specs.Stores.{Stores, Limits, limitsOf}
+use Rattle.aut68.specs.Stores.{Stores, limitsOf}
 use Rattle.aut68.specs.Bytes.{Bytes, lines, joined}
 use Rattle.aut68.specs.Source.{SourceLine}
 use Rattle.aut68.specs.Pages.{without, symbolsIn, withoutSpaces, pages, readBack}
@@ -50,9 +50,10 @@ ReadsBack = (language : Language) (book : Bytes) (N L : ℕ) (s : Stores)
 
 -- With the padding each line has a derivation and means what it meant.
 unfoldable pub ReadsBackPadded : Type 0
-ReadsBackPadded = (language : Language) (book : Bytes) (m : Limits)
-    → Accepted (run language book m)
-    → Derived language [] (lines (joined (readBack (pages book)))) (recordedAt (run language book m) .recorded)
+ReadsBackPadded = (language : Language) (book : Bytes) (N L : ℕ) (s : Stores)
+    → let e = run language book (limitsOf N L s) in
+    Accepted e
+    → Derived language [] (lines (joined (readBack (pages book)))) (recordedAt e .recorded)
 
 -- ---- the call that prints a book
 

@@ -1,9 +1,11 @@
 // The calls for C and Rust: include/aut68.h declares them. Such callers prove nothing, so they require nothing.
 use constants::Cell;
+use outcomes::AnswerNumbers;
 ghost use Rattle.aut68.specs.Language.{aut68};
 ghost use Rattle.aut68.specs.Stores.{stores};
 ghost use Rattle.aut68.specs.Demands.{Checks};
 ghost use Rattle.aut68.specs.Resting.{TellsRests};
+ghost use Rattle.aut68.specs.Printing.{PrintsPages};
 ghost use Rattle.names.specs.Known.{IdentifierPlaced};
 
 // Document 01's numbers of an outcome: code, line, steps.
@@ -37,15 +39,6 @@ pub extern "C" fn aut68_check(
     }
 }
 
-// The numbers of a call on a book other than its check: code, line, steps, and the length of the answer.
-#[repr(C)]
-pub struct Aut68Answer {
-    pub code: u32,
-    pub line: u32,
-    pub steps: u32,
-    pub length: u32,
-}
-
 // Tells what a line rests on: the `PN` lines reached from it, in the first cells of the answer.
 #[no_mangle]
 pub extern "C" fn aut68_rests_on(
@@ -58,17 +51,29 @@ pub extern "C" fn aut68_rests_on(
     index: &mut [u32],
     line: u32,
     answer: &mut [u32],
-) -> Aut68Answer
+) -> AnswerNumbers
     ensures { λ r. ⌜ TellsRests aut68 (now (book .entry)) budget limit (stores (now (table .entry)) (now (terms .entry)) (now (work .entry)) (now (index .entry))) line (now (answer .entry)) (r .code) (r .line) (r .steps) (r .length) (stores (now (table .exit)) (now (terms .exit)) (now (work .exit)) (now (index .exit))) (now (answer .exit)) ⌝ }
 {
     let a = verifier::rests_on(book, budget, limit, table, terms, work, index, line, answer);
-    let told = verifier::answer_numbers(a);
-    Aut68Answer {
-        code: told.code,
-        line: told.line,
-        steps: told.steps,
-        length: told.length,
-    }
+    verifier::answer_numbers(a)
+}
+
+// Prints a book: its pages, in the first bytes of the page store.
+#[no_mangle]
+pub extern "C" fn aut68_pages(
+    book: &[u8],
+    budget: u32,
+    limit: u32,
+    table: &mut [u32],
+    terms: &mut [Cell],
+    work: &mut [Cell],
+    index: &mut [u32],
+    page: &mut [u8],
+) -> AnswerNumbers
+    ensures { λ r. ⌜ PrintsPages aut68 (now (book .entry)) budget limit (stores (now (table .entry)) (now (terms .entry)) (now (work .entry)) (now (index .entry))) (now (page .entry)) (r .code) (r .line) (r .steps) (r .length) (stores (now (table .exit)) (now (terms .exit)) (now (work .exit)) (now (index .exit))) (now (page .exit)) ⌝ }
+{
+    let a = verifier::print_pages(book, budget, limit, table, terms, work, index, page);
+    verifier::answer_numbers(a)
 }
 
 // Where an identifier stands in the book: its first byte and its length; length 0 where there is none.

@@ -25,7 +25,8 @@ pub enum Answer {
     },
 }
 
-// Code, line, steps, and the length of the answer.
+// Code, line, steps, and the length of the answer; C callers get them so.
+#[repr(C)]
 pub struct AnswerNumbers {
     pub code: u32,
     pub line: u32,

@@ -38,9 +38,9 @@ pub fn print_pages(
         };
     }
     put_pages(book, page);
-    let length = PAGE_ROW * rows;
+    let bytes = PAGE_ROW * rows;
     Answer::Given {
         steps: 0,
-        length: length as u32,
+        length: bytes as u32,
     }
 }

@@ -1,6 +1,6 @@
 -- What a line rests on, told from the stores that the admission left.
 use mathlib.Core.Path.{_≡_, refl, sym, ap, _∙_, subst}
-use mathlib.Core.Logic.{_⊎_, _≢_, inl, inr, ⊎-elim}
+use mathlib.Core.Logic.{_⊎_, inl, inr}
 use mathlib.Core.List.{List, _++_}
 use Prim.Native.Nat.{ℕ, _*_, _≤_, _<_}
 use native.Mathlib.Omega.{arith}
@@ -11,39 +11,28 @@ use Rattle.aut68.specs.Sizes.{workUnits}
 use Rattle.aut68.specs.Stores.{Stores, stores, limitsOf}
 use Rattle.aut68.specs.Bytes.{Bytes}
 use Rattle.aut68.specs.Lines.{Lines}
-use Rattle.aut68.specs.Procedure.Answer.{Refusal, codeOf}
 use Rattle.aut68.specs.Procedure.Calls.{declineCode, noSuchLine, answerTooLong}
 use Rattle.aut68.specs.Procedure.Run.{Ending, turnedAway, accepted, refusedAt, run, codeAt, recordedAt, over, workEnd}
-use Rattle.aut68.specs.Demands.{Verdict, Accepted, Determined}
-use Rattle.aut68.specs.Resting.{noLine, tooLong, written, TellsRests}
+use Rattle.aut68.specs.Demands.{Determined}
+use Rattle.aut68.specs.Admission.{tooLong, written}
+use Rattle.aut68.specs.Resting.{noLine, told, TellsRests}
 use Rattle.lookup.specs.Answers.{code-nonzero}
 use Rattle.lookup.specs.Following.{named-before}
 use Rattle.lookup.specs.Runs.{verdict-admitted}
 use Rattle.records.specs.OnRecord.{on-record}
 use Rattle.cells.specs.Rows.{Rows, Stored}
 use Rattle.reaching.specs.Posts.{Answered, BeneathPost}
-use Rattle.theorems.specs.Resting.{accepted-lines, tells-rests}
-use Rattle.verifier.proofs.EndingCodes.{ending-code}
-
--- the code of a refusal
-pub refusal-code : {e : Ending} {L : ℕ} {s s′ : Stores} {code line steps x : ℕ} → Determined e L s code line steps s′ → code ≢ 0 → ((r : Refusal) → code ≡ codeOf r → x ≡ code) → x ≡ code
-refusal-code {e} d n h = ⊎-elim (λ z. absurd (n (d .codeIs ∙ z))) (λ (r, q). h r (d .codeIs ∙ q)) (ending-code e)
+use Rattle.theorems.specs.Admission.{accepted-code, verdict, last-line}
+use Rattle.theorems.specs.Resting.{tells-rests}
 
 module _ (book : Bytes) (N L : ℕ) (s : Stores) {code line steps : ℕ} {tb ts w ix : List ℕ}
     (d : Determined (run aut68 book (limitsOf N L s)) L s code line steps (stores tb ts w ix)) (accept : code ≡ 0) where
   abbrev ending : Ending
   ending = run aut68 book (limitsOf N L s)
 
-  accepted-code : codeAt ending ≡ 0
-  accepted-code = sym (d .codeIs) ∙ accept
-
-  verdict : Verdict ending
-  unfolding Verdict Accepted
-  verdict = inl accepted-code
-
   -- the reported line is the last one
-  last-line : line ≡ length (recordedAt ending .recorded)
-  last-line = d .lineIs ∙ accepted-lines aut68 book N L s accepted-code .0
+  here : line ≡ length (recordedAt ending .recorded)
+  here = last-line aut68 book N L s d accept
 
   -- there is no such line
   pub tells-no-line : {v : ℕ} {old : List ℕ} → (v ≡ 0) ⊎ (line < v) → TellsRests aut68 book N L s v old (declineCode noSuchLine) 0 0 0 (stores tb ts w ix) old
@@ -51,12 +40,12 @@ module _ (book : Bytes) (N L : ℕ) (s : Stores) {code line steps : ℕ} {tb ts 
     where
       at : (v ≡ 0) ⊎ (line < v) → (v ≡ 0) ⊎ (length (recordedAt ending .recorded) < v)
       at (inl z) = inl z
-      at (inr l) = inr (omega (arith, last-line))
+      at (inr l) = inr (omega (arith, here))
 
   -- the first cells of the working store are zeros
   work-zeros : w ≡ over (replicate (workUnits * L) 0) (s .work)
   unfolding workEnd codeAt
-  work-zeros = d .workIs ∙ of ending accepted-code
+  work-zeros = d .workIs ∙ of ending (accepted-code aut68 book N L s d accept)
     where
       of : (e : Ending) → codeAt e ≡ 0 → workEnd L e (s .work) ≡ over (replicate (workUnits * L) 0) (s .work)
       of (turnedAway r) z = absurd (code-nonzero r z)
@@ -85,10 +74,11 @@ module _ (book : Bytes) (N L : ℕ) (s : Stores) {code line steps : ℕ} {tb ts 
 
     answer-is : Answered (recordedAt ending .recorded) v old count new
     answer-is =
-        let o = on-record aut68 book N L s verdict in
-        let a = verdict-admitted aut68 book (limitsOf N L s) verdict .atLeast in
+        let v = verdict aut68 book N L s d accept in
+        let o = on-record aut68 book N L s v in
+        let a = verdict-admitted aut68 book (limitsOf N L s) v .atLeast in
         let few = o .held .few in
-        let e = last-line in
+        let e = here in
         post .answered (recordedAt ending .recorded)
         (record {
           rows = subst (Rows (recordedAt ending .recorded)) (sym (d .tableIs)) (o .held .rows);
@@ -112,11 +102,11 @@ module _ (book : Bytes) (N L : ℕ) (s : Stores) {code line steps : ℕ} {tb ts 
         let t = answer-is in
         let e = t .countIs in
         rw stores-same
-        (tells-rests aut68 book N L s d accept (tooLong (t .list) first (omega (arith, last-line)) (t .restsOn) (omega arith) refl refl (t .untouched (omega arith))))
+        (tells-rests aut68 book N L s d accept (told (t .list) first (omega (arith, here)) (t .restsOn) (tooLong (omega arith) refl refl (t .untouched (omega arith)))))
 
     pub tells-list : count ≤ length old → {k : ℕ} → k ≡ count → TellsRests aut68 book N L s v old 0 0 0 k (stores tb ts (w′ ++ drop (workUnits * L) w) ix) new
     tells-list h q =
         let t = answer-is in
         let e = t .countIs in
         rw stores-same
-        (tells-rests aut68 book N L s d accept (written (t .list) first (omega (arith, last-line)) (t .restsOn) (omega arith) refl (q ∙ e) (t .written (omega arith))))
+        (tells-rests aut68 book N L s d accept (told (t .list) first (omega (arith, here)) (t .restsOn) (written (omega arith) refl (q ∙ e) (t .written (omega arith)))))

@@ -6,8 +6,9 @@ use lib.Seq.{length-take-le}
 use Rattle.aut68.specs.Language.{aut68}
 use Rattle.aut68.specs.Procedure.Answer.{codeOf}
 use Rattle.aut68.specs.Procedure.Calls.{declineCode}
+use Rattle.theorems.specs.Admission.{refusal-code}
 use Rattle.theorems.specs.Resting.{tells-refusal}
-use Rattle.resting.proofs.RestsLaws.{refusal-code, work-fits, tells-no-line, tells-too-long, tells-list}
+use Rattle.resting.proofs.RestsLaws.{work-fits, tells-no-line, tells-too-long, tells-list}
 use borrow.Author.Needs.{needs}
 use Rattle.resting.proofs.rests_on.Statement.{statement}
 use Rattle.resting.proofs.rests_on.Tie as tie
@@ -35,7 +36,7 @@ returns c =
     let d = c .before .before .before .before .before .before .before .before .before .before .before .admit .ensures in
     let r = c .before .if1 .taken in
     let p = c .pass-on .ensures in
-    tells-refusal aut68 _ _ _ _ d r (refusal-code d r (p .codeIs)) (p .lineIs) (p .stepsAre) (p .nothingWritten)
+    tells-refusal aut68 _ _ _ _ d r (refusal-code aut68 _ _ _ _ d r (p .codeIs)) (p .lineIs) (p .stepsAre) (p .nothingWritten)
 
 same-length-5 : tie.Need-same-length-5
 same-length-5 c = c .before .before .before .before .before .before .before .before .before .before .before .admit .kept .1 .1 .1 .0

@@ -7,9 +7,9 @@ use Rattle.aut68.specs.Stores.{Stores}
 use Rattle.aut68.specs.Procedure.Run.{Ending}
 use Rattle.aut68.specs.Demands.{Determined}
 use Rattle.theorems.specs.Checks.{checks}
+use Rattle.theorems.specs.Admission.{ending-code}
 use Rattle.outcomes.specs.declared.Outcome.{Outcome}
 use Rattle.outcomes.specs.Outcomes.{codeOfOutcome, lineOfOutcome, stepsOfOutcome, IsCode, HasNumbers}
-use Rattle.verifier.proofs.EndingCodes.{ending-code}
 use Rattle.verifier.proofs.book.check_book.Statement.{statement}
 use Rattle.verifier.proofs.book.check_book.Tie as tie
 

@@ -1,0 +1,2 @@
+-- Laws that the proof of `rests_on` cites.
+pub mod RestsLaws

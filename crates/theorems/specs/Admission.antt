@@ -1,0 +1,87 @@
+-- What a call on a book has of its admission: the lines of an accepted book, a refusal passed on, and an answer.
+use mathlib.Core.Path.{_≡_, refl, sym, _∙_, subst}
+use mathlib.Core.Logic.{_⊎_, _≢_, inl, inr, ⊎-elim}
+use mathlib.Core.List.{[]}
+use Prim.Native.Nat.{ℕ, _≤_}
+use native.Mathlib.Omega.{arith}
+use lib.ListN.{length}
+use lib.Seq.{take-all}
+use Rattle.aut68.specs.Language.{Language}
+use Rattle.aut68.specs.Sizes.{bookLimit}
+use Rattle.aut68.specs.Stores.{Stores, limitsOf}
+use Rattle.aut68.specs.Bytes.{Bytes, lines}
+use Rattle.aut68.specs.Lines.{Lines}
+use Rattle.aut68.specs.Procedure.Answer.{Refusal, codeOf}
+use Rattle.aut68.specs.Procedure.Run.{Ending, turnedAway, accepted, refusedAt, run, codeAt, lineAt, stepsAt, recordedAt}
+use Rattle.aut68.specs.Rules.Derivation.{Derived}
+use Rattle.aut68.specs.Demands.{Accepted, Verdict, Soundness, Recording, Determined, Checks}
+use Rattle.aut68.specs.Admission.{AdmitsFirst}
+use Rattle.lookup.specs.Runs.{verdict-admitted}
+use Rattle.orders.specs.Limits.{same-ending}
+use Rattle.theorems.specs.Demands.{accepted-is-correct, recorded-are-meanings}
+use Rattle.theorems.specs.Checks.{accepted-line, checks}
+
+-- The code of an ending is 0 or a refusal's.
+pub ending-code : (e : Ending) → (codeAt e ≡ 0) ⊎ ((r : Refusal) × (codeAt e ≡ codeOf r))
+unfolding codeAt
+ending-code (turnedAway r) = inr (r, refl)
+ending-code (accepted steps k) = inl refl
+ending-code (refusedAt r line steps k) = inr (r, refl)
+
+module _ (language : Language) (book : Bytes) (N L : ℕ) (s : Stores) where
+  abbrev ending : Ending
+  ending = run language book (limitsOf N L s)
+
+  -- the lines of an accepted book: as many as are reported, and each has a derivation
+  pub accepted-lines : codeAt ending ≡ 0 → (lineAt ending ≡ length (recordedAt ending .recorded)) × Derived language [] (lines book) (recordedAt ending .recorded)
+  unfolding Soundness Accepted Recording
+  accepted-lines z =
+      let all = accepted-is-correct language book (limitsOf N L s) z .1 in
+      let here : lineAt ending ≡ length (recordedAt ending .recorded) = accepted-line language book N L s z in
+      (here, subst (λ x. Derived language [] x (recordedAt ending .recorded)) (take-all (length (recordedAt ending .recorded)) (lines book) (omega (arith, all, here))) (recorded-are-meanings language book (limitsOf N L s)))
+
+  module _ {code line steps : ℕ} {s′ : Stores} (d : Determined ending L s code line steps s′) where
+    promise : Checks language book N L s (codeAt ending) (lineAt ending) (stepsAt ending) s′
+    promise = checks language book N L s (record { codeIs = refl; lineIs = refl; stepsAre = refl; tableIs = d .tableIs; termsAre = d .termsAre; workIs = d .workIs; indexIs = d .indexIs })
+
+    -- ---- a refusal
+
+    -- a code that is passed on where it is a refusal's
+    pub refusal-code : {x : ℕ} → code ≢ 0 → ((r : Refusal) → code ≡ codeOf r → x ≡ code) → x ≡ code
+    refusal-code n h = ⊎-elim (λ z. absurd (n (d .codeIs ∙ z))) (λ (r, q). h r (d .codeIs ∙ q)) (ending-code ending)
+
+    pub admits-refused : {c l n k : ℕ} {Untouched : Type 0} {Answers : Lines → Type 0} → code ≢ 0 → c ≡ code → l ≡ line → n ≡ steps → k ≡ 0 → Untouched
+        → AdmitsFirst language book N L s c l n k s′ Untouched Answers
+    admits-refused r e f g z u =
+        record {
+          admission = promise;
+          refused = λ _. (e ∙ d .codeIs, f ∙ d .lineIs, g ∙ d .stepsAre, z, u);
+          answered = λ a. absurd (r (d .codeIs ∙ a));
+          limits = same-ending language book (limitsOf N L s);
+        }
+
+    -- ---- an accepted book
+
+    module _ (accept : code ≡ 0) where
+      pub accepted-code : codeAt ending ≡ 0
+      accepted-code = sym (d .codeIs) ∙ accept
+
+      pub verdict : Verdict ending
+      unfolding Verdict Accepted
+      verdict = inl accepted-code
+
+      -- the reported line is the last one
+      pub last-line : line ≡ length (recordedAt ending .recorded)
+      last-line = d .lineIs ∙ accepted-lines accepted-code .0
+
+      pub accepted-short : length book ≤ bookLimit
+      accepted-short = verdict-admitted language book (limitsOf N L s) verdict .short
+
+      pub admits-answered : {c n k : ℕ} {Untouched : Type 0} {Answers : Lines → Type 0} → Answers (recordedAt ending .recorded) → AdmitsFirst language book N L s c 0 n k s′ Untouched Answers
+      admits-answered a =
+          record {
+            admission = promise;
+            refused = λ r. absurd (r accepted-code);
+            answered = λ _. (refl, a);
+            limits = same-ending language book (limitsOf N L s);
+          }

@@ -1,2 +1,0 @@
--- Laws that the proofs of the public functions cite.
-pub mod EndingCodes
