@@ -22,9 +22,9 @@ part-long : (part new : Bytes) (to : ℕ) → to + length part ≤ length new �
 unfolding over
 part-long part new to l = simp (length-append, length-take, length-drop) (omega arith)
 
-byte-over : (b : ℕ) (new : Bytes) (to : ℕ) → to < length new → take to new ++ over (b ∷ []) (drop to new) ≡ set new to b
+byte-over : (b : ℕ) (new : Bytes) (to : ℕ) → to < length new → set new to b ≡ take to new ++ over (b ∷ []) (drop to new)
 unfolding over
-byte-over b new to l = ap (λ x. take to new ++ b ∷ x) (drop-drop 1 to new ∙ ap (λ j. drop j new) (add-one to)) ∙ sym (set-split new to b l)
+byte-over b new to l = set-split new to b l ∙ ap (λ x. take to new ++ b ∷ x) (ap (λ j. drop j new) (sym (add-one to)) ∙ sym (drop-drop 1 to new))
 
 -- the first bytes of `whole`, up to `to`, are put over the old ones; these are left
 pub record PutSoFar (whole old : Bytes) (to : ℕ) (new rest : Bytes) : Type 0 where
@@ -39,9 +39,9 @@ put-start = record { upTo = omega arith; long = refl; put = refl; left = refl }
 
 module _ {whole old : Bytes} {to : ℕ} {new : Bytes} where
   -- a part more, up to `end`
-  pub put-more : (part rest : Bytes) {end : ℕ} → PutSoFar whole old to new (part ++ rest) → to + length part ≡ end → end ≤ length old
-      → PutSoFar whole old end (take to new ++ over part (drop to new)) rest
-  put-more part rest {end} h e l =
+  pub put-more : (part rest : Bytes) {end : ℕ} {new′ : Bytes} → PutSoFar whole old to new (part ++ rest) → to + length part ≡ end → end ≤ length old
+      → new′ ≡ take to new ++ over part (drop to new) → PutSoFar whole old end new′ rest
+  put-more part rest {end} {new′} h e l p =
       let f : drop to whole ≡ part ++ rest = sym (h .left) in
       let m : length whole - to ≡ length part + length rest = sym (length-drop to whole) ∙ ap length f ∙ length-append part rest in
       let t : take end whole ≡ take to whole ++ part =
@@ -51,9 +51,10 @@ module _ {whole old : Bytes} {to : ℕ} {new : Bytes} where
           ap (λ j. drop j whole) (sym e) ∙ sym (drop-drop (length part) to whole) ∙ ap (drop (length part)) f ∙ drop-append-seam part rest in
       record {
         upTo = omega (arith, h .upTo);
-        long = part-long part new to (omega (arith, h .long)) ∙ h .long;
+        long = ap length p ∙ part-long part new to (omega (arith, h .long)) ∙ h .long;
         put =
-            ap (λ x. take to x ++ over part (drop to x)) (h .put)
+            p
+            ∙ ap (λ x. take to x ++ over part (drop to x)) (h .put)
             ∙ over-behind (take to whole) part old to (length-take-le to whole (h .upTo))
             ∙ ap (λ x. over x old) (sym t);
         left = sym d;
@@ -61,9 +62,7 @@ module _ {whole old : Bytes} {to : ℕ} {new : Bytes} where
 
   -- a byte more
   pub put-byte : {b : ℕ} {rest : Bytes} → PutSoFar whole old to new (b ∷ rest) → to < length new → PutSoFar whole old (to + 1) (set new to b) rest
-  put-byte {b} {rest} h l =
-      let e : take to new ++ over (b ∷ []) (drop to new) ≡ set new to b = byte-over b new to l in
-      rw e at (put-more (b ∷ []) rest {end = to + 1} h refl (omega (arith, h .long)))
+  put-byte {b} {rest} h l = put-more (b ∷ []) rest h refl (omega (arith, h .long)) (byte-over b new to l)
 
   -- all of them
   pub put-all : PutSoFar whole old to new [] → (to ≡ length whole) × (new ≡ over whole old)

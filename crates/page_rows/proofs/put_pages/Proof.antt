@@ -1,3 +1,8 @@
+use Prim.Native.Nat.{_-_}
+use native.Mathlib.Omega.{arith}
+use borrow.Author.Needs.{needs}
+use lib.ListN.{length, length-take, length-drop}
+use Rattle.page_rows.proofs.PageLaws.{PagesSoFar, pages-start, line-fits, pages-line, pages-end}
 use Rattle.page_rows.proofs.put_pages.Statement.{statement}
 use Rattle.page_rows.proofs.put_pages.Tie as tie
 use Rattle.page_rows.proofs.put_pages.Reads as reads
@@ -6,70 +11,55 @@ use Rattle.headings.proofs.line_end.Reads as line-end-reads
 use Rattle.page_rows.proofs.put_line.Reads as put-line-reads
 
 abbrev Inv-loop : tie.InvT-loop
-Inv-loop book page₀ at₀ n₀ to₀ page at n to = ?
+Inv-loop book page₀ at₀ n₀ to₀ page at n to = PagesSoFar book page₀ at n to page
 
 abbrev μ-loop : tie.MeasureT-loop
-μ-loop book page₀ at₀ n₀ to₀ page at n to = ?
+μ-loop book page₀ at₀ n₀ to₀ page at n to = length book - at
 
--- src/lib.rt:165:5
 loop-holds : tie.Need-loop-holds Inv-loop μ-loop
-loop-holds c = ?
+loop-holds c = pages-start
 
--- src/lib.rt:166:13
 line-end-requires : tie.Need-line-end-requires Inv-loop μ-loop
-line-end-requires c κs = ?
+line-end-requires c κs = search needs
 
--- src/lib.rt:167:29
 sub-put-line : tie.Need-sub-put-line Inv-loop μ-loop
-sub-put-line c = ?
+sub-put-line c = omega (arith, c .line-end .ensures .from (omega arith))
 
--- src/lib.rt:167:29
 part-put-line-start : tie.Need-part-put-line-start Inv-loop μ-loop
-part-put-line-start c = ?
+part-put-line-start c = omega (arith, c .line-end .ensures .from (omega arith))
 
--- src/lib.rt:167:29
 part-put-line-end : tie.Need-part-put-line-end Inv-loop μ-loop
-part-put-line-end c = ?
+part-put-line-end c = c .line-end .ensures .within (omega arith)
 
--- src/lib.rt:167:48
 sub-put-line-2 : tie.Need-sub-put-line-2 Inv-loop μ-loop
-sub-put-line-2 c = ?
+sub-put-line-2 c = omega (arith, line-fits (c .before .before .before .loop .inv) (omega arith) (c .before .line-end .ensures) (c .before .before .before .before .before .before .pre))
 
--- src/lib.rt:167:48
 part-put-line-start-2 : tie.Need-part-put-line-start-2 Inv-loop μ-loop
-part-put-line-start-2 c = ?
+part-put-line-start-2 c = omega (arith, line-fits (c .before .before .before .loop .inv) (omega arith) (c .before .line-end .ensures) (c .before .before .before .before .before .before .pre))
 
--- src/lib.rt:167:48
 part-put-line-end-2 : tie.Need-part-put-line-end-2 Inv-loop μ-loop
-part-put-line-end-2 c = ?
+part-put-line-end-2 c = omega arith
 
--- src/lib.rt:167:13
 put-line-requires : tie.Need-put-line-requires Inv-loop μ-loop
-put-line-requires c κs = ?
+put-line-requires c κs = simp (length-take, length-drop) (omega (arith, line-fits (c .before .before .before .before .loop .inv) (omega arith) (c .before .before .line-end .ensures) (c .before .before .before .before .before .before .before .pre)))
 
--- src/lib.rt:168:14
 add-to : tie.Need-add-to Inv-loop μ-loop
-add-to c = ?
+add-to c = omega (arith, line-fits (c .before .before .before .before .before .before .before .loop .inv) (omega arith) (c .before .before .before .before .before .line-end .ensures) (c .before .before .before .before .before .before .before .before .before .before .pre), c .before .before .put-line .ensures .0)
 
--- src/lib.rt:170:13
 add-n : tie.Need-add-n Inv-loop μ-loop
-add-n c = ?
+add-n c = omega (arith, c .before .before .before .before .before .before .before .loop .inv .few)
 
--- src/lib.rt:165:5
 loop-less : tie.Need-loop-less Inv-loop μ-loop
-loop-less c = ?
+loop-less c = omega (arith, c .before .before .before .before .before .line-end .ensures .from (omega arith))
 
--- src/lib.rt:165:5
 loop-again : tie.Need-loop-again Inv-loop μ-loop
-loop-again c = ?
+loop-again c = pages-line (c .before .before .before .before .before .before .before .loop .inv) (omega arith) (c .before .before .before .before .before .line-end .ensures) (c .before .before .before .before .before .before .before .before .before .before .pre) (c .before .before .put-line .ensures .0) (c .before .before .put-line .ensures .1)
 
--- src/lib.rt:158:1
 same-length : tie.Need-same-length Inv-loop μ-loop
-same-length c = ?
+same-length c = c .before .loop .inv .sofar .long
 
--- src/lib.rt:158:1
 returns : tie.Need-returns Inv-loop μ-loop
-returns c = ?
+returns c = pages-end (c .before .loop .inv) (omega arith)
 
 pub put-pages-spec : {M : Type 1} → statement M
 put-pages-spec =
