@@ -1,0 +1,5 @@
+-- Laws that the proofs of this crate share.
+pub mod PutLaws
+pub mod TextLaws
+pub mod RowLaws
+pub mod PageLaws
