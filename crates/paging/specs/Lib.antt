@@ -1,1 +1,3 @@
 -- Printed pages: spaces dropped, and lines read back.
+pub mod Without
+pub mod SameReading
