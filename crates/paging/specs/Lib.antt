@@ -1,3 +1,6 @@
 -- Printed pages: spaces dropped, and lines read back.
 pub mod Without
 pub mod SameReading
+pub mod Rows
+pub mod ReadBack
+pub mod BackLines
