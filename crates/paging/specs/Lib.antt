@@ -4,3 +4,6 @@ pub mod SameReading
 pub mod Rows
 pub mod ReadBack
 pub mod BackLines
+pub mod SameChecks
+pub mod Places
+pub mod ReadsBack
