@@ -7,3 +7,4 @@ pub mod BackLines
 pub mod SameChecks
 pub mod Places
 pub mod ReadsBack
+pub mod NeverJoined

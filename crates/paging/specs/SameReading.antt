@@ -11,11 +11,13 @@ use borrow.Author.Tests.{eqb-false}
 use Rattle.aut68.specs.Language.{Language}
 use Rattle.aut68.specs.Bytes.{Bytes, nameByte, wordType, wordProp, wordPN, wordEB}
 use Rattle.aut68.specs.Source.{Src, Srcs, Middle, SourceLine}
+use Rattle.aut68.specs.Procedure.Parse.{wordOf}
 use Rattle.aut68.specs.Rules.Grammar.{Spaces, noSpace, space, Symbol, NameBytes, noByte, oneMore, IsName, Expression, lone, call, Arguments, last, another}
 use Rattle.aut68.specs.Rules.Grammar.{IndicatorForm, MiddleForm, isEB, isPN, isMeaning, Place, WellFormed, line}
 use Rattle.aut68.specs.Rules.Grammar as G
 use Rattle.aut68.specs.Pages.{without, textOf}
 use Rattle.aut68.specs.Printing.{SameReading}
+use Rattle.reading.specs.Symbols.{run-name}
 use Rattle.paging.specs.Without.{without-same, without-other, text-space, text-byte}
 
 -- ---- symbols
@@ -37,20 +39,20 @@ name-graphic noByte = empty
 name-graphic (oneMore h n) = more (λ e. false≢true (sym (ap nameByte e) ∙ h)) (λ e. false≢true (sym (ap nameByte e) ∙ h)) (name-graphic n)
 
 type-graphic : Graphic wordType
-unfolding wordType
-type-graphic = graphic 116 refl refl (graphic 121 refl refl (graphic 112 refl refl (one 101 refl refl)))
+unfolding wordType wordOf nameByte
+type-graphic = name-graphic (run-name wordType)
 
 prop-graphic : Graphic wordProp
-unfolding wordProp
-prop-graphic = graphic 112 refl refl (graphic 114 refl refl (graphic 111 refl refl (one 112 refl refl)))
+unfolding wordProp wordOf nameByte
+prop-graphic = name-graphic (run-name wordProp)
 
 EB-graphic : Graphic wordEB
-unfolding wordEB
-EB-graphic = graphic 69 refl refl (one 66 refl refl)
+unfolding wordEB wordOf nameByte
+EB-graphic = name-graphic (run-name wordEB)
 
 PN-graphic : Graphic wordPN
-unfolding wordPN
-PN-graphic = graphic 80 refl refl (one 78 refl refl)
+unfolding wordPN wordOf nameByte
+PN-graphic = name-graphic (run-name wordPN)
 
 -- ---- a change of spaces
 
