@@ -61,6 +61,7 @@ not-together c (d ∷ a) h = go (eqb d 32) refl
     go true e = rw (eqb-true d 32 e) (none (nameByte c) (eqb c 58))
     go false e = sym (ap (together c) (without-other 32 a (eqb-false d 32 e))) ∙ h
 
+-- in front of bytes of which, spaces dropped, the first is none of its symbol
 last-apart : {c : ℕ} {a : Bytes} → c ≢ 32 → together c (without 32 a) ≡ false → Apart a → Apart (c ∷ a)
 last-apart {c} {a} h t p = byte-apart h (t ∙ sym (not-together c a t)) p
 
@@ -72,24 +73,24 @@ spaces-apart (space {a} s) p = record { same = ap symbolsIn (without-same 32 a) 
 -- ---- what comes next
 
 -- behind spaces, a byte comes next of which the test does not hold, or none
-record Not (test : ℕ → Bool) (a : Bytes) : Type 0 where
+record NotNext (test : ℕ → Bool) (a : Bytes) : Type 0 where
   next : starts test (without 32 a) ≡ false
 
-spaces-not : {test : ℕ → Bool} {a b : Bytes} → Spaces a b → Not test b → Not test a
-spaces-not noSpace n = n
-spaces-not {test} (space {a} s) n = record { next = ap (starts test) (without-same 32 a) ∙ spaces-not s n .next }
+spaces-not-next : {test : ℕ → Bool} {a b : Bytes} → Spaces a b → NotNext test b → NotNext test a
+spaces-not-next noSpace n = n
+spaces-not-next {test} (space {a} s) n = record { next = ap (starts test) (without-same 32 a) ∙ spaces-not-next s n .next }
 
-symbol-not : {test : ℕ → Bool} {c : ℕ} {s a b : Bytes} → c ≢ 32 → test c ≡ false → Symbol (c ∷ s) a b → Not test a
+symbol-not-next : {test : ℕ → Bool} {c : ℕ} {s a b : Bytes} → c ≢ 32 → test c ≡ false → Symbol (c ∷ s) a b → NotNext test a
 unfolding starts
-symbol-not {test} {s = s} {b = b} h e (G.symbol t) = spaces-not t (record { next = ap (starts test) (without-other 32 (s ++ b) h) ∙ e })
+symbol-not-next {test} {s = s} {b = b} h e (G.symbol t) = spaces-not-next t (record { next = ap (starts test) (without-other 32 (s ++ b) h) ∙ e })
 
 -- no byte of a name
 abbrev NoName : Bytes → Type 0
-NoName = Not nameByte
+NoName = NotNext nameByte
 
 -- not `=`
 abbrev NoEquals : Bytes → Type 0
-NoEquals = Not (λ b. eqb b 61)
+NoEquals = NotNext (λ b. eqb b 61)
 
 -- ---- symbols
 
@@ -102,6 +103,7 @@ lone-byte {c} {a} m e p = last-apart (m .notSpace) (go (without 32 a)) p
     go [] = refl
     go (d ∷ x) = rw (m .notName, e, together) refl
 
+-- `:` that does not begin `:=`
 colon-byte : {a : Bytes} → NoEquals a → Apart a → Apart (58 ∷ a)
 unfolding together starts nameByte
 colon-byte {a} n p = last-apart (mark-58 .notSpace) (go (without 32 a) (n .next)) p
@@ -110,6 +112,7 @@ colon-byte {a} n p = last-apart (mark-58 .notSpace) (go (without 32 a) (n .next)
     go [] h = refl
     go (d ∷ x) h = h
 
+-- the last byte of a name or a word
 name-byte : {c : ℕ} {a : Bytes} → nameByte c ≡ true → NoName a → Apart a → Apart (c ∷ a)
 unfolding together starts nameByte
 name-byte {c} {a} h n p = last-apart (not-space h) (go (without 32 a) (n .next)) p
@@ -121,6 +124,7 @@ name-byte {c} {a} h n p = last-apart (not-space h) (go (without 32 a) (n .next))
     go [] k = refl
     go (d ∷ x) k = rw (h, k, colon, together) refl
 
+-- a symbol of one byte
 mark-apart : {c : ℕ} {a b : Bytes} → Mark c → eqb c 58 ≡ false → Symbol (c ∷ []) a b → Apart b → Apart a
 mark-apart m e (G.symbol s) p = spaces-apart s (lone-byte m e p)
 
@@ -141,8 +145,8 @@ assign-apart (G.symbol s) p = spaces-apart s (inside-apart (mark-58 .notSpace) (
     mark-61 : Mark 61
     mark-61 = record { notSpace = λ e. omega arith; notName = refl }
 
-mark-free : {c : ℕ} {s a b : Bytes} → Mark c → Symbol (c ∷ s) a b → NoName a
-mark-free m s = symbol-not (m .notSpace) (m .notName) s
+mark-no-name : {c : ℕ} {s a b : Bytes} → Mark c → Symbol (c ∷ s) a b → NoName a
+mark-no-name m s = symbol-not-next (m .notSpace) (m .notName) s
 
 -- ---- a line
 
@@ -161,18 +165,18 @@ module _ (language : Language) where
   mutual
     expression-apart : {place : Place} {x : Src} {a b : Bytes} → Expression language place x a b → NoName b → Apart b → Apart a
     expression-apart (lone n s) f p = name-apart n s f p
-    expression-apart (call n s t r) f p = name-apart n s (mark-free mark-40 t) (mark-apart mark-40 refl t (arguments-apart r p))
+    expression-apart (call n s t r) f p = name-apart n s (mark-no-name mark-40 t) (mark-apart mark-40 refl t (arguments-apart r p))
     expression-apart (G.application s e t g) f p =
-        mark-apart mark-60 refl s (expression-apart e (mark-free mark-62 t) (mark-apart mark-62 refl t (expression-apart g f p)))
+        mark-apart mark-60 refl s (expression-apart e (mark-no-name mark-62 t) (mark-apart mark-62 refl t (expression-apart g f p)))
     expression-apart (G.abstraction s n t u e v g) f p =
-        mark-apart mark-91 refl s (name-apart n t (mark-free mark-44 u) (mark-apart mark-44 refl u
-        (expression-apart e (mark-free mark-93 v) (mark-apart mark-93 refl v (expression-apart g f p)))))
+        mark-apart mark-91 refl s (name-apart n t (mark-no-name mark-44 u) (mark-apart mark-44 refl u
+        (expression-apart e (mark-no-name mark-93 v) (mark-apart mark-93 refl v (expression-apart g f p)))))
     expression-apart (G.isType s) f p = type-apart s f p
     expression-apart (G.isProp x s) f p = prop-apart s f p
 
     arguments-apart : {xs : Srcs} {a b : Bytes} → Arguments language xs a b → Apart b → Apart a
-    arguments-apart (last e s) p = expression-apart e (mark-free mark-41 s) (mark-apart mark-41 refl s p)
-    arguments-apart (another e s r) p = expression-apart e (mark-free mark-44 s) (mark-apart mark-44 refl s (arguments-apart r p))
+    arguments-apart (last e s) p = expression-apart e (mark-no-name mark-41 s) (mark-apart mark-41 refl s p)
+    arguments-apart (another e s r) p = expression-apart e (mark-no-name mark-44 s) (mark-apart mark-44 refl s (arguments-apart r p))
 
   indicator-apart : {o : Option Bytes} {a b : Bytes} → IndicatorForm language o a b → NoName b → Apart b → Apart a
   indicator-apart G.empty f p = p
@@ -185,25 +189,25 @@ module _ (language : Language) where
   middle-apart (isMeaning e) f p = expression-apart e f p
 
   -- no expression begins with `=`
-  word-not : {w a b : Bytes} → NameBytes w → 1 ≤ length w → Symbol w a b → NoEquals a
+  word-no-equals : {w a b : Bytes} → NameBytes w → 1 ≤ length w → Symbol w a b → NoEquals a
   unfolding nameByte
-  word-not noByte l s = absurd (omega arith)
-  word-not (oneMore {b = c} h n) l s = symbol-not (not-space h) (ne-eqb c 61 (λ e. false≢true (sym (ap nameByte e) ∙ h))) s
+  word-no-equals noByte l s = absurd (omega arith)
+  word-no-equals (oneMore {b = c} h n) l s = symbol-not-next (not-space h) (ne-eqb c 61 (λ e. false≢true (sym (ap nameByte e) ∙ h))) s
 
-  expression-not : {place : Place} {x : Src} {a b : Bytes} → Expression language place x a b → NoEquals a
+  expression-no-equals : {place : Place} {x : Src} {a b : Bytes} → Expression language place x a b → NoEquals a
   unfolding wordType wordProp
-  expression-not (lone n s) = word-not (n .bytes) (n .atLeast) s
-  expression-not (call n s t r) = word-not (n .bytes) (n .atLeast) s
-  expression-not (G.application s e t g) = symbol-not (mark-60 .notSpace) refl s
-  expression-not (G.abstraction s n t u e v g) = symbol-not (mark-91 .notSpace) refl s
-  expression-not (G.isType s) = symbol-not (λ e. omega arith) refl s
-  expression-not (G.isProp x s) = symbol-not (λ e. omega arith) refl s
+  expression-no-equals (lone n s) = word-no-equals (n .bytes) (n .atLeast) s
+  expression-no-equals (call n s t r) = word-no-equals (n .bytes) (n .atLeast) s
+  expression-no-equals (G.application s e t g) = symbol-not-next (mark-60 .notSpace) refl s
+  expression-no-equals (G.abstraction s n t u e v g) = symbol-not-next (mark-91 .notSpace) refl s
+  expression-no-equals (G.isType s) = symbol-not-next (λ e. omega arith) refl s
+  expression-no-equals (G.isProp x s) = symbol-not-next (λ e. omega arith) refl s
 
   line-apart : {s : SourceLine} {bytes : Bytes} → WellFormed language s bytes → Apart bytes
   unfolding without
   line-apart (line i t n u v x y z w) =
-      indicator-apart i (mark-free mark-42 t) (mark-apart mark-42 refl t (name-apart n u (mark-free mark-58 v) (assign-apart v
-      (middle-apart x (mark-free mark-58 y) (colon y (expression-not z) (expression-apart z (mark-free mark-10 w) (mark-apart mark-10 refl w nothing)))))))
+      indicator-apart i (mark-no-name mark-42 t) (mark-apart mark-42 refl t (name-apart n u (mark-no-name mark-58 v) (assign-apart v
+      (middle-apart x (mark-no-name mark-58 y) (colon y (expression-no-equals z) (expression-apart z (mark-no-name mark-10 w) (mark-apart mark-10 refl w nothing)))))))
     where
       nothing : Apart []
       nothing = record { same = refl }
@@ -211,6 +215,7 @@ module _ (language : Language) where
       colon : {a b : Bytes} → Symbol (58 ∷ []) a b → NoEquals b → Apart b → Apart a
       colon (G.symbol s) e p = spaces-apart s (colon-byte e p)
 
+-- the symbols of a well-formed line are those that it has without spaces
 pub never-joined : NeverJoined
 unfolding NeverJoined
 never-joined language source bytes w = line-apart language w .same

@@ -1,17 +1,16 @@
 -- Tables of the same lines, whose identifiers begin elsewhere in a book, differ in the first cell of each row and nowhere else.
-use mathlib.Core.Path.{_≡_, refl, ap, ap₂, sym, _∙_, subst}
-use mathlib.Core.Logic.{_⊎_, inl, inr, _≢_, ⊎-map}
-use mathlib.Core.List.{List, [], _∷_, _++_, append-assoc}
-use Prim.Native.Nat.{ℕ, zero, suc, _+_, _-_, _*_, _%_, _≤_, _<_}
+use mathlib.Core.Path.{_≡_, refl, ap, sym, _∙_}
+use mathlib.Core.Logic.{_⊎_, inl, inr, _≢_}
+use mathlib.Core.List.{List, [], _∷_, _++_}
+use Prim.Native.Nat.{ℕ, zero, suc, _+_, _*_, _%_, _≤_}
 use native.Mathlib.Omega.{arith}
-use lib.ListN.{length, getD, drop, length-append, List·getD-append}
-use lib.Seq.{getD-append-add}
+use lib.ListN.{length, getD, drop}
 use Rattle.aut68.specs.Sizes.{rowWidth}
-use Rattle.aut68.specs.Lines.{Line, Lines, lineCells, rowOf, rowsFrom, tableOf}
+use Rattle.aut68.specs.Lines.{Lines, lineCells, rowOf, rowsFrom, tableOf}
 use Rattle.aut68.specs.Procedure.Run.{over}
 
 -- a cell that tells no place, of a table with n rows: not the first of its row, or behind the rows
-abbrev pub NoPlace : ℕ → ℕ → Type 0
+abbrev NoPlace : ℕ → ℕ → Type 0
 NoPlace n i = (i % rowWidth ≢ 0) ⊎ (rowWidth * n ≤ i)
 
 rows-as-long : (s : ℕ) (fs gs : List ℕ) (ls : Lines) → length fs ≡ length gs → length (rowsFrom s fs ls) ≡ length (rowsFrom s gs ls)
@@ -33,7 +32,7 @@ no-place-first : (n : ℕ) {i : ℕ} → NoPlace (suc n) i → i ≢ 0
 no-place-first n (inl h) e = h (omega arith)
 no-place-first n (inr h) e = omega arith
 
-no-place-rest : (n : ℕ) {i : ℕ} (j : ℕ) → i ≡ 8 + j → NoPlace (suc n) i → NoPlace n j
+no-place-rest : (n : ℕ) {i : ℕ} (j : ℕ) → i ≡ rowWidth + j → NoPlace (suc n) i → NoPlace n j
 no-place-rest n j e (inl h) = inl (λ z. h (omega arith))
 no-place-rest n j e (inr h) = inr (omega arith)
 

@@ -1,7 +1,7 @@
 -- The pages of an accepted book, read back without spaces, are accepted alike.
 use mathlib.Core.Path.{_≡_, refl, ap, sym, _∙_, subst, subst₂}
 use mathlib.Core.Logic.{_⊎_, inl, inr}
-use Prim.Native.Nat.{ℕ, suc, _+_, _-_, _≤_}
+use Prim.Native.Nat.{ℕ, _+_, _≤_}
 use native.Mathlib.Omega.{arith}
 use mathlib.Core.List.{List, [], _∷_, _++_, map}
 use lib.ListN.{length, getD, length-append}
@@ -12,7 +12,7 @@ use Rattle.aut68.specs.Lines.{Lines, tableOf, termsOf}
 use Rattle.aut68.specs.Index.{indexOf}
 use Rattle.aut68.specs.Procedure.Answer.{Answer, done, stop, Refusal}
 use Rattle.aut68.specs.Procedure.CheckLine.{Passed, checkLine}
-use Rattle.aut68.specs.Procedure.Run.{Recorded, Ending, accepted, refusedAt, codeAt, lineAt, stepsAt, recordedAt, over, tableEnd, termsEnd, workEnd, indexEnd, nothing, oneMore, checkLines, run}
+use Rattle.aut68.specs.Procedure.Run.{Recorded, Ending, accepted, codeAt, lineAt, stepsAt, recordedAt, over, tableEnd, termsEnd, workEnd, indexEnd, nothing, oneMore, checkLines, run}
 use Rattle.aut68.specs.Demands.{Accepted, Verdict, Admitted}
 use Rattle.aut68.specs.Pages.{without, pages, readBack, withoutSpaces}
 use Rattle.aut68.specs.Printing.{SameReading, SameButPlaces, ReadsBack}
@@ -24,9 +24,9 @@ use Rattle.reading.specs.Sound.{parse-sound}
 use Rattle.reading.specs.Stages.{passed-read}
 use Rattle.paging.specs.Without.{without-length}
 use Rattle.paging.specs.SameReading.{same-reading}
-use Rattle.paging.specs.BackLines.{HasForm, cut-again, spaces-dropped-back}
+use Rattle.paging.specs.PaddedLines.{HasForm, cut-again, spaces-dropped-back}
 use Rattle.paging.specs.SameChecks.{passes-without}
-use Rattle.paging.specs.Places.{NoPlace, tables-agree}
+use Rattle.paging.specs.Places.{tables-agree}
 
 -- ---- the lines of an accepted book are well formed
 
@@ -41,7 +41,7 @@ module _ (language : Language) (m : Limits) where
   passes-forms nonePasses = tt
   passes-forms (onePasses {ls} {b = b} e h) = (passed-form ls b e, passes-forms h)
 
-  pub accepted-forms : (book : Bytes) → Accepted (run language book m) → Each (HasForm language) (lines book)
+  accepted-forms : (book : Bytes) → Accepted (run language book m) → Each (HasForm language) (lines book)
   unfolding Accepted codeAt
   accepted-forms book a = at (run-ends language book m) a
     where
@@ -65,6 +65,7 @@ record SameLines (k k′ : Recorded) : Type 0 where
 data SameEnding : Ending → Ending → Type 0 where
   sameEnding : {steps : ℕ} {k k′ : Recorded} → SameLines k k′ → SameEnding (accepted steps k) (accepted steps k′)
 
+-- one line more
 same-snoc : {k k′ : Recorded} (at at′ : ℕ) (p : Passed) (n : ℕ) → SameLines k k′ → SameLines (oneMore k at p) (oneMore k′ at′ (record { before = n; line = p .line }))
 unfolding oneMore
 same-snoc {k} {k′} at at′ p n h =
@@ -87,6 +88,7 @@ module _ (language : Language) (m : Limits) where
   unfolding checkLines Accepted codeAt
   lines-stop k at b bytes more {r} e a = code-nonzero r (rw (e, checkLines) at a)
 
+  -- Lines that are accepted are accepted without their spaces.
   lines-alike : (pieces : List Bytes) (k k′ : Recorded) (at at′ b : ℕ) → SameLines k k′ → Accepted (checkLines language m k at b pieces)
       → SameEnding (checkLines language m k at b pieces) (checkLines language m k′ at′ b (withoutSpaces pieces))
   unfolding checkLines withoutSpaces
@@ -105,6 +107,7 @@ module _ (language : Language) (m : Limits) where
           subst₂ SameEnding (sym q) (sym q′)
           (again (oneMore k at p) (oneMore k′ at′ (record { before = n; line = p .line })) (at + length bytes) (at′ + length (without 32 bytes)) b′ (same-snoc at at′ p n h) (subst Accepted q a))
 
+-- such endings leave the same cells, places apart
 same-but-places : {e e′ : Ending} (L : ℕ) (s : Stores) → SameEnding e e′ → SameButPlaces e e′ L s
 unfolding codeAt lineAt stepsAt recordedAt tableEnd termsEnd workEnd indexEnd
 same-but-places L s (sameEnding {k = k} {k′ = k′} h) =
@@ -113,8 +116,8 @@ same-but-places L s (sameEnding {k = k} {k′ = k′} h) =
       line = ap (λ (x : Lines). length x) (h .alike);
       steps = refl;
       tableCells = λ i n.
-        ap (λ (x : Lines). getD (over (tableOf (k′ .firsts) x) (s .table)) i 0) (h .alike)
-        ∙ tables-agree (k′ .firsts) (k .firsts) (k .recorded) (s .table) (h .placedToo) (h .placed) i n;
+          ap (λ (x : Lines). getD (over (tableOf (k′ .firsts) x) (s .table)) i 0) (h .alike)
+          ∙ tables-agree (k′ .firsts) (k .firsts) (k .recorded) (s .table) (h .placedToo) (h .placed) i n;
       termsCells = ap (λ (x : Lines). over (termsOf x) (s .terms)) (h .alike);
       workCells = refl;
       indexCells = ap (λ (x : Lines). over (indexOf x) (s .index)) (h .alike);
@@ -136,6 +139,7 @@ without-shorter (l ∷ ls) =
     omega (arith, h, k, length-append (without 32 l) (joined (withoutSpaces ls)), length-append l (joined ls))
 
 module _ (language : Language) (book : Bytes) (m : Limits) (a : Accepted (run language book m)) where
+  -- the book read back
   back : Bytes
   back = joined (withoutSpaces (readBack (pages book)))
 
@@ -169,6 +173,7 @@ module _ (language : Language) (book : Bytes) (m : Limits) (a : Accepted (run la
       subst₂ SameEnding (sym e) (sym e′)
       (lines-alike language m (lines book) nothing nothing 0 0 (m .budget) (record { alike = refl; placed = refl; placedToo = refl }) (subst Accepted e a))
 
+-- the pages of an accepted book, read back without spaces, leave the same cells
 pub reads-back : ReadsBack
 unfolding ReadsBack back
 reads-back language book N L s a = same-but-places L s (back-alike language book (limitsOf N L s) a)

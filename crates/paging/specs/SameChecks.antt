@@ -1,5 +1,5 @@
 -- A line is checked alike without its spaces: the same steps, the same line recorded; its identifier begins elsewhere.
-use mathlib.Core.Path.{_≡_, refl, ap, sym, _∙_, subst}
+use mathlib.Core.Path.{_≡_, ap}
 use Prim.Native.Nat.{ℕ}
 use lib.ListN.{length}
 use Rattle.aut68.specs.Language.{Language}

@@ -2,7 +2,7 @@
 use mathlib.Core.Path.{_≡_, refl, ap, sym, _∙_, subst}
 use mathlib.Core.Logic.{_≢_}
 use Prim.Native.Nat.{ℕ, zero, suc}
-use mathlib.Core.Bool.{true, false, false≢true}
+use mathlib.Core.Bool.{false, false≢true}
 use mathlib.Core.Option.{Option}
 use mathlib.Core.List.{[], _∷_, _++_}
 use lib.Dec.{eqb}
@@ -23,7 +23,7 @@ use Rattle.paging.specs.Without.{without-same, without-other, text-space
 -- ---- symbols
 
 -- neither byte 32 nor byte 10
-pub data Graphic : Bytes → Type 0 where
+data Graphic : Bytes → Type 0 where
   empty : Graphic []
   more : {b : ℕ} {w : Bytes} → b ≢ 32 → b ≢ 10 → Graphic w → Graphic (b ∷ w)
 
@@ -57,10 +57,10 @@ PN-graphic = name-graphic (run-name wordPN)
 -- ---- a change of spaces
 
 -- What changes spaces only: it drops byte 32, keeps what is neither 32 nor 10, and puts spaces at most ahead of the end.
-pub record Respaces (f : Bytes → Bytes) : Type 0 where
-  pub drops : (a : Bytes) → f (32 ∷ a) ≡ f a
-  pub keeps : {b : ℕ} (a : Bytes) → b ≢ 32 → b ≢ 10 → f (b ∷ a) ≡ b ∷ f a
-  pub ends : Spaces (f (10 ∷ [])) (10 ∷ [])
+record Respaces (f : Bytes → Bytes) : Type 0 where
+  drops : (a : Bytes) → f (32 ∷ a) ≡ f a
+  keeps : {b : ℕ} (a : Bytes) → b ≢ 32 → b ≢ 10 → f (b ∷ a) ≡ b ∷ f a
+  ends : Spaces (f (10 ∷ [])) (10 ∷ [])
 
 module _ (language : Language) {f : Bytes → Bytes} (r : Respaces f) where
   symbol-same : {w : Bytes} → Graphic w → (b : Bytes) → f (w ++ b) ≡ w ++ f b
@@ -105,8 +105,8 @@ module _ (language : Language) {f : Bytes → Bytes} (r : Respaces f) where
   end-respaced : {a : Bytes} → Symbol (10 ∷ []) a [] → Symbol (10 ∷ []) (f a) []
   end-respaced (G.symbol s) = G.symbol (subst (λ (x : Bytes). Spaces x (10 ∷ [])) (sym (spaces-same s)) (r .ends))
 
-  -- it is the same line
-  pub line-respaced : {s : SourceLine} {bytes : Bytes} → WellFormed language s bytes → WellFormed language s (f bytes)
+  -- a well-formed line stays the same line
+  line-respaced : {s : SourceLine} {bytes : Bytes} → WellFormed language s bytes → WellFormed language s (f bytes)
   line-respaced (line i t n u v x y z w) =
       line (indicator-respaced i) (symbol-respaced (one 42 refl refl) t) n (name-respaced n u) (symbol-respaced (graphic 58 refl refl (one 61 refl refl)) v)
       (middle-respaced x) (symbol-respaced (one 58 refl refl) y) (expression-respaced z) (end-respaced w)
@@ -117,6 +117,7 @@ spaces-dropped : Respaces (without 32)
 unfolding without
 spaces-dropped = record { drops = without-same 32; keeps = λ a h k. without-other 32 a h; ends = noSpace }
 
+-- without spaces
 pub same-reading : SameReading
 unfolding SameReading
 same-reading language source bytes w = line-respaced language spaces-dropped w
@@ -137,5 +138,6 @@ text-padded n =
     spaces zero = noSpace
     spaces (suc n) = space (spaces n)
 
+-- with n spaces ahead of its end, and no others
 pub padded-reading : (language : Language) (source : SourceLine) (bytes : Bytes) (n : ℕ) → WellFormed language source bytes → WellFormed language source (padded n bytes)
 padded-reading language source bytes n w = line-respaced language (text-padded n) w
