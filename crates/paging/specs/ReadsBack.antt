@@ -1,0 +1,179 @@
+-- The pages of an accepted book, read back without spaces, are accepted alike.
+use mathlib.Core.Path.{_≡_, refl, ap, sym, _∙_, subst, subst₂}
+use mathlib.Core.Logic.{_⊎_, inl, inr}
+use Prim.Native.Nat.{ℕ, _+_, _≤_}
+use native.Mathlib.Omega.{arith}
+use mathlib.Core.List.{List, [], _∷_, _++_, map}
+use lib.ListN.{length, getD, length-append}
+use Rattle.aut68.specs.Language.{Language}
+use Rattle.aut68.specs.Stores.{Limits, Stores, limitsOf}
+use Rattle.aut68.specs.Bytes.{Bytes, lines, joined}
+use Rattle.aut68.specs.Lines.{Lines, tableOf, termsOf}
+use Rattle.aut68.specs.Index.{indexOf}
+use Rattle.aut68.specs.Procedure.Answer.{Answer, done, stop, Refusal}
+use Rattle.aut68.specs.Procedure.CheckLine.{Passed, checkLine}
+use Rattle.aut68.specs.Procedure.Run.{Recorded, Ending, accepted, codeAt, lineAt, stepsAt, recordedAt, over, tableEnd, termsEnd, workEnd, indexEnd, nothing, oneMore, checkLines, run}
+use Rattle.aut68.specs.Demands.{Accepted, Verdict, Admitted}
+use Rattle.aut68.specs.Pages.{without, pages, readBack, withoutSpaces}
+use Rattle.aut68.specs.Printing.{SameReading, SameButPlaces, ReadsBack}
+use Rattle.lookup.specs.Answers.{code-nonzero}
+use Rattle.lookup.specs.Lists.{Each}
+use Rattle.lookup.specs.Runs.{Passes, nonePasses, onePasses, LinesEnd, allPass, oneStops, Early, early-refused, run-admitted, run-ends, verdict-admitted}
+use Rattle.reading.specs.Pieces.{lines-joined}
+use Rattle.reading.specs.Sound.{parse-sound}
+use Rattle.reading.specs.Stages.{passed-read}
+use Rattle.paging.specs.Without.{without-length}
+use Rattle.paging.specs.SameReading.{same-reading}
+use Rattle.paging.specs.PaddedLines.{HasForm, cut-again, spaces-dropped-back}
+use Rattle.paging.specs.SameChecks.{passes-without}
+use Rattle.paging.specs.Places.{tables-agree}
+
+-- ---- the lines of an accepted book are well formed
+
+module _ (language : Language) (m : Limits) where
+  passed-form : (ls : Lines) (b : ℕ) {bytes : Bytes} {b′ : ℕ} {p : Passed} → checkLine language ls m bytes b ≡ done p b′ → HasForm language bytes
+  passed-form ls b {bytes} h =
+      let (r, rest, e) = passed-read language ls m bytes b h in
+      let (_, w, _) = parse-sound language (length bytes) bytes e in
+      (r .line, w)
+
+  passes-forms : {ls all : Lines} {b c : ℕ} {pieces : List Bytes} → Passes language m ls b pieces all c → Each (HasForm language) pieces
+  passes-forms nonePasses = tt
+  passes-forms (onePasses {ls} {b = b} e h) = (passed-form ls b e, passes-forms h)
+
+  accepted-forms : (book : Bytes) → Accepted (run language book m) → Each (HasForm language) (lines book)
+  unfolding Accepted codeAt
+  accepted-forms book a = at (run-ends language book m) a
+    where
+      ends : {e : Ending} → LinesEnd language m [] (m .budget) (lines book) e → Accepted e → Each (HasForm language) (lines book)
+      ends (allPass h) a = passes-forms h
+      ends (oneStops {r = r} past bytes rest s h f) a = absurd (code-nonzero r a)
+
+      at : Early language (run language book m) ⊎ LinesEnd language m [] (m .budget) (lines book) (run language book m) → Accepted (run language book m) → Each (HasForm language) (lines book)
+      at (inl h) a = absurd (early-refused language h a)
+      at (inr h) a = ends h a
+
+-- ---- endings alike
+
+-- what is recorded of the same lines, each with a place
+record SameLines (k k′ : Recorded) : Type 0 where
+  alike : k′ .recorded ≡ k .recorded
+  placed : length (k .firsts) ≡ length (k .recorded)
+  placedToo : length (k′ .firsts) ≡ length (k .recorded)
+
+-- both accepted, with the same steps and lines
+data SameEnding : Ending → Ending → Type 0 where
+  sameEnding : {steps : ℕ} {k k′ : Recorded} → SameLines k k′ → SameEnding (accepted steps k) (accepted steps k′)
+
+-- one line more
+same-snoc : {k k′ : Recorded} (at at′ : ℕ) (p : Passed) (n : ℕ) → SameLines k k′ → SameLines (oneMore k at p) (oneMore k′ at′ (record { before = n; line = p .line }))
+unfolding oneMore
+same-snoc {k} {k′} at at′ p n h =
+    let e = h .placed in
+    let f = h .placedToo in
+    record {
+      alike = ap (λ (x : Lines). x ++ (p .line ∷ [])) (h .alike);
+      placed = omega (arith, e, length-append (k .firsts) ((at + p .before) ∷ []), length-append (k .recorded) (p .line ∷ []));
+      placedToo = omega (arith, f, length-append (k′ .firsts) ((at′ + n) ∷ []), length-append (k .recorded) (p .line ∷ []));
+    }
+
+module _ (language : Language) (m : Limits) where
+  lines-pass : (k : Recorded) (at b : ℕ) (bytes : Bytes) (more : List Bytes) {p : Passed} {b′ : ℕ} → checkLine language (k .recorded) m bytes b ≡ done p b′
+      → checkLines language m k at b (bytes ∷ more) ≡ checkLines language m (oneMore k at p) (at + length bytes) b′ more
+  unfolding checkLines
+  lines-pass k at b bytes more e = rw (e, checkLines) refl
+
+  lines-stop : (k : Recorded) (at b : ℕ) (bytes : Bytes) (more : List Bytes) {r : Refusal} {b′ : ℕ} → checkLine language (k .recorded) m bytes b ≡ stop r b′
+      → ¬ Accepted (checkLines language m k at b (bytes ∷ more))
+  unfolding checkLines Accepted codeAt
+  lines-stop k at b bytes more {r} e a = code-nonzero r (rw (e, checkLines) at a)
+
+  -- Lines that are accepted are accepted without their spaces.
+  lines-alike : (pieces : List Bytes) (k k′ : Recorded) (at at′ b : ℕ) → SameLines k k′ → Accepted (checkLines language m k at b pieces)
+      → SameEnding (checkLines language m k at b pieces) (checkLines language m k′ at′ b (withoutSpaces pieces))
+  unfolding checkLines withoutSpaces
+  lines-alike [] k k′ at at′ b h a = sameEnding h
+  lines-alike (bytes ∷ more) k k′ at at′ b h a = go (checkLine language (k .recorded) m bytes b) refl (lines-alike more)
+    where
+      go : (x : Answer ℕ Passed) → checkLine language (k .recorded) m bytes b ≡ x
+          → ((k k′ : Recorded) (at at′ b : ℕ) → SameLines k k′ → Accepted (checkLines language m k at b more)
+          → SameEnding (checkLines language m k at b more) (checkLines language m k′ at′ b (withoutSpaces more)))
+          → SameEnding (checkLines language m k at b (bytes ∷ more)) (checkLines language m k′ at′ b (without 32 bytes ∷ withoutSpaces more))
+      go (stop r b′) e again = absurd (lines-stop k at b bytes more e a)
+      go (done p b′) e again =
+          let (n, f) = passes-without language (k .recorded) m bytes b e in
+          let q = lines-pass k at b bytes more e in
+          let q′ = lines-pass k′ at′ b (without 32 bytes) (withoutSpaces more) (ap (λ (x : Lines). checkLine language x m (without 32 bytes) b) (h .alike) ∙ f) in
+          subst₂ SameEnding (sym q) (sym q′)
+          (again (oneMore k at p) (oneMore k′ at′ (record { before = n; line = p .line })) (at + length bytes) (at′ + length (without 32 bytes)) b′ (same-snoc at at′ p n h) (subst Accepted q a))
+
+-- such endings leave the same cells, places apart
+same-but-places : {e e′ : Ending} (L : ℕ) (s : Stores) → SameEnding e e′ → SameButPlaces e e′ L s
+unfolding codeAt lineAt stepsAt recordedAt tableEnd termsEnd workEnd indexEnd
+same-but-places L s (sameEnding {k = k} {k′ = k′} h) =
+    record {
+      code = refl;
+      line = ap (λ (x : Lines). length x) (h .alike);
+      steps = refl;
+      tableCells = λ i n.
+          ap (λ (x : Lines). getD (over (tableOf (k′ .firsts) x) (s .table)) i 0) (h .alike)
+          ∙ tables-agree (k′ .firsts) (k .firsts) (k .recorded) (s .table) (h .placedToo) (h .placed) i n;
+      termsCells = ap (λ (x : Lines). over (termsOf x) (s .terms)) (h .alike);
+      workCells = refl;
+      indexCells = ap (λ (x : Lines). over (indexOf x) (s .index)) (h .alike);
+    }
+
+-- ---- the book that is read back
+
+without-map : (ls : List Bytes) → withoutSpaces ls ≡ map (without 32) ls
+unfolding withoutSpaces
+without-map [] = refl
+without-map (l ∷ ls) = ap (_∷_ (without 32 l)) (without-map ls)
+
+without-shorter : (ls : List Bytes) → length (joined (withoutSpaces ls)) ≤ length (joined ls)
+unfolding withoutSpaces joined
+without-shorter [] = omega arith
+without-shorter (l ∷ ls) =
+    let h = without-length 32 l in
+    let k = without-shorter ls in
+    omega (arith, h, k, length-append (without 32 l) (joined (withoutSpaces ls)), length-append l (joined ls))
+
+module _ (language : Language) (book : Bytes) (m : Limits) (a : Accepted (run language book m)) where
+  -- the book read back
+  back : Bytes
+  back = joined (withoutSpaces (readBack (pages book)))
+
+  forms : Each (HasForm language) (lines book)
+  forms = accepted-forms language m book a
+
+  admitted : Admitted language book m
+  unfolding Verdict
+  admitted = verdict-admitted language book m (inl a)
+
+  back-lines : lines back ≡ withoutSpaces (lines book)
+  unfolding back SameReading
+  back-lines =
+      ap (λ (x : List Bytes). lines (joined x)) (spaces-dropped-back language book forms ∙ without-map (lines book))
+      ∙ (cut-again language (without 32) (λ l f. (f .0, same-reading language (f .0) l (f .1))) (lines book) forms ∙ sym (without-map (lines book)))
+
+  back-admitted : Admitted language back m
+  unfolding back
+  back-admitted =
+      let e = ap (λ (x : List Bytes). length (joined x)) (spaces-dropped-back language book forms) in
+      let h = without-shorter (lines book) in
+      let q = ap (λ (x : Bytes). length x) (lines-joined book) in
+      let k = admitted .short in
+      record { atLeast = admitted .atLeast; atMost = admitted .atMost; enough = admitted .enough; short = omega (arith, e, h, q, k) }
+
+  back-alike : SameEnding (run language book m) (run language back m)
+  unfolding nothing
+  back-alike =
+      let e = run-admitted language book m admitted in
+      let e′ = run-admitted language back m back-admitted ∙ ap (checkLines language m nothing 0 (m .budget)) back-lines in
+      subst₂ SameEnding (sym e) (sym e′)
+      (lines-alike language m (lines book) nothing nothing 0 0 (m .budget) (record { alike = refl; placed = refl; placedToo = refl }) (subst Accepted e a))
+
+-- the pages of an accepted book, read back without spaces, leave the same cells
+pub reads-back : ReadsBack
+unfolding ReadsBack back
+reads-back language book N L s a = same-but-places L s (back-alike language book (limitsOf N L s) a)

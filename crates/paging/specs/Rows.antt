@@ -1,0 +1,118 @@
+-- Pages are cut into their rows, whatever lines they have.
+use mathlib.Core.Path.{_≡_, refl, ap, sym, _∙_}
+use mathlib.Core.Logic.{_≢_}
+use Prim.Native.Nat.{ℕ, zero, suc, _+_, _-_, _/_, _%_}
+use native.Mathlib.Omega.{arith}
+use mathlib.Core.Bool.{Bool, true, false}
+use mathlib.Core.List.{List, [], _∷_, _++_, append-assoc}
+use lib.Dec.{eqb, leb}
+use lib.ListN.{length, take, drop, replicate}
+use borrow.Author.Tests.{eqb-false}
+use Rattle.aut68.specs.Language.{aut68}
+use Rattle.aut68.specs.Sizes.{numberColumns, textColumns}
+use Rattle.aut68.specs.Bytes.{Bytes, lines, joined}
+use Rattle.aut68.specs.Pages.{without, textOf, digit, numbered, blank, row, rows, rowCount, textRows, pagesFrom}
+use Rattle.lookup.specs.Lists.{Each}
+use Rattle.reading.specs.Pieces.{Closed, end, byte, Pieces, nothing, next}
+use Rattle.reading.specs.Closing.{lines-of-pieces}
+
+-- ---- bytes but 10
+
+-- no byte is 10
+abbrev NoEnd : Bytes → Type 0
+NoEnd w = Each (λ b. b ≢ 10) w
+
+no-end-closed : (w : Bytes) {b : Bytes} → NoEnd w → Closed b → Closed (w ++ b)
+no-end-closed [] h c = c
+no-end-closed (x ∷ w) h c = byte (h .0) (no-end-closed w (h .1) c)
+
+without-no-end : (a : Bytes) → NoEnd (without 10 a)
+unfolding without
+without-no-end [] = tt
+without-no-end (x ∷ a) = go (eqb x 10) refl (without-no-end a)
+  where
+    go : (t : Bool) → eqb x 10 ≡ t → NoEnd (without 10 a) → NoEnd (elim t as (λ _. Bytes) [ true ↦ without 10 a | false ↦ x ∷ without 10 a ])
+    go true e h = h
+    go false e h = (eqb-false x 10 e, h)
+
+text-no-end : (l : Bytes) → NoEnd (textOf l)
+unfolding textOf
+text-no-end l = without-no-end (without 32 l)
+
+take-no-end : (n : ℕ) (w : Bytes) → NoEnd w → NoEnd (take n w)
+take-no-end zero w h = tt
+take-no-end (suc n) [] h = tt
+take-no-end (suc n) (x ∷ w) h = (h .0, take-no-end n w (h .1))
+
+drop-no-end : (n : ℕ) (w : Bytes) → NoEnd w → NoEnd (drop n w)
+drop-no-end zero w h = h
+drop-no-end (suc n) [] h = tt
+drop-no-end (suc n) (x ∷ w) h = drop-no-end n w (h .1)
+
+spaces-no-end : (n : ℕ) → NoEnd (replicate n 32)
+spaces-no-end zero = tt
+spaces-no-end (suc n) = (λ e. omega arith, spaces-no-end n)
+
+blank-no-end : NoEnd blank
+unfolding blank
+blank-no-end = spaces-no-end numberColumns
+
+digit-no-end : (unit n : ℕ) → digit unit n ≢ 10
+unfolding digit
+digit-no-end unit n = go (leb unit n)
+  where
+    go : (t : Bool) → _≢_ {A = ℕ} (elim t as (λ _. ℕ) [ true ↦ 48 + n / unit % 10 | false ↦ 32 ]) 10
+    go true e = omega arith
+    go false e = omega arith
+
+numbered-no-end : (n : ℕ) → NoEnd (numbered n)
+unfolding numbered
+numbered-no-end n = (digit-no-end 10000 n, (digit-no-end 1000 n, (digit-no-end 100 n, (digit-no-end 10 n, (digit-no-end 1 n, tt)))))
+
+-- ---- rows, one by one
+
+row-closed : (front text : Bytes) → NoEnd front → NoEnd text → Closed (row front text)
+unfolding row
+row-closed front text f t =
+    let n = textColumns - length text in
+    no-end-closed front f (byte (λ e. omega arith) (no-end-closed text t (no-end-closed (replicate n 32) (spaces-no-end n) end)))
+
+-- k rows of a text, the first with this front
+unfoldable pub rowsOf : ℕ → Bytes → Bytes → List Bytes
+rowsOf zero front text = []
+rowsOf (suc k) front text = row front (take textColumns text) ∷ rowsOf k blank (drop textColumns text)
+
+-- the rows of the lines from number n on
+unfoldable pub pageRows : ℕ → List Bytes → List Bytes
+pageRows n [] = []
+pageRows n (l ∷ ls) = rowsOf (rowCount (textOf l)) (numbered n) (textOf l) ++ pageRows (suc n) ls
+
+rows-joined : (k : ℕ) (front text : Bytes) (rest : List Bytes) → joined (rowsOf k front text ++ rest) ≡ rows k front text ++ joined rest
+unfolding rowsOf rows joined
+rows-joined zero front text rest = refl
+rows-joined (suc k) front text rest =
+    let r = row front (take textColumns text) in
+    ap (λ (x : Bytes). r ++ x) (rows-joined k blank (drop textColumns text) rest) ∙ sym (append-assoc r (rows k blank (drop textColumns text)) (joined rest))
+
+page-joined : (n : ℕ) (ls : List Bytes) → joined (pageRows n ls) ≡ pagesFrom n ls
+unfolding pageRows pagesFrom textRows joined
+page-joined n [] = refl
+page-joined n (l ∷ ls) =
+    let t = textOf l in
+    rows-joined (rowCount t) (numbered n) t (pageRows (suc n) ls) ∙ ap (λ (x : Bytes). rows (rowCount t) (numbered n) t ++ x) (page-joined (suc n) ls)
+
+rows-pieces : (k : ℕ) (front text : Bytes) {rest : List Bytes} → NoEnd front → NoEnd text → Pieces rest → Pieces (rowsOf k front text ++ rest)
+unfolding rowsOf
+rows-pieces zero front text f t p = p
+rows-pieces (suc k) front text f t p =
+    next (row-closed front (take textColumns text) f (take-no-end textColumns text t))
+    (rows-pieces k blank (drop textColumns text) blank-no-end (drop-no-end textColumns text t) p)
+
+page-pieces : (n : ℕ) (ls : List Bytes) → Pieces (pageRows n ls)
+unfolding pageRows
+page-pieces n [] = nothing
+page-pieces n (l ∷ ls) = rows-pieces (rowCount (textOf l)) (numbered n) (textOf l) (numbered-no-end n) (text-no-end l) (page-pieces (suc n) ls)
+
+-- a page is cut into its rows
+pub page-lines : (n : ℕ) (ls : List Bytes) → lines (pagesFrom n ls) ≡ pageRows n ls
+page-lines n ls = ap lines (sym (page-joined n ls)) ∙ lines-of-pieces aut68 (page-pieces n ls)
