@@ -17,24 +17,27 @@ use Rattle.aut68.specs.Rules.Derivation.{Derived}
 use Rattle.aut68.specs.Demands.{Accepted, Determined}
 use Rattle.aut68.specs.Admission.{tooLong, written}
 use Rattle.aut68.specs.Printing.{SameReading, NeverJoined, SameButPlaces, ReadsBack, ReadsBackPadded, PrintsPages}
-use Rattle.paging.specs.Paging as paging
+use Rattle.paging.specs.SameReading.{same-reading}
+use Rattle.paging.specs.NeverJoined.{never-joined}
+use Rattle.paging.specs.PaddedLines.{derived-read-back}
+use Rattle.paging.specs.ReadsBack.{reads-back}
 use Rattle.theorems.specs.Admission.{accepted-lines, accepted-code, admits-refused, admits-answered}
 
 -- Paper 4: a line without its spaces is read as the same line, and no two of its symbols are joined.
 pub spaces-dropped : SameReading
-spaces-dropped = paging.same-reading
+spaces-dropped = same-reading
 
 pub symbols-not-joined : NeverJoined
-symbols-not-joined = paging.never-joined
+symbols-not-joined = never-joined
 
 -- Paper 4: columns 7 to 72, read back line by line, give the same outcome and the same cells ..
 pub columns-read-back : ReadsBack
-columns-read-back = paging.reads-back
+columns-read-back = reads-back
 
 -- .. and with the padding lines of the same meanings.
 pub padding-read-back : ReadsBackPadded
 unfolding ReadsBackPadded Accepted
-padding-read-back language book N L s z = paging.derived-read-back book (accepted-lines language book N L s z .1)
+padding-read-back language book N L s z = derived-read-back language book _ (accepted-lines language book N L s z .1)
 
 -- ---- the call that prints a book
 
