@@ -1,6 +1,6 @@
 -- The sixteen outcomes that document 01 calls the proved ones, as one table under one theorem; books that tell its misreadings apart,
 -- under another; the example books in AUT-QE, under a third; those with omitted arguments, under a fourth; those with the cells of the
--- index, under a fifth; those of closed blocks, under a sixth; and the lines that a book of three records.
+-- index, under a fifth; those of closed blocks, under a sixth; the lines that a book of three records; and the pages of books.
 use mathlib.Core.Path.{_≡_, refl}
 use Prim.Native.Nat.{ℕ, zero, suc}
 use mathlib.Core.Bool.{true}
@@ -15,6 +15,7 @@ use Rattle.aut68.specs.Expr
 use Rattle.aut68.specs.Substitution
 use Rattle.aut68.specs.Lines
 use Rattle.aut68.specs.Index
+use Rattle.aut68.specs.Pages
 use Rattle.aut68.specs.Procedure.Resolve
 use Rattle.aut68.specs.Procedure.HeadStep
 use Rattle.aut68.specs.Procedure.Compare
@@ -25,6 +26,7 @@ use Rattle.aut68.specs.Cases.{Case, bytesOf, sample, endsAs, holds, allH
 use Rattle.aut68.specs.Omitted.{sums, sumRows, sumCells, omittedArguments}
 use Rattle.aut68.specs.Indexed.{sampleRows, sampleCells, sampleIndex, withIndex, indexCells}
 use Rattle.aut68.specs.ClosedBlocks.{blocks, closedBlocks}
+use Rattle.aut68.specs.Printed.{printed, printsAs, allPrint, printedPages}
 use Rattle.aut68.specs.ExamplesQE.{naturals, families, examplesQE}
 
 -- ---- the twelve rows of the table; the row of code 2 has two calls
@@ -198,3 +200,10 @@ closed-blocks = computed .5
 
 pub numbers-recorded : Run.recordedAt (Run.run aut68 numbers (record { budget = 0; limit = 16; table = 24; terms = 8; work = 2048; index = 16384 })) .recorded ≡ numberLines
 numbers-recorded = computed .6
+
+-- the pages of books, byte for byte, and what is read back from them
+pub pages-printed : allPrint printedPages ≡ true
+unfolding allPrint printsAs printed printedPages sameNumbers sample bytesOf
+    Bytes.nameByte Bytes.onto Bytes.lines Bytes.joined
+    Pages.without Pages.textOf Pages.digit Pages.numbered Pages.blank Pages.row Pages.rows Pages.rowCount Pages.textRows Pages.pagesFrom Pages.pages Pages.textIn Pages.atNumber Pages.ahead Pages.linesIn Pages.readBack Pages.withoutSpaces
+pages-printed = refl
