@@ -110,8 +110,9 @@ module _ (n : ℕ) (part number blanks : Bytes) (l : length part ≡ pageRow) (e
   pub unfilled-long : length (unfilled part number blanks) ≡ pageRow
   unfilled-long = ap length unfilled-is ∙ padded-long (numbered n) [] (numbered-long n) (omega arith)
 
-  -- with the text it is the row
-  pub row-put : {line : Bytes} {at r : ℕ} {text : Bytes} → TextPut line at (textIn (unfilled part number blanks)) r text
+  -- with the text in its columns it is the row
+  pub row-put : {line : Bytes} {at r : ℕ} {old text : Bytes} → TextPut line at old r text → old ≡ textIn (unfilled part number blanks)
       → RowPut line at n r (withText (unfilled part number blanks) text)
-  row-put {line} {at} {r} {text} h =
-      subst (λ x. RowPut line at n r (withText x text)) (sym unfilled-is) (text-put n (subst (λ x. TextPut line at (textIn x) r text) unfilled-is h))
+  row-put {line} {at} {r} {old} {text} h f =
+      subst (λ x. RowPut line at n r (withText x text)) (sym unfilled-is)
+      (text-put n (subst (λ x. TextPut line at x r text) (f ∙ ap textIn unfilled-is) h))

@@ -1,4 +1,4 @@
-use mathlib.Core.Path.{sym, _∙_}
+use mathlib.Core.Path.{refl, sym, _∙_}
 use native.Mathlib.Omega.{arith}
 use borrow.Author.Needs.{needs}
 use lib.ListN.{length-take}
@@ -56,7 +56,7 @@ returns c =
     let blanks = texts .before .before .before .before in
     let numbers = blanks .before .before .before .before in
     let start = numbers .before .before .before .before in
-    row-put (start .args .n) (start .args .part .now) _ _ (start .pre .1) (numbers .put-number .ensures) (blanks .put-blanks .ensures) (texts .put-text .ensures)
+    row-put (start .args .n) (start .args .part .now) _ _ (start .pre .1) (numbers .put-number .ensures) (blanks .put-blanks .ensures) (texts .put-text .ensures) refl
 
 same-length : tie.Need-same-length
 same-length c = row-put-long (returns c) ∙ sym (c .before .before .before .before .before .before .before .before .before .before .before .before .before .before .pre .1)
