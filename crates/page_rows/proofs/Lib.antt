@@ -2,4 +2,5 @@
 pub mod PutLaws
 pub mod TextLaws
 pub mod RowLaws
+pub mod CountLaws
 pub mod PageLaws

@@ -1,7 +1,7 @@
 -- Bytes put one part after the other over the front of a store.
 use mathlib.Core.Path.{_≡_, refl, sym, ap, ap₂, _∙_}
 use mathlib.Core.List.{[], _∷_, _++_, append-assoc}
-use Prim.Native.Nat.{ℕ, suc, _+_, _-_, _≤_, _<_}
+use Prim.Native.Nat.{ℕ, _+_, _-_, _≤_, _<_}
 use native.Mathlib.Omega.{arith}
 use native.Mathlib.Numerals.{add-one}
 use lib.ListN.{length, take, drop, set, length-append, length-take, length-drop}
@@ -45,10 +45,10 @@ module _ {whole old : Bytes} {to : ℕ} {new : Bytes} where
       let f : drop to whole ≡ part ++ rest = sym (h .left) in
       let m : length whole - to ≡ length part + length rest = sym (length-drop to whole) ∙ ap length f ∙ length-append part rest in
       let t : take end whole ≡ take to whole ++ part =
-          ap (λ j. take j whole) (sym e) ∙ take-add to (length part) whole ∙ ap (λ x. take to whole ++ take (length part) x) f
-          ∙ ap (λ x. take to whole ++ x) (take-append-seam part rest) in
+      ap (λ j. take j whole) (sym e) ∙ take-add to (length part) whole ∙ ap (λ x. take to whole ++ take (length part) x) f
+      ∙ ap (λ x. take to whole ++ x) (take-append-seam part rest) in
       let d : drop end whole ≡ rest =
-          ap (λ j. drop j whole) (sym e) ∙ sym (drop-drop (length part) to whole) ∙ ap (drop (length part)) f ∙ drop-append-seam part rest in
+      ap (λ j. drop j whole) (sym e) ∙ sym (drop-drop (length part) to whole) ∙ ap (drop (length part)) f ∙ drop-append-seam part rest in
       record {
         upTo = omega (arith, h .upTo);
         long = ap length p ∙ part-long part new to (omega (arith, h .long)) ∙ h .long;

@@ -21,8 +21,8 @@ printed b bs h = at (eqb b 32) refl (eqb b 10) refl h
   where
     at : (t : Bool) → eqb b 32 ≡ t → (u : Bool) → eqb b 10 ≡ u → not t && not u ≡ true → textOf (b ∷ bs) ≡ b ∷ textOf bs
     at false e false f g = rw (e, without) (rw (f, without))
-    at false e true f g = let z : _≡_ {A = Bool} true false = cc in let y : _≡_ {A = ℕ} 0 1 = cc in absurd (omega arith)
-    at true e u f g = let z : _≡_ {A = Bool} true false = cc in let y : _≡_ {A = ℕ} 0 1 = cc in absurd (omega arith)
+    at false e true f g = let y : _≡_ {A = ℕ} 0 1 = cc in absurd (omega arith)
+    at true e u f g = let y : _≡_ {A = ℕ} 0 1 = cc in absurd (omega arith)
 
 -- a byte that is not
 unprinted : (b : ℕ) (bs : Bytes) → textByte b ≡ false → textOf (b ∷ bs) ≡ textOf bs
@@ -35,12 +35,15 @@ unprinted b bs h = at (eqb b 32) refl (eqb b 10) refl h
     at false e false f g = let y : _≡_ {A = ℕ} 0 1 = cc in absurd (omega arith)
 
 module _ (line : Bytes) (i : ℕ) (l : i < length line) where
+  -- the byte at i is printed
   pub printed-at : textByte (getD line i 0) ≡ true → textOf (drop i line) ≡ getD line i 0 ∷ textOf (drop (i + 1) line)
   printed-at h = ap textOf (step line i l) ∙ printed (getD line i 0) (drop (i + 1) line) h
 
+  -- it is not
   pub unprinted-at : textByte (getD line i 0) ≡ false → textOf (drop i line) ≡ textOf (drop (i + 1) line)
   unprinted-at h = ap textOf (step line i l) ∙ unprinted (getD line i 0) (drop (i + 1) line) h
 
+-- nothing is left at the end of a line
 pub no-text : (line : Bytes) (i : ℕ) → length line ≤ i → textOf (drop i line) ≡ []
 unfolding textOf without
 no-text line i l = ap textOf (ended line i l)
@@ -55,10 +58,12 @@ pub text-start : {line : Bytes} {at : ℕ} {old : Bytes} → at ≤ length line 
 text-start l = record { within = l; fits = omega arith; sofar = put-start }
 
 module _ {line : Bytes} {at : ℕ} {old : Bytes} {n i : ℕ} {new : Bytes} (h : TextSoFar line at old n i new) where
+  -- a byte that is printed is put, if there is room
   pub text-byte : i < length line → n < length new → textByte (getD line i 0) ≡ true → TextSoFar line at old (n + 1) (i + 1) (set new n (getD line i 0))
   text-byte l m t =
       record { within = omega arith; fits = omega (arith, h .sofar .long); sofar = put-byte (rw (printed-at line i l t) at (h .sofar)) m }
 
+  -- another is passed
   pub other-byte : i < length line → textByte (getD line i 0) ≡ false → TextSoFar line at old n (i + 1) new
   other-byte l t = record { within = omega arith; fits = h .fits; sofar = rw (unprinted-at line i l t) at (h .sofar) }
 

@@ -1,14 +1,10 @@
 use Prim.Native.Nat.{_-_}
 use native.Mathlib.Omega.{arith}
 use borrow.Author.Needs.{needs}
-use lib.ListN.{length, length-take, length-drop}
+use lib.ListN.{length-take, length-drop}
 use Rattle.page_rows.proofs.PageLaws.{LineSoFar, line-start, row-fits, line-row, line-end}
 use Rattle.page_rows.proofs.put_line.Statement.{statement}
 use Rattle.page_rows.proofs.put_line.Tie as tie
-use Rattle.page_rows.proofs.put_line.Reads as reads
-use Rattle.page_rows.proofs.put_line.Lts as lts
-use Rattle.page_rows.proofs.put_row.Reads as put-row-reads
-use Rattle.page_rows.proofs.rows_of.Reads as rows-of-reads
 
 abbrev Inv-loop : tie.InvT-loop
 Inv-loop line number page₀ count at₀ n₀ to₀ k₀ page at n to k = LineSoFar line number page₀ count at n to k page
@@ -35,7 +31,9 @@ part-put-row-end : tie.Need-part-put-row-end Inv-loop μ-loop
 part-put-row-end c = row-fits (c .before .loop .inv) (omega arith) (c .before .before .before .before .before .pre)
 
 put-row-requires : tie.Need-put-row-requires Inv-loop μ-loop
-put-row-requires c κs = (c .before .before .loop .inv .within, simp (length-take, length-drop) (omega (arith, row-fits (c .before .before .loop .inv) (omega arith) (c .before .before .before .before .before .before .pre))))
+put-row-requires c κs =
+    let h = c .before .before .loop .inv in
+    (h .within, simp (length-take, length-drop) (omega (arith, row-fits h (omega arith) (c .before .before .before .before .before .before .pre))))
 
 add-k : tie.Need-add-k Inv-loop μ-loop
 add-k c = omega (arith, c .before .before .before .before .before .before .rows-of .ensures .1)
@@ -44,7 +42,9 @@ loop-less : tie.Need-loop-less Inv-loop μ-loop
 loop-less c = omega arith
 
 loop-again : tie.Need-loop-again Inv-loop μ-loop
-loop-again c = line-row (c .before .before .before .before .before .loop .inv) (omega arith) (c .before .before .before .before .before .before .before .before .before .pre) (c .before .before .put-row .ensures)
+loop-again c =
+    let loop = c .before .before .before .before .before in
+    line-row (loop .loop .inv) (omega arith) (loop .before .before .before .before .pre) (c .before .before .put-row .ensures)
 
 same-length : tie.Need-same-length Inv-loop μ-loop
 same-length c = c .before .loop .inv .sofar .long
@@ -55,18 +55,5 @@ returns c = line-end (c .before .loop .inv) (omega arith)
 pub put-line-spec : {M : Type 1} → statement M
 put-line-spec =
     tie.close
-    (tie.spec
-    Inv-loop
-    μ-loop
-    rows-of-requires
-    loop-holds
-    add-end
-    sub-put-row
-    part-put-row-start
-    part-put-row-end
-    put-row-requires
-    add-k
-    loop-less
-    loop-again
-    same-length
-    returns)
+    (tie.spec Inv-loop μ-loop rows-of-requires loop-holds add-end sub-put-row part-put-row-start part-put-row-end put-row-requires add-k
+    loop-less loop-again same-length returns)

@@ -5,10 +5,6 @@ use lib.ListN.{length, length-take, length-drop}
 use Rattle.page_rows.proofs.PageLaws.{PagesSoFar, pages-start, line-fits, pages-line, pages-end}
 use Rattle.page_rows.proofs.put_pages.Statement.{statement}
 use Rattle.page_rows.proofs.put_pages.Tie as tie
-use Rattle.page_rows.proofs.put_pages.Reads as reads
-use Rattle.page_rows.proofs.put_pages.Lts as lts
-use Rattle.headings.proofs.line_end.Reads as line-end-reads
-use Rattle.page_rows.proofs.put_line.Reads as put-line-reads
 
 abbrev Inv-loop : tie.InvT-loop
 Inv-loop book page₀ at₀ n₀ to₀ page at n to = PagesSoFar book page₀ at n to page
@@ -32,19 +28,27 @@ part-put-line-end : tie.Need-part-put-line-end Inv-loop μ-loop
 part-put-line-end c = c .line-end .ensures .within (omega arith)
 
 sub-put-line-2 : tie.Need-sub-put-line-2 Inv-loop μ-loop
-sub-put-line-2 c = omega (arith, line-fits (c .before .before .before .loop .inv) (omega arith) (c .before .line-end .ensures) (c .before .before .before .before .before .before .pre))
+sub-put-line-2 c =
+    let loop = c .before .before .before in
+    omega (arith, line-fits (loop .loop .inv) (omega arith) (c .before .line-end .ensures) (loop .before .before .before .pre))
 
 part-put-line-start-2 : tie.Need-part-put-line-start-2 Inv-loop μ-loop
-part-put-line-start-2 c = omega (arith, line-fits (c .before .before .before .loop .inv) (omega arith) (c .before .line-end .ensures) (c .before .before .before .before .before .before .pre))
+part-put-line-start-2 c = sub-put-line-2 c
 
 part-put-line-end-2 : tie.Need-part-put-line-end-2 Inv-loop μ-loop
 part-put-line-end-2 c = omega arith
 
 put-line-requires : tie.Need-put-line-requires Inv-loop μ-loop
-put-line-requires c κs = simp (length-take, length-drop) (omega (arith, line-fits (c .before .before .before .before .loop .inv) (omega arith) (c .before .before .line-end .ensures) (c .before .before .before .before .before .before .before .pre)))
+put-line-requires c κs =
+    let loop = c .before .before .before .before in
+    let fits = line-fits (loop .loop .inv) (omega arith) (c .before .before .line-end .ensures) (loop .before .before .before .pre) in
+    simp (length-take, length-drop) (omega (arith, fits))
 
 add-to : tie.Need-add-to Inv-loop μ-loop
-add-to c = omega (arith, line-fits (c .before .before .before .before .before .before .before .loop .inv) (omega arith) (c .before .before .before .before .before .line-end .ensures) (c .before .before .before .before .before .before .before .before .before .before .pre), c .before .before .put-line .ensures .0)
+add-to c =
+    let loop = c .before .before .before .before .before .before .before in
+    let fits = line-fits (loop .loop .inv) (omega arith) (c .before .before .before .before .before .line-end .ensures) (loop .before .before .before .pre) in
+    omega (arith, fits, c .before .before .put-line .ensures .0)
 
 add-n : tie.Need-add-n Inv-loop μ-loop
 add-n c = omega (arith, c .before .before .before .before .before .before .before .loop .inv .few)
@@ -53,7 +57,9 @@ loop-less : tie.Need-loop-less Inv-loop μ-loop
 loop-less c = omega (arith, c .before .before .before .before .before .line-end .ensures .from (omega arith))
 
 loop-again : tie.Need-loop-again Inv-loop μ-loop
-loop-again c = pages-line (c .before .before .before .before .before .before .before .loop .inv) (omega arith) (c .before .before .before .before .before .line-end .ensures) (c .before .before .before .before .before .before .before .before .before .before .pre) (c .before .before .put-line .ensures .0) (c .before .before .put-line .ensures .1)
+loop-again c =
+    let loop = c .before .before .before .before .before .before .before in
+    pages-line (loop .loop .inv) (omega arith) (c .before .before .before .before .before .line-end .ensures) (loop .before .before .before .pre) (c .before .before .put-line .ensures)
 
 same-length : tie.Need-same-length Inv-loop μ-loop
 same-length c = c .before .loop .inv .sofar .long
@@ -64,21 +70,5 @@ returns c = pages-end (c .before .loop .inv) (omega arith)
 pub put-pages-spec : {M : Type 1} → statement M
 put-pages-spec =
     tie.close
-    (tie.spec
-    Inv-loop
-    μ-loop
-    loop-holds
-    line-end-requires
-    sub-put-line
-    part-put-line-start
-    part-put-line-end
-    sub-put-line-2
-    part-put-line-start-2
-    part-put-line-end-2
-    put-line-requires
-    add-to
-    add-n
-    loop-less
-    loop-again
-    same-length
-    returns)
+    (tie.spec Inv-loop μ-loop loop-holds line-end-requires sub-put-line part-put-line-start part-put-line-end sub-put-line-2
+    part-put-line-start-2 part-put-line-end-2 put-line-requires add-to add-n loop-less loop-again same-length returns)

@@ -1,15 +1,11 @@
-use mathlib.Core.Path.{sym, _∙_}
+use mathlib.Core.Path.{refl, sym, _∙_}
 use native.Mathlib.Omega.{arith}
-use lib.ListN.{length-take}
-use Rattle.page_rows.proofs.RowLaws.{row-put-long, ended-long, row-put}
 use borrow.Author.Needs.{needs}
+use lib.ListN.{length-take}
+use Rattle.aut68.specs.Pages.{textIn}
+use Rattle.page_rows.proofs.RowLaws.{row-put-long, unfilled-long, row-put}
 use Rattle.page_rows.proofs.put_row.Statement.{statement}
 use Rattle.page_rows.proofs.put_row.Tie as tie
-use Rattle.page_rows.proofs.put_row.Reads as reads
-use Rattle.page_rows.proofs.put_row.Lts as lts
-use Rattle.page_rows.proofs.put_blanks.Reads as put-blanks-reads
-use Rattle.page_rows.proofs.put_number.Reads as put-number-reads
-use Rattle.page_rows.proofs.put_text.Reads as put-text-reads
 
 add-end : tie.Need-add-end
 add-end c = search needs
@@ -48,18 +44,19 @@ part-put-text-end : tie.Need-part-put-text-end
 part-put-text-end c =
     let numbers = c .before .before .before .before .before .before in
     let start = numbers .before .before .before .before in
-    omega (arith, ended-long (start .args .n) (start .args .part .now) _ _ (start .pre .1) (numbers .put-number .ensures) (c .before .before .put-blanks .ensures))
+    omega (arith, unfilled-long (start .args .n) (start .args .part .now) _ _ (start .pre .1) (numbers .put-number .ensures) (c .before .before .put-blanks .ensures))
 
 put-text-requires : tie.Need-put-text-requires
 put-text-requires c κs = search needs
 
 returns : tie.Need-returns
+unfolding textIn
 returns c =
     let texts = c .before .before in
     let blanks = texts .before .before .before .before in
     let numbers = blanks .before .before .before .before in
     let start = numbers .before .before .before .before in
-    row-put (start .args .n) (start .args .part .now) _ _ (start .pre .1) (numbers .put-number .ensures) (blanks .put-blanks .ensures) (texts .put-text .ensures)
+    row-put (start .args .n) (start .args .part .now) _ _ (start .pre .1) (numbers .put-number .ensures) (blanks .put-blanks .ensures) (texts .put-text .ensures) refl
 
 same-length : tie.Need-same-length
 same-length c = row-put-long (returns c) ∙ sym (c .before .before .before .before .before .before .before .before .before .before .before .before .before .before .pre .1)
@@ -67,19 +64,6 @@ same-length c = row-put-long (returns c) ∙ sym (c .before .before .before .bef
 pub put-row-spec : {M : Type 1} → statement M
 put-row-spec =
     tie.close
-    (tie.spec
-    add-end
-    slice-relend-prefix-put-number
-    slice-aggregate-put-number
-    put-number-requires
-    sub-put-blanks
-    part-put-blanks-start
-    part-put-blanks-end
-    put-blanks-requires
-    slice-write-part
-    sub-put-text
-    part-put-text-start
-    part-put-text-end
-    put-text-requires
-    same-length
-    returns)
+    (tie.spec add-end slice-relend-prefix-put-number slice-aggregate-put-number put-number-requires sub-put-blanks part-put-blanks-start
+    part-put-blanks-end put-blanks-requires slice-write-part sub-put-text part-put-text-start part-put-text-end put-text-requires
+    same-length returns)

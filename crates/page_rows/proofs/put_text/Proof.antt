@@ -7,9 +7,6 @@ use lib.ListN.{length}
 use Rattle.page_rows.proofs.TextLaws.{TextSoFar, text-start, text-byte, other-byte, text-full, text-ended}
 use Rattle.page_rows.proofs.put_text.Statement.{statement}
 use Rattle.page_rows.proofs.put_text.Tie as tie
-use Rattle.page_rows.proofs.put_text.Reads as reads
-use Rattle.page_rows.proofs.put_text.Lts as lts
-use Rattle.page_rows.proofs.is_text.Reads as is-text-reads
 
 abbrev Inv-loop : tie.InvT-loop
 Inv-loop line at part₀ n₀ i₀ part n i = TextSoFar line at part₀ n i part
@@ -17,43 +14,33 @@ Inv-loop line at part₀ n₀ i₀ part n i = TextSoFar line at part₀ n i part
 abbrev μ-loop : tie.MeasureT-loop
 μ-loop line at part₀ n₀ i₀ part n i = length line - i
 
--- src/lib.rt:111:5
 loop-holds : tie.Need-loop-holds Inv-loop μ-loop
 loop-holds c = text-start (c .before .before .pre)
 
--- src/lib.rt:112:17
 shared-slice-read-b : tie.Need-shared-slice-read-b Inv-loop μ-loop
 shared-slice-read-b c = omega arith
 
--- src/lib.rt:113:12
 is-text-requires : tie.Need-is-text-requires Inv-loop μ-loop
 is-text-requires c κs = search needs
 
--- src/lib.rt:115:17
 same-length : tie.Need-same-length Inv-loop μ-loop
 same-length c = c .before .before .before .before .before .loop .inv .sofar .long
 
--- src/lib.rt:115:17
 returns : tie.Need-returns Inv-loop μ-loop
 returns c = text-full (c .before .before .before .before .before .loop .inv) (c .if2 .taken)
 
--- src/lib.rt:117:13
 slice-write-part : tie.Need-slice-write-part Inv-loop μ-loop
 slice-write-part c = omega arith
 
--- src/lib.rt:118:17
 add-n : tie.Need-add-n Inv-loop μ-loop
 add-n c = omega arith
 
--- src/lib.rt:120:13
 add-i : tie.Need-add-i Inv-loop μ-loop
 add-i c = omega arith
 
--- src/lib.rt:111:5
 loop-less : tie.Need-loop-less Inv-loop μ-loop
 loop-less c = omega arith
 
--- src/lib.rt:111:5
 loop-again : tie.Need-loop-again Inv-loop μ-loop
 loop-again c =
     let I = c .before .before .before .before .loop .inv in
@@ -63,29 +50,14 @@ loop-again c =
     (λ w. rw (w .1, w .2) (other-byte I (omega arith) (sym t ∙ w .0 .left)))
     (c .if1 .came)
 
--- src/lib.rt:105:1
 same-length-2 : tie.Need-same-length-2 Inv-loop μ-loop
 same-length-2 c = c .before .loop .inv .sofar .long
 
--- src/lib.rt:105:1
 returns-2 : tie.Need-returns-2 Inv-loop μ-loop
 returns-2 c = text-ended (c .before .loop .inv) (omega arith)
 
 pub put-text-spec : {M : Type 1} → statement M
 put-text-spec =
     tie.close
-    (tie.spec
-    Inv-loop
-    μ-loop
-    loop-holds
-    shared-slice-read-b
-    is-text-requires
-    same-length
-    returns
-    slice-write-part
-    add-n
-    add-i
-    loop-less
-    loop-again
-    same-length-2
-    returns-2)
+    (tie.spec Inv-loop μ-loop loop-holds shared-slice-read-b is-text-requires same-length returns slice-write-part add-n add-i loop-less
+    loop-again same-length-2 returns-2)

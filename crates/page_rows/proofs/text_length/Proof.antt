@@ -8,9 +8,6 @@ use Rattle.aut68.specs.Pages.{textOf}
 use Rattle.page_rows.proofs.TextLaws.{printed-at, unprinted-at, no-text}
 use Rattle.page_rows.proofs.text_length.Statement.{statement}
 use Rattle.page_rows.proofs.text_length.Tie as tie
-use Rattle.page_rows.proofs.text_length.Reads as reads
-use Rattle.page_rows.proofs.text_length.Lts as lts
-use Rattle.page_rows.proofs.is_text.Reads as is-text-reads
 
 abbrev Inv-loop : tie.InvT-loop
 Inv-loop line n₀ i₀ n i = (i ≤ length line) × (n + length (textOf (drop i line)) ≡ length (textOf line)) × (n ≤ i)
@@ -18,31 +15,24 @@ Inv-loop line n₀ i₀ n i = (i ≤ length line) × (n + length (textOf (drop i
 abbrev μ-loop : tie.MeasureT-loop
 μ-loop line n₀ i₀ n i = length line - i
 
--- src/lib.rt:33:5
 loop-holds : tie.Need-loop-holds Inv-loop μ-loop
 loop-holds c = omega arith
 
--- src/lib.rt:34:20
 shared-slice-read-is-text : tie.Need-shared-slice-read-is-text Inv-loop μ-loop
 shared-slice-read-is-text c = omega arith
 
--- src/lib.rt:34:12
 is-text-requires : tie.Need-is-text-requires Inv-loop μ-loop
 is-text-requires c κs = search needs
 
--- src/lib.rt:35:17
 add-n : tie.Need-add-n Inv-loop μ-loop
 add-n c = omega arith
 
--- src/lib.rt:37:13
 add-i : tie.Need-add-i Inv-loop μ-loop
 add-i c = omega arith
 
--- src/lib.rt:33:5
 loop-less : tie.Need-loop-less Inv-loop μ-loop
 loop-less c = omega arith
 
--- src/lib.rt:33:5
 loop-again : tie.Need-loop-again Inv-loop μ-loop
 loop-again c =
     let line = c .before .before .before .before .before .before .args .line .now in
@@ -53,21 +43,10 @@ loop-again c =
     (λ w. omega (arith, ap length (unprinted-at line i (omega arith) (sym t ∙ w .0 .left))))
     (c .if1 .came)
 
--- src/lib.rt:28:1
 returns : tie.Need-returns Inv-loop μ-loop
 returns c = omega (arith, ap length (no-text (c .before .before .before .args .line .now) (c .before .loop .i) (omega arith)))
 
 pub text-length-spec : {M : Type 1} → statement M
 text-length-spec =
     tie.close
-    (tie.spec
-    Inv-loop
-    μ-loop
-    loop-holds
-    shared-slice-read-is-text
-    is-text-requires
-    add-n
-    add-i
-    loop-less
-    loop-again
-    returns)
+    (tie.spec Inv-loop μ-loop loop-holds shared-slice-read-is-text is-text-requires add-n add-i loop-less loop-again returns)
