@@ -1,7 +1,7 @@
 -- Printed pages, "on paper 72 columns wide": how a book is laid out in rows, and how its lines are read back from them.
 use Prim.Native.Nat.{ℕ, zero, suc, _+_, _-_, _/_, _%_}
 use mathlib.Core.Bool.{Bool, true, false, _&&_, _||_, not}
-use mathlib.Core.List.{List, [], _∷_, _++_}
+use mathlib.Core.List.{List, [], _∷_, _++_, map}
 use lib.Dec.{eqb, leb}
 use lib.ListN.{length, take, drop, replicate, getD}
 use Rattle.aut68.specs.Sizes.{numberColumns, textColumns}
@@ -78,9 +78,8 @@ unfoldable pub readBack : Bytes → List Bytes
 readBack page = linesIn (lines page)
 
 -- the same without byte 32
-unfoldable pub withoutSpaces : List Bytes → List Bytes
-withoutSpaces [] = []
-withoutSpaces (l ∷ ls) = without 32 l ∷ withoutSpaces ls
+abbrev pub withoutSpaces : List Bytes → List Bytes
+withoutSpaces = map (without 32)
 
 -- ---- symbols
 

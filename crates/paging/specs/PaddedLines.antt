@@ -83,7 +83,6 @@ module _ (language : Language) where
       ∙ sym (closed-text c)))
 
   backs-without : (ls : List Bytes) → Each HasForm ls → withoutSpaces (map paddedLine ls) ≡ withoutSpaces ls
-  unfolding withoutSpaces
   backs-without [] h = refl
   backs-without (l ∷ ls) h = λ i. back-without (form-closed (h .0)) i ∷ backs-without ls (h .1) i
 

@@ -91,7 +91,7 @@ module _ (language : Language) (m : Limits) where
   -- Lines that are accepted are accepted without their spaces.
   lines-alike : (pieces : List Bytes) (k k′ : Recorded) (at at′ b : ℕ) → SameLines k k′ → Accepted (checkLines language m k at b pieces)
       → SameEnding (checkLines language m k at b pieces) (checkLines language m k′ at′ b (withoutSpaces pieces))
-  unfolding checkLines withoutSpaces
+  unfolding checkLines
   lines-alike [] k k′ at at′ b h a = sameEnding h
   lines-alike (bytes ∷ more) k k′ at at′ b h a = go (checkLine language (k .recorded) m bytes b) refl (lines-alike more)
     where
@@ -125,13 +125,8 @@ same-but-places L s (sameEnding {k = k} {k′ = k′} h) =
 
 -- ---- the book that is read back
 
-without-map : (ls : List Bytes) → withoutSpaces ls ≡ map (without 32) ls
-unfolding withoutSpaces
-without-map [] = refl
-without-map (l ∷ ls) = ap (_∷_ (without 32 l)) (without-map ls)
-
 without-shorter : (ls : List Bytes) → length (joined (withoutSpaces ls)) ≤ length (joined ls)
-unfolding withoutSpaces joined
+unfolding joined
 without-shorter [] = omega arith
 without-shorter (l ∷ ls) =
     let h = without-length 32 l in
@@ -153,8 +148,8 @@ module _ (language : Language) (book : Bytes) (m : Limits) (a : Accepted (run la
   back-lines : lines back ≡ withoutSpaces (lines book)
   unfolding back SameReading
   back-lines =
-      ap (λ (x : List Bytes). lines (joined x)) (spaces-dropped-back language book forms ∙ without-map (lines book))
-      ∙ (cut-again language (without 32) (λ l f. (f .0, same-reading language (f .0) l (f .1))) (lines book) forms ∙ sym (without-map (lines book)))
+      ap (λ (x : List Bytes). lines (joined x)) (spaces-dropped-back language book forms)
+      ∙ cut-again language (without 32) (λ l f. (f .0, same-reading language (f .0) l (f .1))) (lines book) forms
 
   back-admitted : Admitted language back m
   unfolding back
