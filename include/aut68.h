@@ -14,12 +14,15 @@ extern "C" {
 enum {
     AUT68_SMALLEST_LIMIT = 16,
     AUT68_LARGEST_LIMIT = 4096,
-    AUT68_WORK_UNITS = 128, /* working cells for each cell of the limit */
-    AUT68_ROW_WIDTH = 8     /* table cells for each line */
+    AUT68_WORK_UNITS = 128,   /* working cells for each cell of the limit */
+    AUT68_ROW_WIDTH = 8,      /* table cells for each line */
+    AUT68_PAGE_ROW = 73,      /* bytes of a printed row: AUT68_NUMBER_COLUMNS, a blank one, AUT68_TEXT_COLUMNS, byte 10 */
+    AUT68_NUMBER_COLUMNS = 5,
+    AUT68_TEXT_COLUMNS = 66
 };
 
 /* What the check of a book ends with: 0 to 12, or 14. Codes 0, 3 to 9 and 14 are verdicts; 3 to 9 and 14 call the book wrong. Any
-   other call on a book checks it first and passes a refusal on; of an accepted book it ends with 0, 12 or 13. */
+   other call on a book checks it first and passes a refusal on; of an accepted book it ends with 0, 12, 13 or 15. */
 enum {
     AUT68_ACCEPTED = 0,
     AUT68_WORK_TOO_SMALL = 1,     /* under AUT68_WORK_UNITS * limit working cells; line 0, nothing written */
@@ -36,8 +39,9 @@ enum {
     AUT68_OUT_OF_SPACE = 12,      /* table, shelf or index full, line 8,192, a book of more than 16,777,215 bytes (line 0), or an
                                      answer that does not fit (line 0) */
     AUT68_NO_SUCH_LINE = 13,      /* the line is 0 or above the last */
-    AUT68_NOT_IN_CONTEXT = 14     /* the name has an EB line, outside the context of the line that uses it: its block has closed.
+    AUT68_NOT_IN_CONTEXT = 14,    /* the name has an EB line, outside the context of the line that uses it: its block has closed.
                                      Of 5, 6 and 14 a line gets that of the first name, from the left, that has one of them */
+    AUT68_STORE_TOO_SMALL = 15    /* the pages do not fit into the page store */
 };
 
 /* A cell of the shelf and of the working store. */
@@ -110,6 +114,23 @@ Aut68Answer aut68_rests_on(const uint8_t *book, size_t book_length,
                            uint32_t *index, size_t index_length,
                            uint32_t line,
                            uint32_t *answer, size_t answer_length);
+
+/* Prints a book on paper 72 columns wide. A line begins a row with its number, right-justified in columns 1 to 5; column 6 is blank;
+   columns 7 to 72 hold its bytes but 32 and 10, 66 to a row; on its further rows the first six columns are blank. Its last row is
+   padded with byte 32, and every row ends with byte 10. The book is checked first, with all that aut68_check says of its arguments
+   and of the four stores afterwards. Then, in this order:
+   - the pages have more bytes than the page store: 15;
+   - else 0; the pages are in the first bytes of the page store, as many as length says.
+   steps are 0. Every other byte of the page store is as it was; after any code but 0 all of them are. It must not overlap the stores
+   or the book. A book of n bytes and k lines has at most k + n / AUT68_TEXT_COLUMNS rows of AUT68_PAGE_ROW bytes. Columns 7 to 72,
+   read back line by line without byte 32, are a book with the same outcome, shelf, index and table but for AUT68_NAME_START. */
+Aut68Answer aut68_pages(const uint8_t *book, size_t book_length,
+                        uint32_t budget, uint32_t limit,
+                        uint32_t *table, size_t table_length,
+                        Aut68Cell *terms, size_t terms_length,
+                        Aut68Cell *work, size_t work_length,
+                        uint32_t *index, size_t index_length,
+                        uint8_t *page, size_t page_length);
 
 /* Where an identifier stands in the book: its first byte, from 0, and its length; length 0 where there is none. */
 typedef struct {

@@ -10,6 +10,7 @@ mod comparison;
 mod dependencies;
 mod lines;
 mod names;
+mod pages;
 mod reader;
 mod source;
 
@@ -21,6 +22,7 @@ use dependencies::Dependencies;
 pub use dependencies::primitives;
 use lines::Lines;
 use names::Names;
+pub use pages::{page_length, read_back, text_lengths};
 use reader::Reader;
 
 /// Why a book or a call is refused; the numbers are the specification's codes.
@@ -41,6 +43,7 @@ pub enum Refusal {
     OutOfSpace = 12,
     NoSuchLine = 13,
     NotInContext = 14,
+    StoreTooSmall = 15,
 }
 
 /// What was met on the way, for the counts of the differential run.
@@ -100,22 +103,45 @@ pub fn check_noting(book: &[u8], budget: u32, limit: u32, stores: &mut Stores, n
     }
 }
 
+/// What a call ends with that writes nothing, behind an admitted book.
+fn declined(refusal: Refusal) -> Answer {
+    Answer { code: refusal as u32, line: 0, steps: 0, length: 0 }
+}
+
+/// Admits a book for another call on it: how many lines it has, or the refusal, passed on.
+fn admit(book: &[u8], budget: u32, limit: u32, stores: &mut Stores) -> Result<u32, Answer> {
+    let Outcome { code, line, steps } = check(book, budget, limit, stores);
+    if code == 0 { Ok(line) } else { Err(Answer { code, line, steps: steps as u32, length: 0 }) }
+}
+
 /// What a line of an accepted book rests on, from cell 0 of the answer.
 pub fn rests_on(book: &[u8], budget: u32, limit: u32, stores: &mut Stores, line: u32, answer: &mut [u32]) -> Answer {
-    let admitted = check(book, budget, limit, stores);
-    if admitted.code != 0 {
-        return Answer { code: admitted.code, line: admitted.line, steps: admitted.steps as u32, length: 0 };
-    }
-    let refused = |refusal: Refusal| Answer { code: refusal as u32, line: 0, steps: 0, length: 0 };
-    if line == 0 || line > admitted.line {
-        return refused(Refusal::NoSuchLine);
+    let last = match admit(book, budget, limit, stores) {
+        Ok(lines) => lines,
+        Err(refused) => return refused,
+    };
+    if line == 0 || line > last {
+        return declined(Refusal::NoSuchLine);
     }
     let list = primitives(line as usize, stores);
     if list.len() > answer.len() {
-        return refused(Refusal::OutOfSpace);
+        return declined(Refusal::OutOfSpace);
     }
     answer[..list.len()].copy_from_slice(&list);
     Answer { code: 0, line: 0, steps: 0, length: list.len() as u32 }
+}
+
+/// The pages of an accepted book, from byte 0 of the page store.
+pub fn pages(book: &[u8], budget: u32, limit: u32, stores: &mut Stores, page: &mut [u8]) -> Answer {
+    if let Err(refused) = admit(book, budget, limit, stores) {
+        return refused;
+    }
+    let length = page_length(book);
+    if length > page.len() {
+        return declined(Refusal::StoreTooSmall);
+    }
+    pages::put_pages(book, &mut page[..length]);
+    Answer { code: 0, line: 0, steps: 0, length: length as u32 }
 }
 
 fn check_lines(

@@ -5,7 +5,9 @@ mod calls;
 mod closed;
 mod comparison;
 mod largest;
+mod layout;
 mod mutate;
+mod printed;
 mod text;
 mod theory;
 mod trees;
@@ -27,8 +29,8 @@ const LONGEST: Duration = Duration::from_secs(110);
 /// So many books are made from one.
 const BOOKS_FROM_ONE: usize = 15;
 
-/// Prints how often each code, and each situation of refused and of completed lines and of lists, was met; false if there was a
-/// difference, or one of these was not met.
+/// Prints how often each code, and each situation of refused and of completed lines, of lists and of pages, was met; false if there was
+/// a difference, or one of these was not met.
 pub fn run() -> bool {
     let start = Instant::now();
     let mut comparison = Comparison::default();
@@ -37,6 +39,7 @@ pub fn run() -> bool {
     for (book, call) in largest::books() {
         let outcome = comparison.check(&book, &call);
         comparison.last_line(&book, &call, &outcome);
+        comparison.whole_pages(&book, &call, &outcome);
     }
     let written = written_books();
     let mut books = 0;
@@ -56,10 +59,10 @@ pub fn run() -> bool {
     comparison.report() && books >= LEAST_BOOKS
 }
 
-/// The books of examples/ and of the test program, from the repository's root.
+/// The books of examples/ and of the test programs, from the repository's root.
 fn written_books() -> Vec<Vec<u8>> {
     let mut books = Vec::new();
-    for (folder, header) in [("examples", false), ("crates/cases/data", true)] {
+    for (folder, header) in [("examples", false), ("crates/cases/data", true), ("crates/page_cases/data", true)] {
         let mut files: Vec<_> = std::fs::read_dir(folder).into_iter().flatten().flatten().map(|f| f.path()).collect();
         files.sort();
         for file in files.iter().filter(|f| header || is_book(f)) {
@@ -102,5 +105,6 @@ fn changed(random: &mut Random, base: &[u8]) -> Vec<u8> {
     for _ in 0..changes {
         mutate::mutate(random, &mut book);
     }
+    layout::lay_out(random, &mut book);
     book
 }

@@ -26,5 +26,10 @@ pub const NESTING: usize = 32;
 
 pub const LONGEST_NAME: usize = 32;
 
+/// The columns of a printed row: a line's number, a blank one, its text; and the bytes of a row, byte 10 among them.
+pub const NUMBER_COLUMNS: usize = 5;
+pub const TEXT_COLUMNS: usize = 66;
+pub const PAGE_ROW: usize = NUMBER_COLUMNS + 1 + TEXT_COLUMNS + 1;
+
 /// How many codes there are, that of acceptance among them.
-pub const CODES: usize = 15;
+pub const CODES: usize = 16;

@@ -3,7 +3,7 @@
 use std::time::{Duration, Instant};
 
 use crate::generate::{self, Kind};
-use crate::sizes::{Cell, MOST_LINES, ROW_WIDTH, WORK_UNITS};
+use crate::sizes::{Cell, MOST_LINES, PAGE_ROW, ROW_WIDTH, WORK_UNITS};
 use crate::stores::Stores;
 use crate::{baseline, verified, Outcome};
 
@@ -13,8 +13,9 @@ const SIZES: [usize; 5] = [500, 1_000, 2_000, 4_000, 8_000];
 /// What stands in every lent cell before a run.
 const PATTERN: Cell = 7;
 
-/// Runs of a book are repeated until they took this long, or there are enough of them.
+/// Runs of a book are repeated until they took this long and are no fewer than the least, or there are enough of them.
 const TIME_FOR_BOOK: Duration = Duration::from_millis(1_200);
+const LEAST_RUNS: usize = 11;
 const MOST_RUNS: usize = 101;
 const TIME_TO_PROFILE: Duration = Duration::from_secs(2);
 
@@ -53,13 +54,15 @@ struct Turns {
     second: Duration,
     /// The median over runs beside each other, which a change of the machine's speed strikes alike.
     ratio: f64,
+    /// The first's shortest time without the second's, in milliseconds: what a call does beside the check is small beside it.
+    surplus: f64,
     runs: usize,
 }
 
 fn by_turns<R, Q>(stores: &mut Stores, mut first: impl FnMut(&mut Stores) -> R, mut second: impl FnMut(&mut Stores) -> Q) -> Turns {
     let mut times = Vec::new();
     let start = Instant::now();
-    while times.len() < MOST_RUNS && start.elapsed() < TIME_FOR_BOOK {
+    while times.len() < LEAST_RUNS || times.len() < MOST_RUNS && start.elapsed() < TIME_FOR_BOOK {
         let (_, first_time) = timed(stores, &mut first);
         let (_, second_time) = timed(stores, &mut second);
         times.push((first_time, second_time));
@@ -68,6 +71,7 @@ fn by_turns<R, Q>(stores: &mut Stores, mut first: impl FnMut(&mut Stores) -> R, 
         first: median(times.iter().map(|t| t.0)),
         second: median(times.iter().map(|t| t.1)),
         ratio: median(times.iter().map(|t| t.0.as_secs_f64() / t.1.as_secs_f64())),
+        surplus: least(times.iter().map(|t| t.0)) - least(times.iter().map(|t| t.1)),
         runs: times.len(),
     }
 }
@@ -84,6 +88,13 @@ struct Resting {
     length: u32,
     indexed: usize,
     turns: Turns,
+}
+
+/// The pages of a book, and the call beside the check, by each program.
+struct Printing {
+    length: u32,
+    verified: Turns,
+    baseline: Turns,
 }
 
 /// Prints the tables; false if some book is not accepted by both with the same rows and cells.
@@ -119,6 +130,17 @@ pub fn print() -> bool {
             kind.title(), m.length, m.indexed, m.turns.runs, milliseconds(m.turns.first), milliseconds(m.turns.second), m.turns.ratio,
         );
     }
+    println!("\npages of books of {lines} lines, beside their check; verified. Without the check: both programs");
+    println!("book       rows  runs     pages ms     check ms   ratio  pages alone  baseline's   ratio");
+    for kind in Kind::ALL {
+        let Some(m) = measure_pages(kind, lines) else { return false };
+        println!(
+            "{:<9}{:>6}{:>6}{:>13.3}{:>13.3}{:>8.2}{:>13.3}{:>12.3}{:>8.2}",
+            kind.title(), m.length as usize / PAGE_ROW, m.verified.runs, milliseconds(m.verified.first),
+            milliseconds(m.verified.second), m.verified.ratio, m.verified.surplus, m.baseline.surplus,
+            m.verified.surplus / m.baseline.surplus,
+        );
+    }
     true
 }
 
@@ -131,8 +153,8 @@ pub fn profile(kind: Kind, check: Check) {
     while start.elapsed() < TIME_TO_PROFILE {
         times.push(run(check, &book, kind.limit(), &mut stores).1);
     }
-    let least = times.iter().copied().min().unwrap_or_default();
-    println!("{:<9} {:.3} ms, {:.3} at least, {} runs", kind.title(), milliseconds(median(times.iter().copied())), milliseconds(least), times.len());
+    let (usual, shortest) = (milliseconds(median(times.iter().copied())), least(times.iter().copied()));
+    println!("{:<9} {usual:.3} ms, {shortest:.3} at least, {} runs", kind.title(), times.len());
 }
 
 fn per_line(title: &str, who: &str, times: impl Iterator<Item = Duration>) {
@@ -146,6 +168,10 @@ fn per_line(title: &str, who: &str, times: impl Iterator<Item = Duration>) {
 
 fn milliseconds(time: Duration) -> f64 {
     time.as_secs_f64() * 1e3
+}
+
+fn least(times: impl Iterator<Item = Duration>) -> f64 {
+    milliseconds(times.min().unwrap_or_default())
 }
 
 /// Checks that both agree on the book, then times them by turns.
@@ -192,6 +218,34 @@ fn measure_rests_on(kind: Kind, lines: usize) -> Option<Resting> {
         |s| verified::check(&book, u32::MAX, limit, s),
     );
     Some(Resting { length: given.length, indexed, turns })
+}
+
+/// Checks that both print the same pages, then times the call and the check by turns, of each program.
+fn measure_pages(kind: Kind, lines: usize) -> Option<Printing> {
+    let book = generate::book(kind, lines, SEED);
+    let limit = kind.limit();
+    let mut ours = stores(book.len(), limit);
+    let mut theirs = stores(book.len(), limit);
+    let mut page = vec![0; baseline::page_length(&book)];
+    let mut other_page = page.clone();
+    let (given, _) = timed(&mut ours, |s| verified::pages(&book, u32::MAX, limit, s, &mut page));
+    let (other, _) = timed(&mut theirs, |s| baseline::pages(&book, u32::MAX, limit, s, &mut other_page));
+    if given != other || page != other_page || ours != theirs || given.code != 0 {
+        println!("{}, pages: {given:?} verified, {other:?} baseline, pages alike: {}", kind.title(), page == other_page);
+        return None;
+    }
+    ours.index.truncate(ours.indexed(lines));
+    let verified = by_turns(
+        &mut ours,
+        |s| verified::pages(&book, u32::MAX, limit, s, &mut page),
+        |s| verified::check(&book, u32::MAX, limit, s),
+    );
+    let baseline = by_turns(
+        &mut ours,
+        |s| baseline::pages(&book, u32::MAX, limit, s, &mut page),
+        |s| baseline::check(&book, u32::MAX, limit, s),
+    );
+    Some(Printing { length: given.length, verified, baseline })
 }
 
 fn median<T: PartialOrd + Copy>(items: impl Iterator<Item = T>) -> T {

@@ -23,6 +23,15 @@ extern "C" {
         line: u32,
         answer: *mut u32, answer_length: usize,
     ) -> Answer;
+    fn aut68_pages(
+        book: *const u8, book_length: usize,
+        budget: u32, limit: u32,
+        table: *mut u32, table_length: usize,
+        terms: *mut Cell, terms_length: usize,
+        work: *mut Cell, work_length: usize,
+        index: *mut u32, index_length: usize,
+        page: *mut u8, page_length: usize,
+    ) -> Answer;
 }
 
 pub fn check(book: &[u8], budget: u32, limit: u32, stores: &mut Stores) -> Outcome {
@@ -45,6 +54,18 @@ pub fn rests_on(book: &[u8], budget: u32, limit: u32, stores: &mut Stores, line:
             book.as_ptr(), book.len(), budget, limit,
             table.as_mut_ptr(), table.len(), terms.as_mut_ptr(), terms.len(), work.as_mut_ptr(), work.len(),
             index.as_mut_ptr(), index.len(), line, answer.as_mut_ptr(), answer.len(),
+        )
+    }
+}
+
+pub fn pages(book: &[u8], budget: u32, limit: u32, stores: &mut Stores, page: &mut [u8]) -> Answer {
+    let Stores { table, terms, work, index } = stores;
+    // Sound: as above; the page store is borrowed apart from the others.
+    unsafe {
+        aut68_pages(
+            book.as_ptr(), book.len(), budget, limit,
+            table.as_mut_ptr(), table.len(), terms.as_mut_ptr(), terms.len(), work.as_mut_ptr(), work.len(),
+            index.as_mut_ptr(), index.len(), page.as_mut_ptr(), page.len(),
         )
     }
 }

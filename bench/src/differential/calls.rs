@@ -24,6 +24,11 @@ pub fn pattern(at: usize) -> u32 {
     (at as u32).wrapping_mul(0x9e37_79b1) ^ 0x5555_aaaa
 }
 
+/// What stands in a byte of a page store before a call.
+pub fn byte_pattern(at: usize) -> u8 {
+    pattern(at) as u8
+}
+
 fn cell_pattern(at: usize) -> Cell {
     (at as Cell).wrapping_mul(0x9e37) ^ 0x5a5a
 }

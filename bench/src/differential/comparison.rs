@@ -1,6 +1,7 @@
 //! The verified program and the baseline on the same calls, and what they leave in every cell.
 
 use super::calls::{pattern, Call, Question};
+use super::printed::Printed;
 use crate::baseline::{self, Notes, Refusal};
 use crate::random::Random;
 use crate::sizes::CODES;
@@ -18,8 +19,8 @@ const RIVALS: [[usize; 2]; 11] =
 /// The two programs side by side, and the counts of what they gave.
 #[derive(Default)]
 pub struct Comparison {
-    ours: Stores,
-    theirs: Stores,
+    pub(super) ours: Stores,
+    pub(super) theirs: Stores,
     codes: [usize; CODES],
     /// Books with variables put in, with 10 for a completed size alone, for a completed nesting alone.
     completed: [usize; 3],
@@ -29,18 +30,20 @@ pub struct Comparison {
     /// The codes of `rests_on`; of those with 12, the lists that do not fit.
     answers: [usize; CODES],
     unfit: usize,
+    pub(super) printed: Printed,
     steps: u64,
     differences: usize,
 }
 
 impl Comparison {
-    /// Compares the checks of a book, then on some books what a line rests on.
+    /// Compares the checks of a book, then on some books what a line rests on, and their pages.
     pub fn compare(&mut self, random: &mut Random, book: &[u8], call: &Call) {
         let outcome = self.check(book, call);
         if random.once_in(if outcome.code == 0 { 2 } else { REFUSED_ASKED }) {
             let question = Question::new(random, &outcome, &self.theirs);
             self.rests_on(book, call, &outcome, question);
         }
+        self.print(random, book, call, &outcome);
     }
 
     pub fn check(&mut self, book: &[u8], call: &Call) -> Outcome {
@@ -97,7 +100,7 @@ impl Comparison {
         self.unfit += usize::from(outcome.code == 0 && theirs.code == 12);
     }
 
-    fn differ(&mut self, book: &[u8], how: &str) {
+    pub(super) fn differ(&mut self, book: &[u8], how: &str) {
         self.differences += 1;
         if self.differences <= MOST_SHOWN {
             let shown = &book[..book.len().min(20_000)];
@@ -107,9 +110,9 @@ impl Comparison {
 
     /// Prints the counts; true if there was no difference and each code and each situation was met.
     pub fn report(&self) -> bool {
-        println!("code    check rests_on");
-        for (code, (checks, answers)) in self.codes.iter().zip(&self.answers).enumerate() {
-            println!("{code:>4} {checks:>8} {answers:>8}");
+        println!("code    check rests_on    pages");
+        for code in 0..CODES {
+            println!("{code:>4} {:>8} {:>8} {:>8}", self.codes[code], self.answers[code], self.printed.codes[code]);
         }
         let [put_in, size, nesting] = self.completed;
         println!("12 for a list that does not fit: {}", self.unfit);
@@ -119,10 +122,22 @@ impl Comparison {
             println!("{first} ahead of {other}: {count}");
         }
         println!("5 for a constant as indicator: {}", self.constant_indicators);
+        for (what, count) in self.printed.counts() {
+            println!("{what}: {count}");
+        }
         println!("{} head steps, {} differences", self.steps, self.differences);
-        // 13 is not met in the check of a book.
-        let of_the_check = (0..CODES).filter(|&code| code != Refusal::NoSuchLine as usize).map(|code| &self.codes[code]);
-        let counts = of_the_check.chain(&self.answers).chain(&self.completed).chain(&self.rivals);
-        self.differences == 0 && counts.chain([&self.unfit, &self.constant_indicators]).all(|&count| count > 0)
+        let counts = self.completed.iter().chain(&self.rivals).chain([&self.unfit, &self.constant_indicators]);
+        let printed = self.printed.counts().into_iter().map(|(_, count)| count);
+        self.differences == 0 && self.all_codes_met() && counts.copied().chain(printed).all(|count| count > 0)
+    }
+
+    /// Each code but those that the call never gives.
+    fn all_codes_met(&self) -> bool {
+        let [no_line, too_small] = [Refusal::NoSuchLine, Refusal::StoreTooSmall].map(|r| r as usize);
+        (0..CODES).all(|code| {
+            (self.codes[code] > 0 || code == no_line || code == too_small)
+                && (self.answers[code] > 0 || code == too_small)
+                && (self.printed.codes[code] > 0 || code == no_line)
+        })
     }
 }

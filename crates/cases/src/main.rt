@@ -9,6 +9,7 @@ use constants::ROW_WIDTH;
 use constants::WORK_UNITS;
 use libc::STDOUT_FILENO;
 use outcomes::recorded;
+use reports::arguments;
 use reports::header;
 use reports::header::Header;
 use reports::report;
@@ -41,7 +42,7 @@ fn report_stores(
     work: &[Cell],
     index: &[u32],
 ) {
-    let shown = report::least(n, h.shown);
+    let shown = report::least(n, h.last);
     report::rows(book, table, terms, shown);
     report::entries(index, n, shown);
     report::other_names(book, table, n);
@@ -66,6 +67,7 @@ fn check(
 // Asks what a line rests on, and reports.
 fn ask(
     h: Header,
+    line: u32,
     book: &[u8],
     table: &mut [u32],
     terms: &mut [Cell],
@@ -81,7 +83,7 @@ fn ask(
         terms,
         work,
         index,
-        h.line,
+        line,
         answer,
     );
     let r = verifier::answer_numbers(a);
@@ -101,6 +103,7 @@ fn ask(
 fn call(
     asks: bool,
     h: Header,
+    line: u32,
     book: &[u8],
     table: &mut [u32],
     terms: &mut [Cell],
@@ -109,7 +112,7 @@ fn call(
     answer: &mut [u32],
 ) {
     if asks {
-        ask(h, book, table, terms, work, index, answer);
+        ask(h, line, book, table, terms, work, index, answer);
     } else {
         check(h, book, table, terms, work, index);
     }
@@ -126,12 +129,13 @@ fn case_of(
     answer: &mut [u32],
 ) {
     let h = header::read(text);
-    let start = h.start;
+    let q = header::asked(text, h.next);
+    let start = q.start;
     let rows = h.table;
     let cells = h.terms;
     let room = h.work;
     let entries = h.index;
-    let list = h.room;
+    let list = q.room;
     if start > text.len() {
         return;
     }
@@ -153,6 +157,7 @@ fn case_of(
     call(
         asks,
         h,
+        q.line,
         &text[start..],
         &mut table[..rows],
         &mut terms[..cells],
@@ -186,20 +191,16 @@ fn case_in(fd: i32) {
     let n = io::read_full(fd, &mut text);
     run(false, &text[..n]);
     let h = header::read(&text[..n]);
-    if h.asks {
+    let q = header::asked(&text[..n], h.next);
+    if q.asks {
         run(true, &text[..n]);
     }
 }
 
 // The book or the case in the file that argument i names.
 fn argument(i: usize) {
-    let mut path = io::buffer();
-    let n = os::arg(i, &mut path);
-    io::write_all(STDOUT_FILENO, &path[..n]);
-    io::write_all(STDOUT_FILENO, &[10]);
-    let fd = os::open_read(&path[..n]);
+    let fd = arguments::open(i);
     if fd < 0 {
-        os::fail(&path[..n]);
         return;
     }
     if i > LISTED {

@@ -64,6 +64,16 @@ fn refuse(a: AnswerNumbers) {
     write_first(STDERR_FILENO, &out, n);
 }
 
+// The pages on standard output; of a book that is refused, code, line and steps on standard error.
+fn write_answer(a: AnswerNumbers, page: &[u8]) {
+    if a.code != 0 {
+        refuse(a);
+        return;
+    }
+    let length = a.length as usize;
+    write_first(STDOUT_FILENO, page, length);
+}
+
 fn main() {
     let mut book = [0u8; BYTES + 1];
     let r = read_book(STDIN_FILENO, &mut book);
@@ -74,9 +84,5 @@ fn main() {
     let n = r.bytes;
     let mut page = [0u8; PAGE];
     let a = print(&book[..n], &mut page);
-    if a.code != 0 {
-        refuse(a);
-        return;
-    }
-    write_first(STDOUT_FILENO, &page, a.length as usize);
+    write_answer(a, &page);
 }

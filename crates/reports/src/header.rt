@@ -1,10 +1,10 @@
-// The header of a case: decimal numbers, each ended by one byte that is no digit. There are seven, and two more where the seventh is
-// ended by a space.
+// The header of a case: decimal numbers, each ended by one byte that is no digit. There are seven, and two more, a question, where the
+// seventh is ended by a space.
 
 ghost use Prim.Native.Nat.{_≤_};
 
-// budget, limit: of the check. table, terms, work, index: cells of the four stores. shown: of how many lines rows and entries are
-// written at most. asks: it is asked what `line` rests on, with `room` cells for the answer. start: where the book begins.
+// budget, limit: of the check. table, terms, work, index: cells of the four stores. last: the seventh number, which each test program has
+// for itself. next: the index behind it.
 pub struct Header {
     pub budget: u32,
     pub limit: u32,
@@ -12,7 +12,12 @@ pub struct Header {
     pub terms: usize,
     pub work: usize,
     pub index: usize,
-    pub shown: u32,
+    pub last: u32,
+    pub next: usize,
+}
+
+// asks: it is asked what `line` rests on, with `room` cells for the answer. start: where the book begins.
+pub struct Question {
     pub asks: bool,
     pub line: u32,
     pub room: usize,
@@ -90,6 +95,7 @@ fn behind_space(text: &[u8], at: usize) -> bool {
     text[at - 1] == b' '
 }
 
+// The seven numbers.
 pub fn read(text: &[u8]) -> Header {
     let budget = number(text, 0);
     let limit = number(text, budget.next);
@@ -97,18 +103,7 @@ pub fn read(text: &[u8]) -> Header {
     let terms = number(text, table.next);
     let work = number(text, terms.next);
     let index = number(text, work.next);
-    let shown = number(text, index.next);
-    let asks = behind_space(text, shown.next);
-    let mut line: u64 = 0;
-    let mut room: u64 = 0;
-    let mut start = shown.next;
-    if asks {
-        let asked = number(text, start);
-        let answer = number(text, asked.next);
-        line = asked.value;
-        room = answer.value;
-        start = answer.next;
-    }
+    let last = number(text, index.next);
     Header {
         budget: narrow(budget.value),
         limit: narrow(limit.value),
@@ -116,7 +111,25 @@ pub fn read(text: &[u8]) -> Header {
         terms: terms.value as usize,
         work: work.value as usize,
         index: index.value as usize,
-        shown: narrow(shown.value),
+        last: narrow(last.value),
+        next: last.next,
+    }
+}
+
+// The question at index `at`, which is behind the seventh number.
+pub fn asked(text: &[u8], at: usize) -> Question {
+    let asks = behind_space(text, at);
+    let mut line: u64 = 0;
+    let mut room: u64 = 0;
+    let mut start = at;
+    if asks {
+        let v = number(text, start);
+        let cells = number(text, v.next);
+        line = v.value;
+        room = cells.value;
+        start = cells.next;
+    }
+    Question {
         asks: asks,
         line: narrow(line),
         room: room as usize,

@@ -1,3 +1,4 @@
-// What the test program reads of a case, and what it writes of the outcome.
+// What the test programs read of a case, and what they write of the outcome.
+pub mod arguments;
 pub mod header;
 pub mod report;

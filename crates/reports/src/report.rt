@@ -12,6 +12,7 @@ use libc::STDOUT_FILENO;
 use names::identifier;
 use outcomes::AnswerNumbers;
 use outcomes::Numbers;
+use programs::write_first;
 
 // A number in decimal and the byte c.
 fn say(x: u64, c: u8) {
@@ -187,18 +188,45 @@ pub fn other_cells(table: &[u32], terms: &[Cell], work: &[Cell], n: u32, limit: 
     say(others(work, 0, work.len(), 7), 10);
 }
 
-// What a line rests on: code, line, steps, length; the cells of the answer; how many cells changed behind them.
-pub fn answer(r: AnswerNumbers, cells: &[u32]) {
-    let length = r.length as usize;
-    io::write_all(STDOUT_FILENO, b"rests ");
+// Code, line, steps and length of a call other than the check, and the byte c.
+fn numbers(r: AnswerNumbers, c: u8) {
     say(r.code as u64, b' ');
     say(r.line as u64, b' ');
     say(r.steps as u64, b' ');
-    say(r.length as u64, b' ');
+    say(r.length as u64, c);
+}
+
+// What a line rests on: the numbers of the call; the cells of the answer; how many cells changed behind them.
+pub fn answer(r: AnswerNumbers, cells: &[u32]) {
+    let length = r.length as usize;
+    io::write_all(STDOUT_FILENO, b"rests ");
+    numbers(r, b' ');
     io::write_all(STDOUT_FILENO, b":");
     wide_cells(cells, 0, length);
     io::write_all(STDOUT_FILENO, b" : ");
     say(changed(cells, length), 10);
+}
+
+// How many bytes from index `from` on are not 7.
+fn changed_bytes(s: &[u8], from: usize) -> u64 {
+    let mut n = 0;
+    let mut i = from;
+    while i < s.len() {
+        if s[i] != 7 {
+            n = n + 1;
+        }
+        i = i + 1;
+    }
+    n
+}
+
+// A printed book: the numbers of the call; the bytes of the pages; how many bytes changed behind them.
+pub fn pages(r: AnswerNumbers, page: &[u8]) {
+    let length = r.length as usize;
+    numbers(r, 10);
+    write_first(STDOUT_FILENO, page, length);
+    io::write_all(STDOUT_FILENO, b"changed ");
+    say(changed_bytes(page, length), 10);
 }
 
 // How many bytes of the book are 10; 2^32 - 1 if there are more.

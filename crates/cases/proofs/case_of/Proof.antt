@@ -8,6 +8,9 @@ use Rattle.cases.proofs.case_of.Tie as tie
 read-requires : tie.Need-read-requires
 read-requires c κs = search needs
 
+asked-requires : tie.Need-asked-requires
+asked-requires c κs = search needs
+
 returns : tie.Need-returns
 returns c = search needs
 
@@ -91,6 +94,7 @@ case-of-spec =
     tie.close
     (tie.spec
     read-requires
+    asked-requires
     returns
     returns-2
     returns-3

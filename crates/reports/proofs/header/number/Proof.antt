@@ -1,4 +1,4 @@
--- `cases::header::number` is safe and ends. The value has at most ten digits; the measure is the text that is left.
+-- `reports::header::number` is safe and ends. The value has at most ten digits; the measure is the text that is left.
 use Prim.Native.Nat.{_≤_, _-_}
 use lib.ListN.{length}
 use borrow.Author.Needs.{needs}

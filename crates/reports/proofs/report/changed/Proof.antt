@@ -1,4 +1,4 @@
--- `cases::report::changed` is safe and ends. The count is at most the index.
+-- `reports::report::changed` is safe and ends. The count is at most the index.
 use mathlib.Core.Logic.{⊎-elim}
 use Prim.Native.Nat.{_≤_, _-_}
 use lib.ListN.{length}

@@ -1,4 +1,4 @@
--- `cases::report::others` is safe and ends. The count is at most the index.
+-- `reports::report::others` is safe and ends. The count is at most the index.
 use mathlib.Core.Logic.{⊎-elim}
 use Prim.Native.Nat.{_≤_, _-_}
 use borrow.Author.Needs.{needs}

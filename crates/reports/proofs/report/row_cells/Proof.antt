@@ -1,4 +1,4 @@
--- `cases::report::row_cells` is safe and ends. The measure is the number of the row's cells that are left.
+-- `reports::report::row_cells` is safe and ends. The measure is the number of the row's cells that are left.
 use Prim.Native.Nat.{_-_}
 use borrow.Author.Needs.{needs}
 use Rattle.aut68.specs.Sizes.{rowWidth}

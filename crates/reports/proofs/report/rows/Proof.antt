@@ -1,4 +1,4 @@
--- `cases::report::rows` is safe and ends. The measure is the number of rows that are left.
+-- `reports::report::rows` is safe and ends. The measure is the number of rows that are left.
 use Prim.Native.Nat.{_-_}
 use borrow.Author.Needs.{needs}
 use Rattle.reports.proofs.report.rows.Statement.{statement}

@@ -1,4 +1,4 @@
--- `cases::report::term_cells` is safe and ends. The measure is the number of cells that are left.
+-- `reports::report::term_cells` is safe and ends. The measure is the number of cells that are left.
 use Prim.Native.Nat.{_-_}
 use borrow.Author.Needs.{needs}
 use Rattle.reports.proofs.report.term_cells.Statement.{statement}
