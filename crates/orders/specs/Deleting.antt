@@ -18,7 +18,8 @@ use Rattle.lookup.specs.LineNumbers.{line-within}
 use Rattle.lookup.specs.DerivedBooks.{book-length}
 use Rattle.lookup.specs.Mentions.{named-mentions}
 use Rattle.lookup.specs.Following.{named-before, reaches-line, reaches?}
-use Rattle.reading.specs.Closing.{derived-closed, lines-of-closed}
+use Rattle.reading.specs.Pieces.{lines-of-closed}
+use Rattle.reading.specs.Closing.{derived-closed}
 use Rattle.orders.specs.RenumberedFollowing.{rests-renumbered}
 use Rattle.orders.specs.Standing.{Stands, piece-stands, stands-isLine, line-stands, same-bytes, book-repeat}
 use Rattle.orders.specs.Rearranging.{Behind, Passed, Arranged, newNumber, new-number-stands, placeIn, place-seam, place-front}
@@ -167,7 +168,7 @@ module _ (language : Language) {pieces : List Bytes} {ls : Lines} (D : Derived l
   keeps-meaning u l r i = let (b, s) = line-stands language D i in arranged .1 .placed b u l s (reached-stays s r)
 
   rest-lines : lines (joined rest) ≡ rest
-  rest-lines = lines-of-closed language rest (λ b m. derived-closed language D (deleted-member X m))
+  rest-lines = lines-of-closed rest (λ b m. derived-closed language D (deleted-member X m))
 
   remains : Remains language pieces ls v
   remains = record {

@@ -16,8 +16,8 @@ use Rattle.aut68.specs.Rules.Derivation as D
 use Rattle.aut68.specs.Pages.{without, textOf, pages, readBack, withoutSpaces}
 use Rattle.lookup.specs.Lists.{Each}
 use Rattle.reading.specs.Lengths.{one-length, name-length, symbol-shorter}
-use Rattle.reading.specs.Pieces.{Closed, Pieces, nothing, next}
-use Rattle.reading.specs.Closing.{well-formed-closed, lines-of-pieces}
+use Rattle.reading.specs.Pieces.{Closed, Pieces, nothing, next, lines-of-pieces}
+use Rattle.reading.specs.Closing.{well-formed-closed}
 use Rattle.paging.specs.Without.{without-append, without-replicate, text-without, closed-text}
 use Rattle.paging.specs.SameReading.{padded, padded-reading}
 use Rattle.paging.specs.PagesReadBack.{HasText, padding, paddedLine, pages-read-back}
@@ -56,7 +56,7 @@ module _ (language : Language) where
 
   -- A book of well-formed lines, each changed to one, is cut into these.
   pub cut-again : (f : Bytes → Bytes) → ((l : Bytes) → HasForm l → HasForm (f l)) → (ls : List Bytes) → Each HasForm ls → lines (joined (map f ls)) ≡ map f ls
-  cut-again f k ls h = lines-of-pieces language (pieces ls h)
+  cut-again f k ls h = lines-of-pieces (pieces ls h)
     where
       pieces : (ls : List Bytes) → Each HasForm ls → Pieces (map f ls)
       pieces [] h = nothing

@@ -8,23 +8,12 @@ use mathlib.Core.List.{List, [], _∷_, _++_, append-assoc}
 use lib.Dec.{eqb, leb}
 use lib.ListN.{length, take, drop, replicate}
 use borrow.Author.Tests.{eqb-false}
-use Rattle.aut68.specs.Language.{aut68}
 use Rattle.aut68.specs.Sizes.{numberColumns, textColumns}
 use Rattle.aut68.specs.Bytes.{Bytes, lines, joined}
 use Rattle.aut68.specs.Pages.{without, textOf, digit, numbered, blank, row, rows, rowCount, textRows, pagesFrom}
-use Rattle.lookup.specs.Lists.{Each}
-use Rattle.reading.specs.Pieces.{Closed, end, byte, Pieces, nothing, next}
-use Rattle.reading.specs.Closing.{lines-of-pieces}
+use Rattle.reading.specs.Pieces.{Closed, end, byte, NoEnd, no-end-closed, Pieces, nothing, next, lines-of-pieces}
 
 -- ---- bytes but 10
-
--- no byte is 10
-abbrev NoEnd : Bytes → Type 0
-NoEnd w = Each (λ b. b ≢ 10) w
-
-no-end-closed : (w : Bytes) {b : Bytes} → NoEnd w → Closed b → Closed (w ++ b)
-no-end-closed [] h c = c
-no-end-closed (x ∷ w) h c = byte (h .0) (no-end-closed w (h .1) c)
 
 without-no-end : (a : Bytes) → NoEnd (without 10 a)
 unfolding without
@@ -115,4 +104,4 @@ page-pieces n (l ∷ ls) = rows-pieces (rowCount (textOf l)) (numbered n) (textO
 
 -- a page is cut into its rows
 pub page-lines : (n : ℕ) (ls : List Bytes) → lines (pagesFrom n ls) ≡ pageRows n ls
-page-lines n ls = ap lines (sym (page-joined n ls)) ∙ lines-of-pieces aut68 (page-pieces n ls)
+page-lines n ls = ap lines (sym (page-joined n ls)) ∙ lines-of-pieces (page-pieces n ls)
