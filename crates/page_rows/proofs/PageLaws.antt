@@ -1,6 +1,6 @@
 -- The rows of a line, and the lines of a book, put one after the other.
-use mathlib.Core.Path.{_≡_, sym, ap, ap₂, subst, _∙_}
-use mathlib.Core.List.{_++_, append-nil}
+use mathlib.Core.Path.{_≡_, refl, sym, ap, ap₂, subst, _∙_}
+use mathlib.Core.List.{[], _++_, append-nil}
 use Prim.Native.Nat.{ℕ, suc, _+_, _-_, _≤_, _<_}
 use native.Mathlib.Omega.{arith}
 use native.Mathlib.Numerals.{add-one}
@@ -11,8 +11,9 @@ use Rattle.aut68.specs.Bytes.{Bytes, lines}
 use Rattle.aut68.specs.Procedure.Run.{over}
 use Rattle.aut68.specs.Pages.{textOf, digit, numbered, blank, row, rows, rowCount, textRows, pagesFrom, pages}
 use Rattle.headings.specs.Posts.{LineEnd}
-use Rattle.page_rows.specs.Posts.{RowPut}
+use Rattle.page_rows.specs.Posts.{TextLeft, RowPut}
 use Rattle.page_rows.proofs.PutLaws.{PutSoFar, put-start, put-more, put-all, put-fits}
+use Rattle.page_rows.proofs.TextLaws.{no-text}
 use Rattle.page_rows.proofs.RowLaws.{row-long, numbered-long}
 use Rattle.page_rows.proofs.CountLaws.{no-lines}
 
@@ -20,69 +21,70 @@ use Rattle.page_rows.proofs.CountLaws.{no-lines}
 abbrev lineRows : ℕ → Bytes → Bytes
 lineRows number line = textRows (numbered number) (textOf line)
 
--- the first row of a text, and the k further ones: they have the number 0, which is blank
+-- the first row of a text, and the further ones
 abbrev firstRow : ℕ → Bytes → Bytes
 firstRow n text = row (numbered n) (take textColumns text)
 
-abbrev furtherRows : ℕ → Bytes → Bytes
-furtherRows k text = rows k (numbered 0) (drop textColumns text)
+abbrev furtherRows : Bytes → Bytes
+furtherRows text = textRows blank (drop textColumns text)
 
 -- ---- the rows of a line
 
--- k of the rows of a line are put; the next has number n, and its text begins at `at`
-pub record LineSoFar (line : Bytes) (number : ℕ) (old : Bytes) (count at n to k : ℕ) (page : Bytes) : Type 0 where
-  pub within : at ≤ length line
-  pub counted : k ≤ count
-  pub sofar : PutSoFar (lineRows number line) old to page (rows (count - k) (numbered n) (textOf (drop at line)))
+-- an empty text has no rows
+no-rows : (front : Bytes) → textRows front [] ≡ []
+unfolding textRows rowCount rows
+no-rows front = refl
 
-pub line-start : {line : Bytes} {number : ℕ} {old : Bytes} {count : ℕ} → count ≡ rowCount (textOf line) → LineSoFar line number old count 0 number 0 0 old
-unfolding textRows
-line-start {line} {number} {old} {count} e =
-    let f : rowCount (textOf line) ≡ count - 0 = omega arith in
-    record {
-      within = omega arith;
-      counted = omega arith;
-      sofar = subst (λ k. PutSoFar (lineRows number line) old 0 old (rows k (numbered number) (textOf line))) f put-start;
-    }
+-- any other has a first
+first-row : (front text : Bytes) → 0 < length text → textRows front text ≡ row front (take textColumns text) ++ furtherRows text
+unfolding textRows rowCount rows
+first-row front text l =
+    let e : rowCount text ≡ suc (rowCount (drop textColumns text)) = omega (arith, length-drop textColumns text) in
+    ap (λ k. rows k front text) e
 
--- rows that are left begin with one
-next-row : {count k : ℕ} (n : ℕ) (text : Bytes) → k < count → rows (count - k) (numbered n) text ≡ firstRow n text ++ furtherRows (count - (k + 1)) text
-unfolding rows numbered blank digit
-next-row {count} {k} n text l = let e : count - k ≡ suc (count - (k + 1)) = omega arith in ap (λ j. rows j (numbered n) text) e
+-- rows of a line are put; what is left of it begins at `at`, and its next row has number n
+pub record LineSoFar (line : Bytes) (number : ℕ) (old : Bytes) (at n to : ℕ) (page : Bytes) : Type 0 where
+  pub begins : TextLeft line (textOf (drop at line)) at
+  pub sofar : PutSoFar (lineRows number line) old to page (textRows (numbered n) (textOf (drop at line)))
 
-module _ {line : Bytes} {number : ℕ} {old : Bytes} {count at n to k : ℕ} {page : Bytes} (h : LineSoFar line number old count at n to k page) where
+-- it is enough to know the text that is left
+line-left : {line text : Bytes} {number : ℕ} {old : Bytes} {at n to : ℕ} {page : Bytes} → TextLeft line text at
+    → PutSoFar (lineRows number line) old to page (textRows (numbered n) text) → LineSoFar line number old at n to page
+line-left h p = record { begins = rw (h .is) h; sofar = rw (h .is) p }
+
+pub line-start : {line : Bytes} {number : ℕ} {old : Bytes} {at : ℕ} → TextLeft line (textOf line) at → LineSoFar line number old at number 0 old
+line-start h = line-left h put-start
+
+module _ {line : Bytes} {number : ℕ} {old : Bytes} {at n to : ℕ} {page : Bytes} (h : LineSoFar line number old at n to page) where
   -- all rows are put
-  pub line-end : count ≤ k → (to ≡ length (lineRows number line)) × (page ≡ over (lineRows number line) old)
-  unfolding rows
-  line-end l = let e : count - k ≡ 0 = omega arith in put-all (rw e at (h .sofar))
+  pub line-end : length line ≤ at → (to ≡ length (lineRows number line)) × (page ≡ over (lineRows number line) old)
+  line-end l = put-all (rw (no-text line at l, no-rows) at (h .sofar))
 
-  module _ (l : k < count) (m : length (lineRows number line) ≤ length old) where
-    left : PutSoFar (lineRows number line) old to page (firstRow n (textOf (drop at line)) ++ furtherRows (count - (k + 1)) (textOf (drop at line)))
-    left = rw (next-row n (textOf (drop at line)) l) at (h .sofar)
+  -- behind the next row less text is left
+  pub less-left : {r : ℕ} {part : Bytes} → at < length line → RowPut line at n r part → length (textOf (drop r line)) < length (textOf (drop at line))
+  less-left l p = omega (arith, h .begins .some l, ap length (p .left .is), length-drop textColumns (textOf (drop at line)))
+
+  module _ (l : at < length line) (m : length (lineRows number line) ≤ length old) where
+    left : PutSoFar (lineRows number line) old to page (firstRow n (textOf (drop at line)) ++ furtherRows (textOf (drop at line)))
+    left = rw (first-row (numbered n) (textOf (drop at line)) (h .begins .some l)) at (h .sofar)
 
     first-long : length (firstRow n (textOf (drop at line))) ≡ pageRow
     first-long = row-long (numbered n) (textOf (drop at line)) (numbered-long n)
 
     -- there is room for the next row
     pub row-fits : to + pageRow ≤ length page
-    row-fits = omega (arith, put-fits (firstRow n (textOf (drop at line))) (furtherRows (count - (k + 1)) (textOf (drop at line))) left m, first-long)
+    row-fits = omega (arith, put-fits (firstRow n (textOf (drop at line))) (furtherRows (textOf (drop at line))) left m, first-long)
 
-    -- the next row is put
+    -- the next row is put; the number 0 is blank
     pub line-row : {r : ℕ} {part : Bytes} → RowPut line at n r part
-        → LineSoFar line number old count r 0 (to + pageRow) (k + 1) (take to page ++ (part ++ drop (to + pageRow - to) (drop to page)))
-    unfolding over
-    line-row {r} {part} p =
+        → LineSoFar line number old r 0 (to + pageRow) (take to page ++ (part ++ drop (to + pageRow - to) (drop to page)))
+    unfolding over numbered blank digit
+    line-row p =
         let text = textOf (drop at line) in
-        let new = take to page ++ (part ++ drop (to + pageRow - to) (drop to page)) in
         let w : to + pageRow - to ≡ length (firstRow n text) = omega (arith, first-long) in
-        record {
-          within = p .within;
-          counted = omega arith;
-          sofar =
-              subst (λ t. PutSoFar (lineRows number line) old (to + pageRow) new (rows (count - (k + 1)) (numbered 0) t)) (sym (p .left))
-              (put-more (firstRow n text) (furtherRows (count - (k + 1)) text) left (omega (arith, first-long)) (omega (arith, row-fits, h .sofar .long))
-              (ap₂ (λ x j. take to page ++ (x ++ drop j (drop to page))) (p .put) w));
-        }
+        line-left (p .left)
+        (put-more (firstRow n text) (furtherRows text) left (omega (arith, first-long)) (omega (arith, row-fits, h .sofar .long))
+        (ap₂ (λ x j. take to page ++ (x ++ drop j (drop to page))) (p .put) w))
 
 -- ---- the lines of a book
 

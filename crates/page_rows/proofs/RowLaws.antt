@@ -66,7 +66,6 @@ text-put : (n : ℕ) {line : Bytes} {at r : ℕ} {text : Bytes} → TextPut line
 unfolding numbered row textIn
 text-put n {line} {at} {r} {text} h =
     record {
-      within = h .within;
       put =
           ap (withText (row (numbered n) [])) (h .put)
           ∙ text-over n (take textColumns (textOf (drop at line))) (omega (arith, length-take textColumns (textOf (drop at line))));

@@ -11,7 +11,7 @@ use Rattle.aut68.specs.Bytes.{Bytes}
 use Rattle.aut68.specs.Procedure.Run.{over}
 use Rattle.aut68.specs.Pages.{without, textOf}
 use Rattle.symbols.proofs.SymbolLaws.{step, ended}
-use Rattle.page_rows.specs.Posts.{textByte, TextPut}
+use Rattle.page_rows.specs.Posts.{textByte, TextLeft, TextPut}
 use Rattle.page_rows.proofs.PutLaws.{PutSoFar, put-start, put-byte, put-all}
 
 -- a byte that is printed
@@ -48,6 +48,14 @@ pub no-text : (line : Bytes) (i : ℕ) → length line ≤ i → textOf (drop i 
 unfolding textOf without
 no-text line i l = ap textOf (ended line i l)
 
+-- what is left begins at a byte that is printed
+pub left-at : {line text : Bytes} {i : ℕ} → i < length line → textByte (getD line i 0) ≡ true → textOf (drop i line) ≡ text → TextLeft line text i
+left-at {line} {text} {i} l t e = record { within = omega arith; is = e; some = λ _. omega (arith, ap length (sym e ∙ printed-at line i l t)) }
+
+-- nothing is left
+pub left-none : {line text : Bytes} {i : ℕ} → i ≡ length line → textOf (drop i line) ≡ text → TextLeft line text i
+left-none e f = record { within = omega arith; is = f; some = λ l. absurd (omega arith) }
+
 -- n bytes of the text of a line from `at` on are put in a part; what is left of it begins at i
 pub record TextSoFar (line : Bytes) (at : ℕ) (old : Bytes) (n i : ℕ) (new : Bytes) : Type 0 where
   pub within : i ≤ length line
@@ -58,24 +66,24 @@ pub text-start : {line : Bytes} {at : ℕ} {old : Bytes} → at ≤ length line 
 text-start l = record { within = l; fits = omega arith; sofar = put-start }
 
 module _ {line : Bytes} {at : ℕ} {old : Bytes} {n i : ℕ} {new : Bytes} (h : TextSoFar line at old n i new) where
-  -- a byte that is printed is put, if there is room
-  pub text-byte : i < length line → n < length new → textByte (getD line i 0) ≡ true → TextSoFar line at old (n + 1) (i + 1) (set new n (getD line i 0))
-  text-byte l m t =
-      record { within = omega arith; fits = omega (arith, h .sofar .long); sofar = put-byte (rw (printed-at line i l t) at (h .sofar)) m }
-
-  -- another is passed
+  -- a byte that is not printed is passed
   pub other-byte : i < length line → textByte (getD line i 0) ≡ false → TextSoFar line at old n (i + 1) new
   other-byte l t = record { within = omega arith; fits = h .fits; sofar = rw (unprinted-at line i l t) at (h .sofar) }
 
-  -- the part is full
-  pub text-full : n ≡ length new → TextPut line at old i new
-  text-full e =
-      let k : n ≡ length old = e ∙ h .sofar .long in
-      record {
-        within = h .within;
-        put = h .sofar .put ∙ ap (λ j. over (take j (textOf (drop at line))) old) k;
-        left = h .sofar .left ∙ ap (λ j. drop j (textOf (drop at line))) k;
-      }
+  module _ (l : i < length line) (t : textByte (getD line i 0) ≡ true) where
+    -- another is put, if there is room
+    pub text-byte : n < length new → TextSoFar line at old (n + 1) (i + 1) (set new n (getD line i 0))
+    text-byte m =
+        record { within = omega arith; fits = omega (arith, h .sofar .long); sofar = put-byte (rw (printed-at line i l t) at (h .sofar)) m }
+
+    -- the part is full
+    pub text-full : n ≡ length new → TextPut line at old i new
+    text-full e =
+        let k : n ≡ length old = e ∙ h .sofar .long in
+        record {
+          put = h .sofar .put ∙ ap (λ j. over (take j (textOf (drop at line))) old) k;
+          left = left-at l t (h .sofar .left ∙ ap (λ j. drop j (textOf (drop at line))) k);
+        }
 
   -- all of the text is put
   pub text-ended : length line ≤ i → TextPut line at old i new
@@ -85,7 +93,6 @@ module _ {line : Bytes} {at : ℕ} {old : Bytes} {n i : ℕ} {new : Bytes} (h : 
       let (k, p) = put-all (rw e at (h .sofar)) in
       let m : length text ≤ length old = omega (arith, h .fits) in
       record {
-        within = h .within;
         put = p ∙ ap (λ x. over x old) (sym (take-all (length old) text m));
-        left = e ∙ sym (drop-of-length-le text m);
+        left = left-none (omega (arith, h .within)) (e ∙ sym (drop-of-length-le text m));
       }

@@ -1,7 +1,7 @@
 -- What the functions on rows leave.
 use mathlib.Core.Path.{_≡_}
 use mathlib.Core.Bool.{Bool, _&&_, not}
-use Prim.Native.Nat.{ℕ, _≤_}
+use Prim.Native.Nat.{ℕ, _≤_, _<_}
 use lib.Dec.{eqb}
 use lib.ListN.{length, take, drop}
 use Rattle.aut68.specs.Sizes.{textColumns}
@@ -13,14 +13,18 @@ use Rattle.aut68.specs.Pages.{textOf, numbered, row}
 abbrev pub textByte : ℕ → Bool
 textByte b = not (eqb b 32) && not (eqb b 10)
 
--- the text of a line from `at` on, in a part as far as it goes; what is left of it begins at r
-pub record TextPut (line : Bytes) (at : ℕ) (old : Bytes) (r : ℕ) (new : Bytes) : Type 0 where
+-- the text that is left of a line from r on; r is the line's end exactly if there is none
+pub record TextLeft (line text : Bytes) (r : ℕ) : Type 0 where
   pub within : r ≤ length line
-  pub put : new ≡ over (take (length old) (textOf (drop at line))) old
-  pub left : textOf (drop r line) ≡ drop (length old) (textOf (drop at line))
+  pub is : textOf (drop r line) ≡ text
+  pub some : r < length line → 0 < length text
 
--- the next row of a line, from `at` on, with the number n; what is left of the line begins at r
+-- the text of a line from `at` on is put in a part as far as it goes; what is left begins at r
+pub record TextPut (line : Bytes) (at : ℕ) (old : Bytes) (r : ℕ) (new : Bytes) : Type 0 where
+  pub put : new ≡ over (take (length old) (textOf (drop at line))) old
+  pub left : TextLeft line (drop (length old) (textOf (drop at line))) r
+
+-- the next row of a line, from `at` on, with the number n; what is left begins at r
 pub record RowPut (line : Bytes) (at n r : ℕ) (new : Bytes) : Type 0 where
-  pub within : r ≤ length line
   pub put : new ≡ row (numbered n) (take textColumns (textOf (drop at line)))
-  pub left : textOf (drop r line) ≡ drop textColumns (textOf (drop at line))
+  pub left : TextLeft line (drop textColumns (textOf (drop at line))) r

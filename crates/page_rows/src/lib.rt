@@ -9,7 +9,7 @@ ghost use lib.ListN.{length, replicate};
 ghost use Rattle.aut68.specs.Sizes.{numberColumns, pageRow};
 ghost use Rattle.aut68.specs.Procedure.Run.{over};
 ghost use Rattle.aut68.specs.Pages.{textOf, digit, numbered, rowCount, textRows, pages};
-ghost use Rattle.page_rows.specs.Posts.{textByte, TextPut, RowPut};
+ghost use Rattle.page_rows.specs.Posts.{textByte, TextLeft, TextPut, RowPut};
 
 // Columns 7 to 72 of a row begin here.
 const TEXT_START: usize = NUMBER_COLUMNS + 1;
@@ -101,6 +101,20 @@ fn put_blanks(part: &mut [u8])
     }
 }
 
+// Where the first printed byte of a line is; its end, if it has none.
+fn first_text(line: &[u8]) -> usize
+    ensures { λ r. ⌜ TextLeft (now (line .entry)) (textOf (now (line .entry))) r ⌝ }
+{
+    let mut i = 0;
+    while i < line.len() {
+        if is_text(line[i]) {
+            return i;
+        }
+        i = i + 1;
+    }
+    i
+}
+
 // The printed bytes of a line, from index `at` on, at the front of the part, until it is full. The answer: where to go on.
 fn put_text(line: &[u8], at: usize, part: &mut [u8]) -> usize
     requires { ⌜ at ≤ length (now line) ⌝ }
@@ -139,17 +153,14 @@ fn put_line(line: &[u8], number: usize, page: &mut [u8]) -> usize
     requires { ⌜ length (textRows (numbered number) (textOf (now line))) ≤ length (now page) ⌝ }
     ensures { λ r. ⌜ (r ≡ length (textRows (numbered number) (textOf (now (line .entry))))) × (now (page .exit) ≡ over (textRows (numbered number) (textOf (now (line .entry)))) (now (page .entry))) ⌝ }
 {
-    let count = rows_of(line);
-    let mut at = 0;
+    let mut at = first_text(line);
     let mut n = number;
     let mut to = 0;
-    let mut k = 0;
-    while k < count {
+    while at < line.len() {
         let end = to + PAGE_ROW;
         at = put_row(line, at, n, &mut page[to..end]);
         n = 0;
         to = end;
-        k = k + 1;
     }
     to
 }

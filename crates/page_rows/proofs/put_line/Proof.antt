@@ -1,22 +1,22 @@
-use Prim.Native.Nat.{_-_}
 use native.Mathlib.Omega.{arith}
 use borrow.Author.Needs.{needs}
-use lib.ListN.{length-take, length-drop}
-use Rattle.page_rows.proofs.PageLaws.{LineSoFar, line-start, row-fits, line-row, line-end}
+use lib.ListN.{length, drop, length-take, length-drop}
+use Rattle.aut68.specs.Pages.{textOf}
+use Rattle.page_rows.proofs.PageLaws.{LineSoFar, line-start, row-fits, line-row, less-left, line-end}
 use Rattle.page_rows.proofs.put_line.Statement.{statement}
 use Rattle.page_rows.proofs.put_line.Tie as tie
 
 abbrev Inv-loop : tie.InvT-loop
-Inv-loop line number page₀ count at₀ n₀ to₀ k₀ page at n to k = LineSoFar line number page₀ count at n to k page
+Inv-loop line number page₀ at₀ n₀ to₀ page at n to = LineSoFar line number page₀ at n to page
 
 abbrev μ-loop : tie.MeasureT-loop
-μ-loop line number page₀ count at₀ n₀ to₀ k₀ page at n to k = count - k
+μ-loop line number page₀ at₀ n₀ to₀ page at n to = length (textOf (drop at line))
 
-rows-of-requires : tie.Need-rows-of-requires Inv-loop μ-loop
-rows-of-requires c κs = search needs
+first-text-requires : tie.Need-first-text-requires Inv-loop μ-loop
+first-text-requires c κs = search needs
 
 loop-holds : tie.Need-loop-holds Inv-loop μ-loop
-loop-holds c = line-start (c .rows-of .ensures .0)
+loop-holds c = line-start (c .first-text .ensures)
 
 add-end : tie.Need-add-end Inv-loop μ-loop
 add-end c = omega (arith, row-fits (c .before .loop .inv) (omega arith) (c .before .before .before .before .before .pre))
@@ -33,13 +33,10 @@ part-put-row-end c = row-fits (c .before .loop .inv) (omega arith) (c .before .b
 put-row-requires : tie.Need-put-row-requires Inv-loop μ-loop
 put-row-requires c κs =
     let h = c .before .before .loop .inv in
-    (h .within, simp (length-take, length-drop) (omega (arith, row-fits h (omega arith) (c .before .before .before .before .before .before .pre))))
-
-add-k : tie.Need-add-k Inv-loop μ-loop
-add-k c = omega (arith, c .before .before .before .before .before .before .rows-of .ensures .1)
+    (h .begins .within, simp (length-take, length-drop) (omega (arith, row-fits h (omega arith) (c .before .before .before .before .before .before .pre))))
 
 loop-less : tie.Need-loop-less Inv-loop μ-loop
-loop-less c = omega arith
+loop-less c = less-left (c .before .before .before .before .before .loop .inv) (omega arith) (c .before .before .put-row .ensures)
 
 loop-again : tie.Need-loop-again Inv-loop μ-loop
 loop-again c =
@@ -55,5 +52,5 @@ returns c = line-end (c .before .loop .inv) (omega arith)
 pub put-line-spec : {M : Type 1} → statement M
 put-line-spec =
     tie.close
-    (tie.spec Inv-loop μ-loop rows-of-requires loop-holds add-end sub-put-row part-put-row-start part-put-row-end put-row-requires add-k
+    (tie.spec Inv-loop μ-loop first-text-requires loop-holds add-end sub-put-row part-put-row-start part-put-row-end put-row-requires
     loop-less loop-again same-length returns)

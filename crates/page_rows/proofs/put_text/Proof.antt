@@ -27,7 +27,9 @@ same-length : tie.Need-same-length Inv-loop μ-loop
 same-length c = c .before .before .before .before .before .loop .inv .sofar .long
 
 returns : tie.Need-returns Inv-loop μ-loop
-returns c = text-full (c .before .before .before .before .before .loop .inv) (c .if2 .taken)
+returns c =
+    let byte = c .before .before in
+    text-full (byte .before .before .before .loop .inv) (omega arith) (sym (byte .is-text .ensures) ∙ c .before .if1 .taken) (c .if2 .taken)
 
 slice-write-part : tie.Need-slice-write-part Inv-loop μ-loop
 slice-write-part c = omega arith
@@ -46,7 +48,7 @@ loop-again c =
     let I = c .before .before .before .before .loop .inv in
     let t = c .before .is-text .ensures in
     ⊎-elim
-    (λ w. rw (w .2, w .3) (text-byte I (omega arith) (omega arith) (sym t ∙ w .0 .taken)))
+    (λ w. rw (w .2, w .3) (text-byte I (omega arith) (sym t ∙ w .0 .taken) (omega arith)))
     (λ w. rw (w .1, w .2) (other-byte I (omega arith) (sym t ∙ w .0 .left)))
     (c .if1 .came)
 
