@@ -2,7 +2,7 @@
 use mathlib.Core.Path.{_≡_}
 use mathlib.Core.Logic.{_⊎_, _≢_}
 use Prim.Native.Nat.{ℕ, _*_, _%_, _≤_}
-use mathlib.Core.List.{List, []}
+use mathlib.Core.List.{[]}
 use lib.ListN.{take, getD}
 use Rattle.aut68.specs.Language.{Language}
 use Rattle.aut68.specs.Sizes.{rowWidth}

@@ -1,6 +1,7 @@
 // AUT-68 books: the public library. `check_book` checks a book; aut68's Demands has what it promises (`Checks`), crate `outcomes`
 // the code, line and steps of each outcome. `rests_on` (crate `resting`) tells what a line rests on, `print_pages` (crate `printing`)
-// prints a book; aut68's Resting and Printing have what they promise (`TellsRests`, `PrintsPages`). `identifier` fetches a recorded line's identifier as the part of the book.
+// prints a book; aut68's Resting and Printing have what they promise (`TellsRests`, `PrintsPages`). `identifier` fetches a recorded
+// line's identifier as the part of the book.
 mod book;
 
 pub use book::check_book;
