@@ -204,6 +204,6 @@ numbers-recorded = computed .6
 -- the pages of books, byte for byte, and what is read back from them
 pub pages-printed : allPrint printedPages ≡ true
 unfolding allPrint printsAs printed printedPages sameNumbers sample bytesOf
-    Bytes.nameByte Bytes.onto Bytes.lines Bytes.joined
+    Bytes.onto Bytes.lines Bytes.joined
     Pages.without Pages.textOf Pages.digit Pages.numbered Pages.blank Pages.row Pages.rows Pages.rowCount Pages.textRows Pages.pagesFrom Pages.pages Pages.textIn Pages.atNumber Pages.ahead Pages.linesIn Pages.readBack
 pages-printed = refl

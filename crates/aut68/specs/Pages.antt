@@ -1,11 +1,11 @@
 -- Printed pages, "on paper 72 columns wide": how a book is laid out in rows, and how its lines are read back from them.
 use Prim.Native.Nat.{ℕ, zero, suc, _+_, _-_, _/_, _%_}
-use mathlib.Core.Bool.{Bool, true, false, _&&_, _||_, not}
+use mathlib.Core.Bool.{Bool, true, false, not}
 use mathlib.Core.List.{List, [], _∷_, _++_, map}
 use lib.Dec.{eqb, leb}
 use lib.ListN.{length, take, drop, replicate, getD}
 use Rattle.aut68.specs.Sizes.{numberColumns, textColumns}
-use Rattle.aut68.specs.Bytes.{Bytes, nameByte, onto, lines}
+use Rattle.aut68.specs.Bytes.{Bytes, lines}
 
 -- the bytes but c
 unfoldable pub without : ℕ → Bytes → Bytes
@@ -80,19 +80,3 @@ readBack page = linesIn (lines page)
 -- the same without byte 32
 abbrev pub withoutSpaces : List Bytes → List Bytes
 withoutSpaces = map (without 32)
-
--- ---- symbols
-
--- Two bytes next to each other are of one symbol: of a name or a word, or `:=`.
-unfoldable pub together : ℕ → Bytes → Bool
-together b [] = false
-together b (c ∷ cs) = (nameByte b && nameByte c) || (eqb b 58 && eqb c 61)
-
--- the symbols in a line; byte 32 parts them and is none
-unfoldable pub symbolsIn : Bytes → List Bytes
-symbolsIn [] = []
-symbolsIn (b ∷ bs) =
-    elim (eqb b 32) [
-      | true ↦ symbolsIn bs
-      | false ↦ elim (together b bs) [ true ↦ onto b (symbolsIn bs) | false ↦ (b ∷ []) ∷ symbolsIn bs ]
-    ]

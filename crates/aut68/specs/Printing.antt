@@ -9,7 +9,8 @@ use Rattle.aut68.specs.Sizes.{rowWidth}
 use Rattle.aut68.specs.Stores.{Stores, limitsOf}
 use Rattle.aut68.specs.Bytes.{Bytes, lines, joined}
 use Rattle.aut68.specs.Source.{SourceLine}
-use Rattle.aut68.specs.Pages.{without, symbolsIn, withoutSpaces, pages, readBack}
+use Rattle.aut68.specs.Pages.{without, withoutSpaces, pages, readBack}
+use Rattle.aut68.specs.Symbols.{symbolsIn}
 use Rattle.aut68.specs.Procedure.Calls.{storeTooSmall}
 use Rattle.aut68.specs.Procedure.Run.{Ending, run, codeAt, lineAt, stepsAt, recordedAt, tableEnd, termsEnd, workEnd, indexEnd}
 use Rattle.aut68.specs.Rules.Grammar.{WellFormed}

@@ -16,7 +16,8 @@ use Rattle.aut68.specs.Procedure.Parse.{starts, wordOf}
 use Rattle.aut68.specs.Rules.Grammar.{Spaces, noSpace, space, Symbol, NameBytes, noByte, oneMore, IsName, Expression, lone, call, Arguments, last, another}
 use Rattle.aut68.specs.Rules.Grammar.{IndicatorForm, MiddleForm, isEB, isPN, isMeaning, Place, WellFormed, line}
 use Rattle.aut68.specs.Rules.Grammar as G
-use Rattle.aut68.specs.Pages.{without, together, symbolsIn}
+use Rattle.aut68.specs.Pages.{without}
+use Rattle.aut68.specs.Symbols.{together, symbolsIn}
 use Rattle.aut68.specs.Printing.{NeverJoined}
 use Rattle.reading.specs.Symbols.{run-name}
 use Rattle.reading.specs.Complete.{Mark, mark-60, mark-62, mark-91, mark-93, mark-44, mark-40, mark-41, mark-42, mark-58, mark-10, not-space}
