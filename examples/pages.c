@@ -4,19 +4,12 @@
        cc -std=c11 -Wall -Wextra -I include examples/pages.c target/staticlib/libc_api.a -o pages_c
        ./pages_c examples/landau.aut
 */
-#include "aut68.h"
-
-#include <stdio.h>
-
-enum { BUDGET = 100000, LIMIT = 256, LINES = 8191, BYTES = 1 << 24, TERMS = 1 << 20, INDEX = 1 << 20 };
-enum { TABLE = AUT68_ROW_WIDTH * LINES, WORK = AUT68_WORK_UNITS * LIMIT };
+#include "book.h"
 
 /* Room for the pages of every book of so many lines and bytes. */
 enum { PAGE = AUT68_PAGE_ROW * (LINES + BYTES / AUT68_TEXT_COLUMNS) };
 
-static uint8_t book[BYTES], page[PAGE];
-static uint32_t table[TABLE], entries[INDEX];
-static Aut68Cell terms[TERMS], work[WORK];
+static uint8_t page[PAGE];
 
 int main(int argc, char **argv)
 {
@@ -24,13 +17,9 @@ int main(int argc, char **argv)
         fputs("usage: pages BOOK\n", stderr);
         return 2;
     }
-    FILE *file = fopen(argv[1], "rb");
-    size_t length = file == NULL ? 0 : fread(book, 1, BYTES, file);
-    if (file == NULL || ferror(file)) {
-        perror(argv[1]);
+    size_t length;
+    if (!read_book(argv[1], &length))
         return 2;
-    }
-    fclose(file);
 
     Aut68Answer a = aut68_pages(book, length, BUDGET, LIMIT, table, TABLE, terms, TERMS, work, WORK, entries, INDEX,
                                 page, PAGE);

@@ -4,17 +4,11 @@
        cc -std=c11 -Wall -Wextra -I include examples/rests_on.c target/staticlib/libc_api.a -o rests_on
        ./rests_on examples/landau.aut satz2
 */
-#include "aut68.h"
+#include "book.h"
 
-#include <stdio.h>
 #include <string.h>
 
-enum { BUDGET = 100000, LIMIT = 256, LINES = 8191, BYTES = 1 << 24, TERMS = 1 << 20, INDEX = 1 << 20 };
-enum { TABLE = AUT68_ROW_WIDTH * LINES, WORK = AUT68_WORK_UNITS * LIMIT };
-
-static uint8_t book[BYTES];
-static uint32_t table[TABLE], entries[INDEX], answer[LINES];
-static Aut68Cell terms[TERMS], work[WORK];
+static uint32_t answer[LINES];
 
 int main(int argc, char **argv)
 {
@@ -22,13 +16,9 @@ int main(int argc, char **argv)
         fputs("usage: rests_on BOOK IDENTIFIER\n", stderr);
         return 2;
     }
-    FILE *file = fopen(argv[1], "rb");
-    size_t length = file == NULL ? 0 : fread(book, 1, BYTES, file);
-    if (file == NULL || ferror(file)) {
-        perror(argv[1]);
+    size_t length;
+    if (!read_book(argv[1], &length))
         return 2;
-    }
-    fclose(file);
 
     Aut68Outcome o = aut68_check(book, length, BUDGET, LIMIT, table, TABLE, terms, TERMS, work, WORK, entries, INDEX);
     if (o.code != AUT68_ACCEPTED) {
