@@ -1,7 +1,7 @@
 // The kind of each of the 256 byte values.
-mod table;
+mod ranges;
 
-pub use table::kinds_of_bytes;
+pub use ranges::kinds_of_bytes;
 ghost use mathlib.Core.Path.{_≡_};
 ghost use Rattle.kinds.specs.Kinds.{KindsTable, kindOf};
 
