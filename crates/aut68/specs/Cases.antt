@@ -6,7 +6,7 @@ use mathlib.Core.Bool.{Bool, true, false, _&&_}
 use mathlib.Core.List.{List, [], _∷_}
 use lib.Dec.{eqb}
 use Rattle.aut68.specs.Language.{Language}
-use Rattle.aut68.specs.Stores.{Limits}
+use Rattle.aut68.specs.Stores.{Limits, lending}
 use Rattle.aut68.specs.Lines.{tableOf, termsOf}
 use Rattle.aut68.specs.Index.{indexOf}
 use Rattle.aut68.specs.Procedure.Run.{Ending, codeAt, lineAt, stepsAt, recordedAt, run}
@@ -73,7 +73,7 @@ under language m book code line steps = record { language = language; book = boo
 
 -- under the listing program's stores, and under its budget and limit too
 unfoldable pub within : Language → ℕ → ℕ → List ℕ → ℕ → ℕ → ℕ → Case
-within language N L = under language (record { budget = N; limit = L; table = 16384; terms = 32768; work = 32768; index = 16384 })
+within language N L = under language (lending N L 16384 16384 16384 16384)
 
 unfoldable pub usual : Language → List ℕ → ℕ → ℕ → ℕ → Case
-usual language = within language 100000 256
+usual language = within language 100000 128

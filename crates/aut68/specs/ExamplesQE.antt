@@ -98,7 +98,7 @@ examplesQE =
     ∷  -- .. too large
     within autQE 100000 16 (naturals ++ bytesOf "*R:=PN:[x,nat][x,nat][x,nat][x,nat][x,nat][x,nat][x,nat]type\n*u:=[y,nat]R:type\n") 10 7 0
     ∷  -- 11: the head step before the search
-    within autQE 0 256 (families ++ bytesOf "*u:=<one>h:<one>f\n") 11 10 0
+    within autQE 0 128 (families ++ bytesOf "*u:=<one>h:<one>f\n") 11 10 0
     ∷  -- the sample of document 01
     usual autQE (naturals ++ bytesOf "*F:=[x,nat]nat:type\n*plus2:=[x,nat]suc(suc(x)):F\n*four:=<two>plus2:nat\n") 0 8 2
     ∷ []

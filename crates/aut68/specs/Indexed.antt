@@ -3,6 +3,7 @@
 use Prim.Native.Nat.{ℕ}
 use mathlib.Core.List.{List, [], _∷_, _++_}
 use Rattle.aut68.specs.Language.{aut68}
+use Rattle.aut68.specs.Stores.{lending}
 use Rattle.aut68.specs.Cases.{Case, Kept, indexed, bytesOf, sample, under, usual}
 
 -- the sample's rows, cells and index
@@ -17,7 +18,7 @@ sampleIndex = 0 ∷ 1 ∷ 1 ∷ 1 ∷ 1 ∷ 2 ∷ 1 ∷ 3 ∷ 3 ∷ 1 ∷ 2 ∷ 
 
 -- under the listing program's stores, with an index of so many cells
 unfoldable pub withIndex : ℕ → List ℕ → ℕ → ℕ → ℕ → Case
-withIndex n = under aut68 (record { budget = 100000; limit = 256; table = 16384; terms = 32768; work = 32768; index = n })
+withIndex n = under aut68 (lending 100000 128 16384 16384 16384 n)
 
 unfoldable pub indexCells : List Kept
 indexCells =

@@ -2,6 +2,7 @@
 use Prim.Native.Nat.{ℕ}
 use mathlib.Core.List.{List, [], _∷_, _++_}
 use Rattle.aut68.specs.Language.{aut68}
+use Rattle.aut68.specs.Stores.{lending}
 use Rattle.aut68.specs.Cases.{Kept, kept, bytesOf, under, usual}
 
 -- five lines that most of the books begin with, their rows and cells
@@ -65,22 +66,22 @@ omittedArguments =
     kept (usual aut68 (sums ++ bytesOf "n*is:=PN:type\nn*p:=PN:is\nm*q:=p:is(n)\n") 0 8 0)
     (sumRows ++ 67 ∷ 2 ∷ 2 ∷ 1 ∷ 1 ∷ 5 ∷ 5 ∷ 6 ∷ 81 ∷ 1 ∷ 2 ∷ 1 ∷ 1 ∷ 6 ∷ 6 ∷ 8 ∷ 92 ∷ 1 ∷ 4 ∷ 2 ∷ 2 ∷ 8 ∷ 10 ∷ 12 ∷ []) (sumCells ++ 0 ∷ 51 ∷ 17 ∷ 59 ∷ 17 ∷ 51 ∷ 17 ∷ [])
     ∷  -- the case for 10: 17 cells, L = 16
-    kept (under aut68 (record { budget = 100000; limit = 16; table = 16384; terms = 32768; work = 2048; index = 16384 }) (bytesOf "*a:=PN:type\n*u:=[x,a][x,a][x,a][x,a][x,a][x,a][x,a][x,a]a:type\n") 10 2 0)
+    kept (under aut68 (lending 100000 16 16384 16384 2048 16384) (bytesOf "*a:=PN:type\n*u:=[x,a][x,a][x,a][x,a][x,a][x,a][x,a][x,a]a:type\n") 10 2 0)
     (1 ∷ 1 ∷ 0 ∷ 0 ∷ 1 ∷ 0 ∷ 0 ∷ 1 ∷ []) (0 ∷ [])
     ∷  -- 15 cells pass
-    kept (under aut68 (record { budget = 100000; limit = 16; table = 16384; terms = 32768; work = 2048; index = 16384 }) (bytesOf "*a:=PN:type\n*u:=[x,a][x,a][x,a][x,a][x,a][x,a][x,a]a:type\n") 0 2 0)
+    kept (under aut68 (lending 100000 16 16384 16384 2048 16384) (bytesOf "*a:=PN:type\n*u:=[x,a][x,a][x,a][x,a][x,a][x,a][x,a]a:type\n") 0 2 0)
     (1 ∷ 1 ∷ 0 ∷ 0 ∷ 1 ∷ 0 ∷ 0 ∷ 1 ∷ 13 ∷ 1 ∷ 0 ∷ 0 ∷ 2 ∷ 1 ∷ 16 ∷ 17 ∷ []) (0 ∷ 5 ∷ 11 ∷ 5 ∷ 11 ∷ 5 ∷ 11 ∷ 5 ∷ 11 ∷ 5 ∷ 11 ∷ 5 ∷ 11 ∷ 5 ∷ 11 ∷ 11 ∷ 0 ∷ [])
     ∷  -- one symbol as written, 17 cells completed: 10
-    kept (under aut68 (record { budget = 100000; limit = 16; table = 16384; terms = 32768; work = 2048; index = 16384 }) (bytesOf "*x1:=EB:type\nx1*x2:=EB:type\nx2*x3:=EB:type\nx3*x4:=EB:type\nx4*x5:=EB:type\nx5*x6:=EB:type\nx6*x7:=EB:type\nx7*x8:=EB:type\nx8*x9:=EB:type\nx9*x10:=EB:type\nx10*x11:=EB:type\nx11*x12:=EB:type\nx12*x13:=EB:type\nx13*x14:=EB:type\nx14*x15:=EB:type\nx15*x16:=EB:type\nx16*c:=PN:type\nx16*u:=c:type\n") 10 18 0)
+    kept (under aut68 (lending 100000 16 16384 16384 2048 16384) (bytesOf "*x1:=EB:type\nx1*x2:=EB:type\nx2*x3:=EB:type\nx3*x4:=EB:type\nx4*x5:=EB:type\nx5*x6:=EB:type\nx6*x7:=EB:type\nx7*x8:=EB:type\nx8*x9:=EB:type\nx9*x10:=EB:type\nx10*x11:=EB:type\nx11*x12:=EB:type\nx12*x13:=EB:type\nx13*x14:=EB:type\nx14*x15:=EB:type\nx15*x16:=EB:type\nx16*c:=PN:type\nx16*u:=c:type\n") 10 18 0)
     (1 ∷ 2 ∷ 0 ∷ 0 ∷ 0 ∷ 0 ∷ 0 ∷ 1 ∷ 16 ∷ 2 ∷ 1 ∷ 1 ∷ 0 ∷ 1 ∷ 1 ∷ 2 ∷ 31 ∷ 2 ∷ 2 ∷ 2 ∷ 0 ∷ 2 ∷ 2 ∷ 3 ∷ 46 ∷ 2 ∷ 3 ∷ 3 ∷ 0 ∷ 3 ∷ 3 ∷ 4 ∷ 61 ∷ 2 ∷ 4 ∷ 4 ∷ 0 ∷ 4 ∷ 4 ∷ 5 ∷ 76 ∷ 2 ∷ 5 ∷ 5 ∷ 0 ∷ 5 ∷ 5 ∷ 6 ∷ 91 ∷ 2 ∷ 6 ∷ 6 ∷ 0 ∷ 6 ∷ 6 ∷ 7 ∷ 106 ∷ 2 ∷ 7 ∷ 7 ∷ 0 ∷ 7 ∷ 7 ∷ 8 ∷ 121 ∷ 2 ∷ 8 ∷ 8 ∷ 0 ∷ 8 ∷ 8 ∷ 9 ∷ 136 ∷ 3 ∷ 9 ∷ 9 ∷ 0 ∷ 9 ∷ 9 ∷ 10 ∷ 153 ∷ 3 ∷ 10 ∷ 10 ∷ 0 ∷ 10 ∷ 10 ∷ 11 ∷ 170 ∷ 3 ∷ 11 ∷ 11 ∷ 0 ∷ 11 ∷ 11 ∷ 12 ∷ 187 ∷ 3 ∷ 12 ∷ 12 ∷ 0 ∷ 12 ∷ 12 ∷ 13 ∷ 204 ∷ 3 ∷ 13 ∷ 13 ∷ 0 ∷ 13 ∷ 13 ∷ 14 ∷ 221 ∷ 3 ∷ 14 ∷ 14 ∷ 0 ∷ 14 ∷ 14 ∷ 15 ∷ 238 ∷ 3 ∷ 15 ∷ 15 ∷ 0 ∷ 15 ∷ 15 ∷ 16 ∷ 255 ∷ 1 ∷ 16 ∷ 16 ∷ 1 ∷ 16 ∷ 16 ∷ 17 ∷ []) (0 ∷ 0 ∷ 0 ∷ 0 ∷ 0 ∷ 0 ∷ 0 ∷ 0 ∷ 0 ∷ 0 ∷ 0 ∷ 0 ∷ 0 ∷ 0 ∷ 0 ∷ 0 ∷ 0 ∷ [])
     ∷  -- 16 cells completed: passes
-    kept (under aut68 (record { budget = 100000; limit = 16; table = 16384; terms = 32768; work = 2048; index = 16384 }) (bytesOf "*x1:=EB:type\nx1*x2:=EB:type\nx2*x3:=EB:type\nx3*x4:=EB:type\nx4*x5:=EB:type\nx5*x6:=EB:type\nx6*x7:=EB:type\nx7*x8:=EB:type\nx8*x9:=EB:type\nx9*x10:=EB:type\nx10*x11:=EB:type\nx11*x12:=EB:type\nx12*x13:=EB:type\nx13*x14:=EB:type\nx14*x15:=EB:type\nx15*c:=PN:type\nx15*u:=c:type\n") 0 17 0)
+    kept (under aut68 (lending 100000 16 16384 16384 2048 16384) (bytesOf "*x1:=EB:type\nx1*x2:=EB:type\nx2*x3:=EB:type\nx3*x4:=EB:type\nx4*x5:=EB:type\nx5*x6:=EB:type\nx6*x7:=EB:type\nx7*x8:=EB:type\nx8*x9:=EB:type\nx9*x10:=EB:type\nx10*x11:=EB:type\nx11*x12:=EB:type\nx12*x13:=EB:type\nx13*x14:=EB:type\nx14*x15:=EB:type\nx15*c:=PN:type\nx15*u:=c:type\n") 0 17 0)
     (1 ∷ 2 ∷ 0 ∷ 0 ∷ 0 ∷ 0 ∷ 0 ∷ 1 ∷ 16 ∷ 2 ∷ 1 ∷ 1 ∷ 0 ∷ 1 ∷ 1 ∷ 2 ∷ 31 ∷ 2 ∷ 2 ∷ 2 ∷ 0 ∷ 2 ∷ 2 ∷ 3 ∷ 46 ∷ 2 ∷ 3 ∷ 3 ∷ 0 ∷ 3 ∷ 3 ∷ 4 ∷ 61 ∷ 2 ∷ 4 ∷ 4 ∷ 0 ∷ 4 ∷ 4 ∷ 5 ∷ 76 ∷ 2 ∷ 5 ∷ 5 ∷ 0 ∷ 5 ∷ 5 ∷ 6 ∷ 91 ∷ 2 ∷ 6 ∷ 6 ∷ 0 ∷ 6 ∷ 6 ∷ 7 ∷ 106 ∷ 2 ∷ 7 ∷ 7 ∷ 0 ∷ 7 ∷ 7 ∷ 8 ∷ 121 ∷ 2 ∷ 8 ∷ 8 ∷ 0 ∷ 8 ∷ 8 ∷ 9 ∷ 136 ∷ 3 ∷ 9 ∷ 9 ∷ 0 ∷ 9 ∷ 9 ∷ 10 ∷ 153 ∷ 3 ∷ 10 ∷ 10 ∷ 0 ∷ 10 ∷ 10 ∷ 11 ∷ 170 ∷ 3 ∷ 11 ∷ 11 ∷ 0 ∷ 11 ∷ 11 ∷ 12 ∷ 187 ∷ 3 ∷ 12 ∷ 12 ∷ 0 ∷ 12 ∷ 12 ∷ 13 ∷ 204 ∷ 3 ∷ 13 ∷ 13 ∷ 0 ∷ 13 ∷ 13 ∷ 14 ∷ 221 ∷ 3 ∷ 14 ∷ 14 ∷ 0 ∷ 14 ∷ 14 ∷ 15 ∷ 238 ∷ 1 ∷ 15 ∷ 15 ∷ 1 ∷ 15 ∷ 15 ∷ 16 ∷ 253 ∷ 1 ∷ 15 ∷ 15 ∷ 2 ∷ 16 ∷ 32 ∷ 33 ∷ []) (0 ∷ 0 ∷ 0 ∷ 0 ∷ 0 ∷ 0 ∷ 0 ∷ 0 ∷ 0 ∷ 0 ∷ 0 ∷ 0 ∷ 0 ∷ 0 ∷ 0 ∷ 0 ∷ 131 ∷ 9 ∷ 17 ∷ 25 ∷ 33 ∷ 41 ∷ 49 ∷ 57 ∷ 65 ∷ 73 ∷ 81 ∷ 89 ∷ 97 ∷ 105 ∷ 113 ∷ 121 ∷ 0 ∷ [])
     ∷  -- names come before the size now: document 01's old case for 10 is 5
-    kept (under aut68 (record { budget = 100000; limit = 16; table = 16384; terms = 32768; work = 2048; index = 16384 }) (bytesOf "*u:=a(b,b,b,b,b,b,b,b,b,b,b,b,b,b,b,b):type\n") 5 1 0)
+    kept (under aut68 (lending 100000 16 16384 16384 2048 16384) (bytesOf "*u:=a(b,b,b,b,b,b,b,b,b,b,b,b,b,b,b,b):type\n") 5 1 0)
     [] []
     ∷  -- counts come before the size: a middle of 17 cells, then a wrong count in the category
-    kept (under aut68 (record { budget = 100000; limit = 16; table = 16384; terms = 32768; work = 2048; index = 16384 }) (bytesOf "*a:=PN:type\n*x:=EB:a\nx*f:=PN:type\n*u:=[x,a][x,a][x,a][x,a][x,a][x,a][x,a][x,a]a:f\n") 6 4 0)
+    kept (under aut68 (lending 100000 16 16384 16384 2048 16384) (bytesOf "*a:=PN:type\n*x:=EB:a\nx*f:=PN:type\n*u:=[x,a][x,a][x,a][x,a][x,a][x,a][x,a][x,a]a:f\n") 6 4 0)
     (1 ∷ 1 ∷ 0 ∷ 0 ∷ 1 ∷ 0 ∷ 0 ∷ 1 ∷ 13 ∷ 1 ∷ 0 ∷ 0 ∷ 0 ∷ 1 ∷ 1 ∷ 2 ∷ 23 ∷ 1 ∷ 2 ∷ 1 ∷ 1 ∷ 2 ∷ 2 ∷ 3 ∷ []) (0 ∷ 11 ∷ 0 ∷ [])
     ∷  -- 31 names one in the other, the innermost completed to nesting 32: passes
     kept (usual aut68 (bytesOf "*x:=EB:type\nx*f:=PN:type\nx*g:=f(f(f(f(f(f(f(f(f(f(f(f(f(f(f(f(f(f(f(f(f(f(f(f(f(f(f(f(f(f(f)))))))))))))))))))))))))))))):type\n") 0 3 0)
@@ -95,10 +96,10 @@ omittedArguments =
     kept (usual aut68 (bytesOf "*x:=EB:type\nx*f:=PN:type\nx*g:=f(f(f(f(f(f(f(f(f(f(f(f(f(f(f(f(f(f(f(f(f(f(f(f(f(f(f(f(f(f(f(f(y)))))))))))))))))))))))))))))))):type\n") 10 3 0)
     (1 ∷ 1 ∷ 0 ∷ 0 ∷ 0 ∷ 0 ∷ 0 ∷ 1 ∷ 14 ∷ 1 ∷ 1 ∷ 1 ∷ 1 ∷ 1 ∷ 1 ∷ 2 ∷ []) (0 ∷ 0 ∷ [])
     ∷  -- the shelf holds the completed form, and so its room is counted: 4 cells are too few for line 3
-    kept (under aut68 (record { budget = 100000; limit = 256; table = 16384; terms = 4; work = 32768; index = 16384 }) (bytesOf "*x:=EB:type\nx*f:=PN:type\nx*g:=f:type\n") 12 3 0)
+    kept (under aut68 (lending 100000 128 16384 4 16384 16384) (bytesOf "*x:=EB:type\nx*f:=PN:type\nx*g:=f:type\n") 12 3 0)
     (1 ∷ 1 ∷ 0 ∷ 0 ∷ 0 ∷ 0 ∷ 0 ∷ 1 ∷ 14 ∷ 1 ∷ 1 ∷ 1 ∷ 1 ∷ 1 ∷ 1 ∷ 2 ∷ []) (0 ∷ 0 ∷ [])
     ∷  -- 5 cells are enough
-    kept (under aut68 (record { budget = 100000; limit = 256; table = 16384; terms = 5; work = 32768; index = 16384 }) (bytesOf "*x:=EB:type\nx*f:=PN:type\nx*g:=f:type\n") 0 3 0)
+    kept (under aut68 (lending 100000 128 16384 5 16384 16384) (bytesOf "*x:=EB:type\nx*f:=PN:type\nx*g:=f:type\n") 0 3 0)
     (1 ∷ 1 ∷ 0 ∷ 0 ∷ 0 ∷ 0 ∷ 0 ∷ 1 ∷ 14 ∷ 1 ∷ 1 ∷ 1 ∷ 1 ∷ 1 ∷ 1 ∷ 2 ∷ 27 ∷ 1 ∷ 1 ∷ 1 ∷ 2 ∷ 2 ∷ 4 ∷ 5 ∷ []) (0 ∷ 0 ∷ 19 ∷ 9 ∷ 0 ∷ [])
     ∷  -- a line ahead of the constant it names: 5, not 6
     kept (usual aut68 (bytesOf "*nat:=PN:type\n*n:=EB:nat\nn*t:=suc(suc):nat\nn*suc:=PN:nat\n") 5 3 0)

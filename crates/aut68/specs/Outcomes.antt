@@ -6,6 +6,7 @@ use Prim.Native.Nat.{ℕ, zero, suc}
 use mathlib.Core.Bool.{true}
 use mathlib.Core.List.{List, [], _∷_, _++_}
 use Rattle.aut68.specs.Language.{aut68}
+use Rattle.aut68.specs.Stores.{lending, beforeLine}
 use Rattle.aut68.specs.Rules.Grammar
 use Rattle.aut68.specs.Procedure.Answer
 use Rattle.aut68.specs.Bytes
@@ -29,13 +30,13 @@ use Rattle.aut68.specs.ClosedBlocks.{blocks, closedBlocks}
 use Rattle.aut68.specs.Printed.{printed, printsAs, allPrint, printedPages}
 use Rattle.aut68.specs.ExamplesQE.{naturals, families, examplesQE}
 
--- ---- the twelve rows of the table; the row of code 2 has two calls
+-- ---- the twelve rows of the table; the row of code 2 has two calls, that of code 12 one for the table and two for the line limit
 
 unfoldable pub tableRows : List Case
 tableRows =
-    under aut68 (record { budget = 100000; limit = 16; table = 16384; terms = 32768; work = 2047; index = 16384 }) sample 1 0 0
+    under aut68 (lending 100000 16 16384 16384 2047 16384) sample 1 0 0
     ∷ within aut68 100000 15 sample 2 0 0
-    ∷ under aut68 (record { budget = 100000; limit = 4097; table = 16384; terms = 32768; work = 1000000; index = 16384 }) sample 2 0 0
+    ∷ under aut68 (lending 100000 4097 16384 16384 1000000 16384) sample 2 0 0
     ∷ usual aut68 (bytesOf "*a:=:type\n") 3 1 0
     ∷ usual aut68 (bytesOf "*nat:=PN:type\n*nat:=PN:type\n") 4 2 0
     ∷ usual aut68 (bytesOf "*a:=b:type\n") 5 1 0
@@ -44,8 +45,10 @@ tableRows =
     ∷ usual aut68 (sample ++ bytesOf "*u:=PN:one\n") 8 9 2
     ∷ usual aut68 (sample ++ bytesOf "*u:=one:F\n") 9 9 3
     ∷ within aut68 100000 16 (bytesOf "*a:=PN:type\n*u:=[x,a][x,a][x,a][x,a][x,a][x,a][x,a][x,a]a:type\n") 10 2 0
-    ∷ within aut68 1 256 sample 11 8 1
-    ∷ under aut68 (record { budget = 100000; limit = 256; table = 56; terms = 32768; work = 32768; index = 16384 }) sample 12 8 1
+    ∷ within aut68 1 128 sample 11 8 1
+    ∷ under aut68 (lending 100000 128 56 16384 16384 16384) sample 12 8 1
+    ∷ under aut68 (beforeLine 8 (lending 100000 128 16384 16384 16384 16384)) sample 12 8 1
+    ∷ under aut68 (beforeLine 9 (lending 100000 128 16384 16384 16384 16384)) sample 0 8 2
     ∷ []
 
 -- ---- the four outcomes after the sample
@@ -56,8 +59,8 @@ longer = sample ++ bytesOf "n*is:=PN:type\n*p:=PN:is(<two>plus2)\n*q:=p:is(suc(s
 unfoldable pub fourOutcomes : List Case
 fourOutcomes =
     usual aut68 longer 0 11 5
-    ∷ within aut68 4 256 longer 11 11 4
-    ∷ within aut68 2 256 longer 11 10 2
+    ∷ within aut68 4 128 longer 11 11 4
+    ∷ within aut68 2 128 longer 11 10 2
     ∷ usual aut68 (sample ++ bytesOf "n*is:=PN:type\n*p:=PN:is(<two>plus2)\n*q:=p:is(suc(two))\n") 9 11 7
     ∷ []
 
@@ -160,7 +163,7 @@ numberLines =
 
 -- ---- the tables, computed
 
-computed : (allHold (tableRows ++ fourOutcomes) ≡ true) × (allHold (misreadings ++ procedureOrder) ≡ true) × (allHold examplesQE ≡ true) × (allKeep omittedArguments ≡ true) × (allKeep indexCells ≡ true) × (allHold closedBlocks ≡ true) × (Run.recordedAt (Run.run aut68 numbers (record { budget = 0; limit = 16; table = 24; terms = 8; work = 2048; index = 16384 })) .recorded ≡ numberLines)
+computed : (allHold (tableRows ++ fourOutcomes) ≡ true) × (allHold (misreadings ++ procedureOrder) ≡ true) × (allHold examplesQE ≡ true) × (allKeep omittedArguments ≡ true) × (allKeep indexCells ≡ true) × (allHold closedBlocks ≡ true) × (Run.recordedAt (Run.run aut68 numbers (lending 0 16 24 8 2048 16384)) .recorded ≡ numberLines)
 unfolding numbers numberLines allHold endsAs holds sameNumbers recordsAs keepsAs keeps allKeep under within usual sums sumRows sumCells omittedArguments sampleRows sampleCells sampleIndex withIndex indexCells blocks closedBlocks naturals families examplesQE sample longer tableRows fourOutcomes selfNamed swapped renumbered stepsRemain misreadings equality pairs repeated nested deep procedureOrder bytesOf
     Answer.codeOf Answer.andThen Answer.when Answer.ensure Answer.aside
     Bytes.nameByte Bytes.opensExpression Bytes.sameBytes Bytes.wordType Bytes.wordPN Bytes.wordEB Bytes.wordProp Bytes.reserved Bytes.onto Bytes.lines
@@ -198,7 +201,7 @@ index-cells = computed .4
 pub closed-blocks : allHold closedBlocks ≡ true
 closed-blocks = computed .5
 
-pub numbers-recorded : Run.recordedAt (Run.run aut68 numbers (record { budget = 0; limit = 16; table = 24; terms = 8; work = 2048; index = 16384 })) .recorded ≡ numberLines
+pub numbers-recorded : Run.recordedAt (Run.run aut68 numbers (lending 0 16 24 8 2048 16384)) .recorded ≡ numberLines
 numbers-recorded = computed .6
 
 -- the pages of books, byte for byte, and what is read back from them

@@ -6,11 +6,19 @@ abbrev pub cellFactor : ℕ
 cellFactor = 8
 
 abbrev pub cellValues : ℕ
-cellValues = 65536
+cellValues = 4294967296
 
--- The first line number that is refused ("or line 8,192").
+-- a cell of a stored shelf before paper 6
+abbrev pub narrowValues : ℕ
+narrowValues = 65536
+
+-- The first line number that is refused ("line 65,536 is the first to get 12").
 abbrev pub lineLimit : ℕ
-lineLimit = 8192
+lineLimit = 65536
+
+-- the same before paper 6: "a 16-bit cell stops at line 8,191"
+abbrev pub formerLineLimit : ℕ
+formerLineLimit = 8192
 
 -- "L not in 16 to 4,096"
 abbrev pub smallestLimit : ℕ

@@ -1,8 +1,8 @@
 -- The refusal that each reason of the code stands for, and what each cause does.
 use Rattle.aut68.specs.Procedure.Answer.{Refusal, workTooSmall, limitOutOfRange, malformed, duplicate, unknownName, wrongArity, notFunction, notType, mismatch, tooLarge, outOfBudget, outOfSpace, notInContext}
-use Rattle.aut68.specs.Procedure.Calls.{Decline, noSuchLine, answerTooLong, storeTooSmall}
+use Rattle.aut68.specs.Procedure.Calls.{Decline, noSuchLine, answerTooLong, storeTooSmall, cellTooLarge}
 use Rattle.constants.specs.declared.codes.Cause.{Cause}
-use Rattle.constants.specs.declared.codes.Cause.the-variants.{NoSuchLine, AnswerTooLong, StoreTooSmall}
+use Rattle.constants.specs.declared.codes.Cause.the-variants.{NoSuchLine, AnswerTooLong, StoreTooSmall, CellTooLarge}
 use Rattle.constants.specs.declared.codes.Reason.{Reason}
 use Rattle.constants.specs.declared.codes.Reason.the-variants.{WorkTooSmall, LimitOutOfRange, Malformed, Duplicate, UnknownName, WrongArity}
 use Rattle.constants.specs.declared.codes.Reason.the-variants.{NotFunction, NotType, Mismatch, TooLarge, OutOfBudget, OutOfSpace, NotInContext}
@@ -26,3 +26,4 @@ abbrev pub declineOf : Cause → Decline
 declineOf NoSuchLine = noSuchLine
 declineOf AnswerTooLong = answerTooLong
 declineOf StoreTooSmall = storeTooSmall
+declineOf CellTooLarge = cellTooLarge

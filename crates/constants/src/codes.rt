@@ -34,11 +34,14 @@ pub const NOT_IN_CONTEXT: u32 = 14;
 
 pub const STORE_TOO_SMALL: u32 = 15;
 
-// Why a call on a book that was admitted writes no answer.
+pub const CELL_TOO_LARGE: u32 = 16;
+
+// Why a call writes no answer: one on a book that was admitted, or one on a shelf.
 pub enum Cause {
     NoSuchLine,
     AnswerTooLong,
     StoreTooSmall,
+    CellTooLarge,
 }
 
 // The code of a cause.
@@ -49,6 +52,7 @@ pub fn cause_code(cause: Cause) -> u32
         Cause::NoSuchLine => NO_SUCH_LINE,
         Cause::AnswerTooLong => OUT_OF_SPACE,
         Cause::StoreTooSmall => STORE_TOO_SMALL,
+        Cause::CellTooLarge => CELL_TOO_LARGE,
     }
 }
 

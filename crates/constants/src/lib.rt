@@ -2,6 +2,7 @@
 mod codes;
 mod sizes;
 
+pub use codes::CELL_TOO_LARGE;
 pub use codes::Cause;
 pub use codes::DUPLICATE;
 pub use codes::LIMIT_OUT_OF_RANGE;
@@ -38,8 +39,10 @@ pub use sizes::MIDDLE_START;
 pub use sizes::NAME_LENGTH;
 pub use sizes::NAME_LIMIT;
 pub use sizes::NAME_START;
+pub use sizes::NARROW_VALUES;
 pub use sizes::NESTING;
 pub use sizes::NUMBER_COLUMNS;
+pub use sizes::NarrowCell;
 pub use sizes::PAGE_ROW;
 pub use sizes::ROW_WIDTH;
 pub use sizes::SMALLEST_LIMIT;

@@ -1,15 +1,20 @@
 // The published sizes; aut68's Sizes has the same numbers for the contracts.
 
 // A cell of the term store and of the working store, and how many values it has.
-pub type Cell = u16;
+pub type Cell = u32;
 
-pub const CELL_VALUES: usize = 65536;
+pub const CELL_VALUES: usize = 4294967296;
+
+// A cell of a shelf that was stored before cells had 32 bits, and how many values it has.
+pub type NarrowCell = u16;
+
+pub const NARROW_VALUES: Cell = 65536;
 
 // A cell is CELL_FACTOR × number + kind.
 pub const CELL_FACTOR: Cell = 8;
 
 // Lines have numbers from 1 up to LAST_LINE; line LINE_LIMIT has no room.
-pub const LINE_LIMIT: usize = 8192;
+pub const LINE_LIMIT: usize = 65536;
 
 pub const LAST_LINE: usize = LINE_LIMIT - 1;
 

@@ -12,7 +12,7 @@ abbrev pub slotCount : ℕ
 slotCount = 64
 
 abbrev pub noLine : ℕ
-noLine = 65535
+noLine = 4294967295
 
 -- The n cells from `at` on are the lines vs, in some order, each at least once; every slot is empty or has one of them.
 pub record Collected (w : List ℕ) (at n slots : ℕ) (vs : List ℕ) : Type 0 where

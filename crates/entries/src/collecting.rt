@@ -17,7 +17,7 @@ ghost use Rattle.entries.specs.Collected.{slotCount, noLine, Emptied, Ad
 const SLOTS: usize = 64;
 
 // No line has this number.
-const NO_LINE: Cell = 65535;
+const NO_LINE: Cell = 4294967295;
 
 // Nothing is in the slots from `slots` on.
 pub fn empty(w: &mut [Cell], slots: usize)

@@ -65,7 +65,7 @@ pub fn put_entry(index: &mut [u32], used: usize, w: &[Cell], at: usize, n: usize
     index[used] = count;
     let mut i = 0;
     while i < n {
-        index[used + 1 + i] = w[at + i] as u32;
+        index[used + 1 + i] = w[at + i];
         i = i + 1;
     }
 }

@@ -9,7 +9,7 @@ use lib.ListN.{length, getD}
 
 -- how many marks a cell has
 abbrev pub cellMarks : ℕ
-cellMarks = 16
+cellMarks = 32
 
 -- bit k of x
 unfoldable pub bitOf : ℕ → ℕ → Bool

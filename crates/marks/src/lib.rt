@@ -4,7 +4,7 @@ ghost use mathlib.Core.Path.{_≡_};
 ghost use Rattle.marks.specs.Marks.{marked, MarkPost};
 
 // How many marks a cell has.
-const CELL_MARKS: usize = 16;
+const CELL_MARKS: usize = 32;
 
 // Is the number v marked?
 pub fn is_marked(w: &[Cell], v: usize) -> bool

@@ -1,5 +1,5 @@
--- How deep abstractions nest in an expression, and that the cells of what a step makes are 16-bit numbers, however many they
--- are.
+-- How deep abstractions nest in an expression, and that the cells of what a step makes are numbers of a cell's width, however many
+-- they are.
 use mathlib.Core.Path.{_≡_, refl, subst}
 use mathlib.Core.Bool.{Bool, true, false}
 use mathlib.Core.Option.{Option, none, some}
@@ -154,6 +154,11 @@ unfolding Below
 below-append n [] ds b b′ = b′
 below-append n (c ∷ cs) ds b b′ = (b .0, below-append n cs ds (b .1) b′)
 
+pub below-wider : (m n : ℕ) (cs : List ℕ) → m ≤ n → Below m cs → Below n cs
+unfolding Below
+below-wider m n [] h b = tt
+below-wider m n (c ∷ cs) h b = let l = b .0 in (omega arith, below-wider m n cs h (b .1))
+
 -- under k bindings and d deep, with the numbers of lines below n
 module _ (X : ℕ → Type 0) (C : ℕ → ℕ → Type 0) (n : ℕ) (f : (v : ℕ) → X v → v < n) (g : (v m : ℕ) → C v m → v < n) (pos : 1 ≤ n) where
   mutual
@@ -194,14 +199,17 @@ module _ (X : ℕ → Type 0) (C : ℕ → ℕ → Type 0) (n : ℕ) (f : (v : �
 abbrev half : ℕ
 half = largestLimit / 2
 
-module _ (ls : Lines) (few : length ls < lineLimit) where
-  line-small : (v : ℕ) → v ≤ length ls → v < lineLimit
-  line-small v r = omega arith
+-- with fewer than n lines, whatever the width of a cell
+pub lines-below : (ls : Lines) (n : ℕ) → length ls < n → (k d : ℕ) (e : Expr) → KnownCategory ls k e → Deep d e → k + d ≤ n → Below (cellFactor * n) (cells e)
+lines-below ls n few =
+    category-below (VariableLine ls) (ConstantOf ls) n (λ v x. small v (line-within (x .isLine))) (λ v m x. small v (line-within (x .isLine))) (omega arith)
+  where
+    small : (v : ℕ) → v ≤ length ls → v < n
+    small v r = omega arith
 
+module _ (ls : Lines) (few : length ls < lineLimit) where
   pub known-below : (k d : ℕ) (e : Expr) → KnownCategory ls k e → Deep d e → k + d ≤ lineLimit → Below cellValues (cells e)
-  known-below k d e w h l =
-      category-below (VariableLine ls) (ConstantOf ls) lineLimit (λ v x. line-small v (line-within (x .isLine))) (λ v n x. line-small v (line-within (x .isLine))) (omega arith)
-      k d e w h l
+  known-below k d e w h l = below-wider (cellFactor * lineLimit) cellValues (cells e) (omega arith) (lines-below ls lineLimit few k d e w h l)
 
   -- what is made of two such, or of one with such arguments
   pub substituted-below : (k : ℕ) (a t : Expr) → KnownCategory ls k (substitute a 0 t) → k ≤ largestLimit → size a ≤ largestLimit → size t ≤ largestLimit → Below cellValues (cells (substitute a 0 t))

@@ -7,6 +7,7 @@ use Prim.Native.Nat.{ℕ}
 use native.Mathlib.Omega.{arith}
 use lib.ListN.{length, take}
 use Rattle.aut68.specs.Language.{aut68}
+use Rattle.aut68.specs.Stores.{lending}
 use Rattle.aut68.specs.Bytes.{Bytes, lines}
 use Rattle.aut68.specs.Expr.{Expr, bound, const, app, abs, nil, countExprs, isType, overBinding}
 use Rattle.aut68.specs.Substitution.{lift, substituteBound, substitute, instantiate}
@@ -40,7 +41,7 @@ pub record Changed : Type 0 where
 derived : Derived aut68 [] (take 3 (lines numbers)) numberLines
 unfolding Recording numberLines
 derived =
-    subst (λ ls. Derived aut68 [] (take (length ls) (lines numbers)) ls) numbers-recorded (recorded-are-meanings aut68 numbers (record { budget = 0; limit = 16; table = 24; terms = 8; work = 2048; index = 16384 }))
+    subst (λ ls. Derived aut68 [] (take (length ls) (lines numbers)) ls) numbers-recorded (recorded-are-meanings aut68 numbers (lending 0 16 24 8 2048 16384))
 
 unfoldable nat : Expr
 nat = const 1 nil

@@ -60,9 +60,6 @@ mul-index-2 c = omega arith
 shared-slice-read-index : tie.Need-shared-slice-read-index Inv-loop μ-loop
 shared-slice-read-index c = omega arith
 
-cast-index : tie.Need-cast-index Inv-loop μ-loop
-cast-index c = omega (arith, c .shared-slice-known .given (c .before .before .before .before .before .before .before .before .args .at + c .before .before .loop .i))
-
 add-index-2 : tie.Need-add-index-2 Inv-loop μ-loop
 add-index-2 c = omega arith
 
@@ -114,7 +111,6 @@ put-entry-spec =
     add-index
     mul-index-2
     shared-slice-read-index
-    cast-index
     add-index-2
     add-index-3
     mul-index-3
