@@ -6,6 +6,7 @@ pub mod Layout
 pub mod Results
 pub mod Forests
 pub mod RowLaws
+pub mod Links
 pub mod Stores
 pub mod Slices
 pub mod Posts

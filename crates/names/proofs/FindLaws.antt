@@ -1,20 +1,24 @@
--- The line with a given identifier, row by row.
-use mathlib.Core.Path.{_≡_, refl, sym, ap, _∙_}
-use mathlib.Core.Bool.{true, false}
-use mathlib.Core.Option.{some}
+-- The line with a given identifier, down the chain of its slot.
+use mathlib.Core.Path.{_≡_, refl, sym, ap, _∙_, subst}
+use mathlib.Core.Logic.{_≢_}
+use mathlib.Core.Bool.{Bool, true, false}
 use mathlib.Core.List.{List, [], _∷_}
-use Prim.Native.Nat.{ℕ, zero, suc, _+_, _*_, _-_, _≤_, _<_}
+use Prim.Native.Nat.{ℕ, zero, suc, _%_, _≤_, _<_}
 use native.Mathlib.Omega.{arith}
-use native.Mathlib.Numerals.{add-one}
-use lib.ListN.{length, getD, drop, drop-of-length-le}
-use lib.Seq.{drop-cons}
+use lib.ListN.{length, getD}
 use Rattle.aut68.specs.Bytes.{Bytes, sameBytes}
-use Rattle.aut68.specs.Lines.{Line, Lines, noLine, numberFrom, numberOf, partOf, rowCell}
-use Rattle.aut68.specs.Rules.Names.{IsLine, first, later}
-use Rattle.aut68.specs.Sizes.{rowWidth, atNameStart, atNameLength}
-use Rattle.cells.specs.RowLaws.{row-cell-is}
+use Rattle.aut68.specs.Lines.{Line, Lines, noLine, partOf, rowCell}
+use Rattle.aut68.specs.Rules.Names.{IsLine, first, later, anEarlier, NoneMeant}
+use Rattle.aut68.specs.Sizes.{atNameStart, atNameLength}
+use Rattle.lookup.specs.LineNumbers.{line-positive, line-within}
+use Rattle.lookup.specs.SameBytes.{same-true, same-false}
+use Rattle.lookup.specs.Identifiers.{denotes-line, number-absent, number-complete}
+use Rattle.cells.specs.Links.{linkFactor, linkOf, row-unlinked, length-unlinked}
 use Rattle.names.specs.Known.{Known}
-use Rattle.names.specs.Posts.{numberOr, LineSought}
+use Rattle.names.specs.Hints.{slotOf, nameAt, Chained, Hinted}
+use Rattle.names.specs.Hints as Hints
+use Rattle.names.specs.HintLaws.{slot-below}
+use Rattle.names.specs.Posts.{numberOr, LineFound}
 use Rattle.names.proofs.PartLaws.{part-whole}
 
 pub line-at : (ls : Lines) (v : ℕ) → v < length ls → IsLine ls (suc v) (getD ls v noLine)
@@ -27,96 +31,78 @@ module _ {ls : Lines} {book tb : List ℕ} {lines : ℕ} (k : Known ls book tb l
   lineAt zero p b = absurd (omega arith)
   lineAt (suc c) p b = (getD ls c noLine, line-at ls c (omega (arith, k .count)))
 
--- a cell of the row behind the first v rows
-pub row-cell-at : (tb : List ℕ) (v k at : ℕ) → at ≡ rowWidth * v → rowCell tb (suc v) k ≡ getD tb (at + k) 0
-row-cell-at tb v k at e =
-    let q : rowWidth * suc v + k - rowWidth ≡ at + k = omega arith in
-    row-cell-is tb (suc v) k (λ z. omega arith) ∙ ap (λ n. getD tb n 0) q
+-- the row of a line points to its identifier
+name-known : {ls : Lines} {book tb : List ℕ} {lines v : ℕ} {l : Line} → Known ls book tb lines → IsLine ls v l → nameAt book tb v ≡ l .identifier
+unfolding nameAt
+name-known {book = book} {tb} {lines} {v} k h =
+    let n = k .named .nameOf h in
+    let s = row-unlinked lines tb v atNameStart (omega arith) (λ e. omega arith) in
+    let z = length-unlinked lines tb v (line-positive h) (omega (arith, line-within h, k .count)) in
+    sym (λ i. partOf book (s i) (z i)) ∙ part-whole book _ _ (n .within) ∙ n .bytesAre
 
-number-here : (k : ℕ) (w : Bytes) (l : Line) (ls : Lines) → sameBytes w (l .identifier) ≡ true → numberFrom k w (l ∷ ls) ≡ some k
-unfolding numberFrom
-number-here k w l ls e = rw (e, numberFrom)
+-- ---- down the chain
 
-number-later : (k : ℕ) (w : Bytes) (l : Line) (ls : Lines) → sameBytes w (l .identifier) ≡ false → numberFrom k w (l ∷ ls) ≡ numberFrom (suc k) w ls
-unfolding numberFrom
-number-later k w l ls e = rw (e, numberFrom)
+-- every line that has the word comes from v on
+pub record Searching (book tb : List ℕ) (lines : ℕ) (w : List ℕ) (word : Bytes) (v : ℕ) : Type 0 where
+  pub within : Hinted book tb lines w → v ≤ lines
+  pub comes : Hinted book tb lines w → 1 ≤ length word → (u : ℕ) → 1 ≤ u → u ≤ lines → nameAt book tb u ≡ word → Chained tb u v
 
--- the word is none of the first v lines' identifiers
-pub record FindSoFar (book tb : List ℕ) (lines : ℕ) (word : Bytes) (v at : ℕ) : Type 0 where
-  pub row : at ≡ rowWidth * v
-  pub inside : at ≤ length tb
-  pub within : v ≤ lines
-  pub rest : (ls : Lines) → Known ls book tb lines → 1 ≤ length word → numberOf word ls ≡ numberFrom (suc v) word (drop v ls)
-
-pub find-start : {book tb : List ℕ} {lines : ℕ} {word : Bytes} → FindSoFar book tb lines word 0 0
-unfolding numberOf
-find-start = record { row = omega arith; inside = omega arith; within = omega arith; rest = λ ls k p. refl }
-
-module _ {book tb : List ℕ} {lines v at : ℕ} {word : Bytes} (h : FindSoFar book tb lines word v at) where
-  module _ (l : v < lines) (ls : Lines) (k : Known ls book tb lines) where
-    inList : v < length ls
-    inList = omega (arith, k .count)
-
-    line : Line
-    line = getD ls v noLine
-
-    opened : drop v ls ≡ line ∷ drop (suc v) ls
-    unfolding line
-    opened = drop-cons ls v noLine inList
-
-    nameIs : {first len : ℕ} → first ≡ getD tb (at + atNameStart) 0 → len ≡ getD tb (at + atNameLength) 0 → partOf book first len ≡ line .identifier
-    unfolding line
-    nameIs {first} {len} ef el =
-        let n = k .named .nameOf (line-at ls v inList) in
-        let f : first ≡ rowCell tb (suc v) atNameStart = ef ∙ sym (row-cell-at tb v atNameStart at (h .row)) in
-        let g : len ≡ rowCell tb (suc v) atNameLength = el ∙ sym (row-cell-at tb v atNameLength at (h .row)) in
-        (λ j. partOf book (f j) (g j)) ∙ part-whole book _ _ (n .within) ∙ n .bytesAre
-
-    wholeRow : at + rowWidth ≤ length tb
-    unfolding line
-    wholeRow = omega (arith, k .rows .row (line-at ls v inList) .whole, h .row)
-
-  -- a table that ends too soon is not that of the lines
-  pub find-short : v < lines → length tb - at < rowWidth → LineSought book tb lines word 0
-  find-short l z =
+module _ {book tb : List ℕ} {lines : ℕ} {w : List ℕ} {word : Bytes} where
+  pub search-starts : {v : ℕ} → v ≡ getD w (slotOf (length w) word) 0 → Searching book tb lines w word v
+  search-starts e =
       record {
-        within = omega arith;
-        is = λ ls k p. let q = wholeRow l ls k in absurd (omega arith);
+        within = λ H. omega (arith, e, H .heads _ (slot-below (length w) word));
+        comes = λ H p u a b n. subst (Chained tb u) (ap (λ x. getD w (slotOf (length w) x) 0) n ∙ sym e) (H .chained u a b);
       }
 
-  module _ (l : v < lines) {first len : ℕ} (ef : first ≡ getD tb (at + atNameStart) 0) (el : len ≡ getD tb (at + atNameLength) 0) where
-    pub find-here : (1 ≤ length word → sameBytes word (partOf book first len) ≡ true) → LineSought book tb lines word (v + 1)
+  module _ {v : ℕ} (h : Searching book tb lines w word v) where
+    pub found-nothing : v ≡ 0 → LineFound book tb lines w word 0
     unfolding numberOr
-    find-here e =
-        record {
-          within = omega arith;
-          is = λ ls k p.
-              add-one v
-              ∙ sym (ap (numberOr 0)
-              (h .rest ls k p
-              ∙ ap (numberFrom (suc v) word) (opened l ls k)
-              ∙ number-here (suc v) word (line l ls k) _ (ap (sameBytes word) (sym (nameIs l ls k ef el)) ∙ e p)));
-        }
+    found-nothing z = record { within = omega arith; is = λ ls k g p. sym (ap (numberOr 0) (number-absent (none-named ls k g p))) }
+      where
+        ends : (u : ℕ) → 1 ≤ u → {n : ℕ} → n ≡ 0 → Chained tb u n → ⊥
+        ends u a e (Hints.here q) = omega arith
+        ends u a e (Hints.later n c) = n e
 
-    pub find-more : rowWidth ≤ length tb - at → (1 ≤ length word → sameBytes word (partOf book first len) ≡ false) → FindSoFar book tb lines word (v + 1) (at + rowWidth)
-    find-more z e =
-        record {
-          row = omega (arith, h .row);
-          inside = omega arith;
-          within = omega arith;
-          rest = λ ls k p.
-              h .rest ls k p
-              ∙ ap (numberFrom (suc v) word) (opened l ls k)
-              ∙ number-later (suc v) word (line l ls k) _ (ap (sameBytes word) (sym (nameIs l ls k ef el)) ∙ e p)
-              ∙ ap (λ m. numberFrom (suc m) word (drop m ls)) (sym (add-one v));
-        }
+        none-named : (ls : Lines) → Known ls book tb lines → Hinted book tb lines w → 1 ≤ length word → NoneMeant ls word
+        none-named ls k g p u o =
+            let (x, y, q) = denotes-line o in
+            let b : u ≤ lines = omega (arith, line-within y, k .count) in
+            ends u (line-positive y) z (h .comes g p u (line-positive y) b (name-known k y ∙ q))
 
-  pub find-nothing : lines ≤ v → LineSought book tb lines word 0
-  unfolding numberOr numberFrom
-  find-nothing l =
-      record {
-        within = omega arith;
-        is = λ ls k p.
-            sym (ap (numberOr 0)
-            (h .rest ls k p ∙ ap (numberFrom (suc v) word) (drop-of-length-le ls {i = v} (omega (arith, k .count)))));
-      }
+    -- the chain leaves the lines, or goes up: no hints
+    pub found-outside : lines < v → LineFound book tb lines w word 0
+    found-outside l = record { within = omega arith; is = λ ls k g p. absurd (let b = h .within g in omega arith) }
+
+    module _ (n : v ≢ 0) where
+      pub found-upward : {next : ℕ} → next ≡ linkOf tb v → v ≤ next → LineFound book tb lines w word 0
+      found-upward e l = record { within = omega arith; is = λ ls k g p. absurd (omega (arith, g .falls v (omega arith) (h .within g))) }
+
+      module _ {start size : ℕ} {t : Bool} (es : start ≡ rowCell tb v atNameStart) (ez : size ≡ rowCell tb v atNameLength)
+          (compared : 1 ≤ length word → t ≡ sameBytes word (partOf book start (size % linkFactor))) where
+        name-compared : partOf book start (size % linkFactor) ≡ nameAt book tb v
+        unfolding nameAt
+        name-compared = λ i. partOf book (es i) (ez i % linkFactor)
+
+        pub found-here : t ≡ true → v ≤ lines → LineFound book tb lines w word v
+        unfolding numberOr
+        found-here e b =
+            record {
+              within = b;
+              is = λ ls k g p.
+                  let (l, y) = lineAt k v (omega arith) b in
+                  let q : nameAt book tb v ≡ word = sym (same-true word (nameAt book tb v) (ap (sameBytes word) (sym name-compared) ∙ sym (compared p) ∙ e)) in
+                  sym (ap (numberOr 0) (number-complete (k .distinct) (anEarlier y (sym (name-known k y) ∙ q))));
+            }
+
+        pub search-on : t ≡ false → {next : ℕ} → next ≡ linkOf tb v → next < v → Searching book tb lines w word next
+        search-on e {next} en l =
+            record {
+              within = λ H. (let b = h .within H in omega arith);
+              comes = λ H p u a b q. subst (Chained tb u) (sym en) (onward p u q (h .comes H p u a b q));
+            }
+          where
+            onward : 1 ≤ length word → (u : ℕ) → nameAt book tb u ≡ word → Chained tb u v → Chained tb u (linkOf tb v)
+            onward p u q (Hints.here r) =
+                absurd (same-false word (nameAt book tb v) (ap (sameBytes word) (sym name-compared) ∙ sym (compared p) ∙ e) (sym (ap (nameAt book tb) r ∙ q)))
+            onward p u q (Hints.later m c) = c

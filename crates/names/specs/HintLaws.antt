@@ -1,20 +1,22 @@
 -- Laws of hints, for those who keep them.
-use mathlib.Core.Path.{_≡_, refl, sym, ap, _∙_}
+use mathlib.Core.Path.{_≡_, refl, sym, ap, _∙_, subst}
 use mathlib.Core.Logic.{_≢_}
 use mathlib.Core.Bool.{Bool, true, false}
 use mathlib.Core.List.{List}
-use Prim.Native.Nat.{ℕ, zero, suc, _+_, _-_, _*_, _/_, _≤_, _<_}
+use Prim.Native.Nat.{ℕ, zero, suc, _+_, _-_, _*_, _/_, _%_, _≤_, _<_}
+use native.Mathlib.Decide.{ℕ-discrete}
 use native.Mathlib.Omega.{arith}
 use native.Mathlib.Nat.{mul-le-mul-right}
 use lib.Dec.{leb}
 use lib.ListN.{length, getD, take, set, length-set}
 use lib.Seq.{getD-take, getD-set-same, getD-set-other}
 use borrow.Author.Tests.{le-leb, leb-true, leb-false}
-use Rattle.aut68.specs.Lines.{identifierPart}
+use Rattle.aut68.specs.Lines.{identifierPart, partOf, rowCell}
 use Rattle.aut68.specs.Bytes.{Bytes}
-use Rattle.aut68.specs.Sizes.{smallestLimit, rowWidth}
+use Rattle.aut68.specs.Sizes.{smallestLimit, rowWidth, atNameStart, atNameLength}
 use Rattle.cells.specs.Layout.{namesAt, readerUnits}
-use Rattle.names.specs.Hints.{mixed, hashOf, slots, slotOf, nameAt, HintBetween, Met, Hinted, Noted, put, full, probes, mostSlots}
+use Rattle.cells.specs.Links.{linkFactor, linkOf}
+use Rattle.names.specs.Hints.{mixed, hashOf, slots, slotOf, nameAt, Chained, here, later, Hinted, mostSlots}
 
 -- ---- numbers
 
@@ -43,8 +45,8 @@ slots-inside n = split (leb (n - n / 4) mostSlots) refl
     split true e = omega arith
     split false e = omega (arith, leb-false (n - n / 4) mostSlots e)
 
--- the cells of all searches in the store of the reader, below those for the lines that a line names
-pub slots-fit : (limit : ℕ) → smallestLimit ≤ limit → slots (readerUnits * limit) + probes ≤ namesAt limit
+-- all slots in the store of the reader, below the cells for the lines that a line names
+pub slots-fit : (limit : ℕ) → smallestLimit ≤ limit → slots (readerUnits * limit) < namesAt limit
 slots-fit limit l = omega (arith, slots-inside (readerUnits * limit))
 
 -- where a product with a number below 2 to the 32 lands, scaled back
@@ -53,119 +55,108 @@ scaled h m b =
     let q : h * m ≤ 4294967296 * m = mul-le-mul-right m (omega arith) in
     omega arith
 
--- a search stays below cell slots n + probes
 pub slot-below : (n : ℕ) (word : Bytes) → slotOf n word ≤ slots n
 unfolding slotOf
 slot-below n word = scaled (hashOf word) (slots n) (hash-below word)
 
 -- ---- names
 
--- the name that a whole row points to is the identifier of its line
-pub identifier-name : (book tb : List ℕ) (v : ℕ) → 1 ≤ v → rowWidth * v ≤ length tb → identifierPart book tb v ≡ nameAt book tb v
+-- the name that a whole row points to which is not linked is the identifier of its line
+pub identifier-name : (book tb : List ℕ) (v : ℕ) → 1 ≤ v → rowWidth * v ≤ length tb → rowCell tb v atNameLength < linkFactor → identifierPart book tb v ≡ nameAt book tb v
 unfolding identifierPart nameAt
-identifier-name book tb v p l = rw (le-leb 1 v p, le-leb (rowWidth * v) (length tb) l, identifierPart)
+identifier-name book tb v p l s =
+    let e : rowCell tb v atNameLength ≡ rowCell tb v atNameLength % linkFactor = omega arith in
+    rw (le-leb 1 v p, le-leb (rowWidth * v) (length tb) l, identifierPart) (ap (partOf book (rowCell tb v atNameStart)) e)
 
 -- ---- hints that stay
 
--- no line is hinted at first, whatever the cells hold
-pub no-line-hinted : (book tb w : List ℕ) → Hinted book tb 0 w
-no-line-hinted book tb w = record { hint = λ v e a b. absurd (omega arith) }
+-- no line is hinted at first
+pub no-line-hinted : (book tb w : List ℕ) → ((i : ℕ) → i ≤ slots (length w) → getD w i 0 ≡ 0) → Hinted book tb 0 w
+no-line-hinted book tb w z = record { chained = λ v a b. absurd (omega arith); falls = λ v a b. absurd (omega arith); heads = λ i l. omega (arith, z i l) }
 
 pub cell-same : (w w′ : List ℕ) (n i : ℕ) → take n w′ ≡ take n w → i < n → getD w′ i 0 ≡ getD w i 0
 cell-same w w′ n i e h = sym (getD-take n w′ i 0 h) ∙ ap (λ x. getD x i 0) e ∙ getD-take n w i 0 h
 
--- hints stay where the cells of all searches are as they were
-pub hinted-same : {book tb : List ℕ} {lines : ℕ} {w w′ : List ℕ} (n : ℕ) → slots (length w) + probes ≤ n → length w′ ≡ length w → take n w′ ≡ take n w
+-- hints stay where the slots are as they were
+pub hinted-same : {book tb : List ℕ} {lines : ℕ} {w w′ : List ℕ} (n : ℕ) → slots (length w) < n → length w′ ≡ length w → take n w′ ≡ take n w
     → Hinted book tb lines w → Hinted book tb lines w′
 hinted-same {book} {tb} {lines} {w} {w′} n h l e H =
     record {
-      hint = λ v c a b m z.
-          let q : slotOf (length w′) (nameAt book tb v) ≡ slotOf (length w) (nameAt book tb v) = ap (λ k. slotOf k (nameAt book tb v)) l in
-          let s = slot-below (length w) (nameAt book tb v) in
-          let f = m .from in
-          let g = m .near in
-          let i = m .inside in
-          let r = H .hint v c a b (record { from = omega arith; near = omega arith; inside = omega arith }) (sym (cell-same w w′ n c e (omega arith)) ∙ z) in
-          let u = r .above in
-          let t = r .below in
-          record { at = r .at; above = omega arith; below = r .below; is = cell-same w w′ n (r .at) e (omega arith) ∙ r .is };
+      chained = λ v a b.
+          let s : slotOf (length w′) (nameAt book tb v) ≡ slotOf (length w) (nameAt book tb v) = ap (λ k. slotOf k (nameAt book tb v)) l in
+          let q : getD w (slotOf (length w) (nameAt book tb v)) 0 ≡ getD w′ (slotOf (length w′) (nameAt book tb v)) 0 =
+          sym (cell-same w w′ n _ e (let b = slot-below (length w) (nameAt book tb v) in omega arith)) ∙ ap (λ i. getD w′ i 0) (sym s)
+          in
+          subst (Chained tb v) q (H .chained v a b);
+      falls = H .falls;
+      heads = λ i k. let j : i ≤ slots (length w) = (let z = ap slots l in omega arith) in omega (arith, cell-same w w′ n i e (omega arith), H .heads i j);
     }
 
 -- ---- one line more
 
 module _ (book tb tb′ : List ℕ) (lines : ℕ) (w w′ : List ℕ) (word : Bytes)
-    (same : (v : ℕ) → 1 ≤ v → v ≤ lines → nameAt book tb′ v ≡ nameAt book tb v) (name : nameAt book tb′ (suc lines) ≡ word) (H : Hinted book tb lines w) where
-  -- a line that was there, by the cells as they were
-  before : (v e : ℕ) → 1 ≤ v → v ≤ lines → length w′ ≡ length w → Met (slotOf (length w′) (nameAt book tb′ v)) (length w′) e → getD w e 0 ≡ 0
-      → HintBetween w (slotOf (length w′) (nameAt book tb′ v)) e v
-  before v e a b l m z =
-      let q : slotOf (length w′) (nameAt book tb′ v) ≡ slotOf (length w) (nameAt book tb v) = λ i. slotOf (l i) (same v a b i) in
-      let f = m .from in
-      let g = m .near in
-      let j = m .inside in
-      let r = H .hint v e a b (record { from = omega arith; near = omega arith; inside = omega arith }) z in
-      let u = r .above in
-      record { at = r .at; above = omega arith; below = r .below; is = r .is }
+    (same : (v : ℕ) → 1 ≤ v → v ≤ lines → nameAt book tb′ v ≡ nameAt book tb v)
+    (links : (v : ℕ) → 1 ≤ v → v ≤ lines → linkOf tb′ v ≡ linkOf tb v)
+    (name : nameAt book tb′ (suc lines) ≡ word)
+    (link : linkOf tb′ (suc lines) ≡ getD w (slotOf (length w) word) 0)
+    (inside : slotOf (length w) word < length w) (is : w′ ≡ set w (slotOf (length w) word) (suc lines)) (H : Hinted book tb lines w) where
+  abbrev slot : ℕ
+  slot = slotOf (length w) word
 
-  -- the slot of the line that is new
-  new-slot : (v : ℕ) → lines < v → v ≤ suc lines → length w′ ≡ length w → slotOf (length w′) (nameAt book tb′ v) ≡ slotOf (length w) word
-  new-slot v a b l = let q : v ≡ suc lines = omega arith in λ i. slotOf (l i) ((ap (nameAt book tb′) q ∙ name) i)
+  long : length w′ ≡ length w
+  long = ap length is ∙ length-set w slot (suc lines)
 
-  module _ (e₀ : ℕ) (met : Met (slotOf (length w) word) (length w) e₀) (empty : getD w e₀ 0 ≡ 0)
-      (taken : (i : ℕ) → slotOf (length w) word ≤ i → i < e₀ → getD w i 0 ≢ 0) (is : w′ ≡ set w e₀ (suc lines)) where
-    long : length w′ ≡ length w
-    long = ap length is ∙ length-set w e₀ (suc lines)
+  head-here : getD w′ slot 0 ≡ suc lines
+  head-here = ap (λ x. getD x slot 0) is ∙ getD-set-same w slot (suc lines) 0 inside
 
-    cell-put : getD w′ e₀ 0 ≡ suc lines
-    cell-put = ap (λ x. getD x e₀ 0) is ∙ getD-set-same w e₀ (suc lines) 0 (met .inside)
+  head-other : (i : ℕ) → i ≢ slot → getD w′ i 0 ≡ getD w i 0
+  head-other i n = ap (λ x. getD x i 0) is ∙ getD-set-other w slot i (suc lines) 0 n
 
-    cell-other : (i : ℕ) → i ≢ e₀ → getD w′ i 0 ≡ getD w i 0
-    cell-other i n = ap (λ x. getD x i 0) is ∙ getD-set-other w e₀ i (suc lines) 0 n
+  slot-same : (v : ℕ) → 1 ≤ v → v ≤ lines → slotOf (length w′) (nameAt book tb′ v) ≡ slotOf (length w) (nameAt book tb v)
+  slot-same v a b = λ i. slotOf (long i) (same v a b i)
 
-    -- an empty cell is not the one that was put, and was empty
-    not-put : (e : ℕ) → getD w′ e 0 ≡ 0 → e ≢ e₀
-    not-put e z q = let r : getD w′ e₀ 0 ≡ 0 = ap (λ i. getD w′ i 0) (sym q) ∙ z in absurd (omega (arith, cell-put))
+  -- a chain of lines that were there
+  chain-kept : (v u : ℕ) → u ≤ lines → Chained tb v u → Chained tb′ v u
+  chain-kept v u b (here e) = here e
+  chain-kept v u b (later n c) =
+      let f = H .falls u (omega arith) b in
+      later n (subst (Chained tb′ v) (sym (links u (omega arith) b)) (chain-kept v (linkOf tb u) (omega arith) c))
 
-    was-empty : (e : ℕ) → getD w′ e 0 ≡ 0 → getD w e 0 ≡ 0
-    was-empty e z = sym (cell-other e (not-put e z)) ∙ z
+  old-chained : (v : ℕ) → 1 ≤ v → v ≤ lines → Dec (slotOf (length w) (nameAt book tb v) ≡ slot) → Chained tb′ v (getD w′ (slotOf (length w) (nameAt book tb v)) 0)
+  old-chained v a b (no n) =
+      subst (Chained tb′ v) (sym (head-other (slotOf (length w) (nameAt book tb v)) n))
+      (chain-kept v _ (H .heads _ (slot-below (length w) (nameAt book tb v))) (H .chained v a b))
+  old-chained v a b (yes e) =
+      let c : Chained tb v (getD w slot 0) = subst (λ i. Chained tb v (getD w i 0)) e (H .chained v a b) in
+      let d : Chained tb′ v (linkOf tb′ (suc lines)) = subst (Chained tb′ v) (sym link) (chain-kept v _ (H .heads slot (slot-below (length w) word)) c) in
+      subst (Chained tb′ v) (sym (ap (λ i. getD w′ i 0) e ∙ head-here)) (later (λ z. omega arith) d)
 
-    put-hint : (v e : ℕ) (t : Bool) → leb v lines ≡ t → 1 ≤ v → v ≤ suc lines → Met (slotOf (length w′) (nameAt book tb′ v)) (length w′) e → getD w′ e 0 ≡ 0
-        → HintBetween w′ (slotOf (length w′) (nameAt book tb′ v)) e v
-    put-hint v e true d a b m z =
-        let r = before v e a (leb-true v lines d) long m (was-empty e z) in
-        let is-v = r .is in
-        record { at = r .at; above = r .above; below = r .below; is = cell-other (r .at) (λ q. let y : getD w (r .at) 0 ≡ 0 = ap (λ i. getD w i 0) q ∙ empty in omega arith) ∙ r .is }
-    put-hint v e false d a b m z =
-        let q = new-slot v (leb-false v lines d) b long in
-        let f = m .from in
-        let k = met .from in
-        let n = not-put e z in
-        let x : v ≡ suc lines = omega (arith, leb-false v lines d) in
-        record { at = e₀; above = omega arith; below = behind (leb e₀ e) refl f q n; is = cell-put ∙ sym x }
-      where
-        behind : (t : Bool) → leb e₀ e ≡ t → slotOf (length w′) (nameAt book tb′ v) ≤ e → slotOf (length w′) (nameAt book tb′ v) ≡ slotOf (length w) word → e ≢ e₀ → e₀ < e
-        behind true c f q n = let h = leb-true e₀ e c in omega arith
-        behind false c f q n = absurd (taken e (omega arith) (leb-false e₀ e c) (was-empty e z))
+  new-chained : (v : ℕ) → v ≡ suc lines → Chained tb′ v (getD w′ (slotOf (length w′) (nameAt book tb′ v)) 0)
+  new-chained v e =
+      let q : slotOf (length w′) (nameAt book tb′ v) ≡ slot = λ i. slotOf (long i) ((ap (nameAt book tb′) e ∙ name) i) in
+      here (ap (λ i. getD w′ i 0) q ∙ head-here ∙ sym e)
 
-  module _ (none : (i : ℕ) → Met (slotOf (length w) word) (length w) i → getD w i 0 ≢ 0) (is : w′ ≡ w) where
-    full-hint : (v e : ℕ) (t : Bool) → leb v lines ≡ t → 1 ≤ v → v ≤ suc lines → Met (slotOf (length w′) (nameAt book tb′ v)) (length w′) e → getD w′ e 0 ≡ 0
-        → HintBetween w′ (slotOf (length w′) (nameAt book tb′ v)) e v
-    full-hint v e true d a b m z =
-        let r = before v e a (leb-true v lines d) (ap length is) m (ap (λ x. getD x e 0) (sym is) ∙ z) in
-        record { at = r .at; above = r .above; below = r .below; is = ap (λ x. getD x (r .at) 0) is ∙ r .is }
-    full-hint v e false d a b m z =
-        let q = new-slot v (leb-false v lines d) b (ap length is) in
-        let l : length w′ ≡ length w = ap length is in
-        let f = m .from in
-        let g = m .near in
-        let i = m .inside in
-        absurd (none e (record { from = omega arith; near = omega arith; inside = omega arith }) (ap (λ x. getD x e 0) (sym is) ∙ z))
+  chained-more : (v : ℕ) (t : Bool) → leb v lines ≡ t → 1 ≤ v → v ≤ suc lines → Chained tb′ v (getD w′ (slotOf (length w′) (nameAt book tb′ v)) 0)
+  chained-more v true e a b =
+      let l = leb-true v lines e in
+      subst (λ i. Chained tb′ v (getD w′ i 0)) (sym (slot-same v a l)) (old-chained v a l (ℕ-discrete (slotOf (length w) (nameAt book tb v)) slot))
+  chained-more v false e a b = new-chained v (omega (arith, leb-false v lines e))
 
--- one line more, whose number was noted; the rows of the others point to the names that they had
-pub hinted-more : {book tb tb′ : List ℕ} {lines : ℕ} {w w′ : List ℕ} {word : Bytes}
-    → ((v : ℕ) → 1 ≤ v → v ≤ lines → nameAt book tb′ v ≡ nameAt book tb v) → nameAt book tb′ (suc lines) ≡ word
-    → Noted w w′ word (suc lines) → Hinted book tb lines w → Hinted book tb′ (suc lines) w′
-hinted-more {book} {tb} {tb′} {lines} {w} {w′} {word} same name (put e₀ met empty taken is) H =
-    record { hint = λ v e a b m z. put-hint book tb tb′ lines w w′ word same name H e₀ met empty taken is v e (leb v lines) refl a b m z }
-hinted-more {book} {tb} {tb′} {lines} {w} {w′} {word} same name (full none is) H =
-    record { hint = λ v e a b m z. full-hint book tb tb′ lines w w′ word same name H none is v e (leb v lines) refl a b m z }
+  falls-more : (v : ℕ) (t : Bool) → leb v lines ≡ t → 1 ≤ v → v ≤ suc lines → linkOf tb′ v < v
+  falls-more v true e a b = let l = leb-true v lines e in omega (arith, links v a l, H .falls v a l)
+  falls-more v false e a b =
+      let q : v ≡ suc lines = omega (arith, leb-false v lines e) in
+      omega (arith, ap (linkOf tb′) q, link, H .heads slot (slot-below (length w) word))
+
+  heads-more : (i : ℕ) → i ≤ slots (length w) → Dec (i ≡ slot) → getD w′ i 0 ≤ suc lines
+  heads-more i l (yes e) = omega (arith, ap (λ k. getD w′ k 0) e, head-here)
+  heads-more i l (no n) = omega (arith, head-other i n, H .heads i l)
+
+  -- a line whose row links to the former head of its chain, and whose number is the head now
+  pub hinted-more : Hinted book tb′ (suc lines) w′
+  hinted-more =
+      record {
+        chained = λ v a b. chained-more v (leb v lines) refl a b;
+        falls = λ v a b. falls-more v (leb v lines) refl a b;
+        heads = λ i l. heads-more i (let z = ap slots long in omega arith) (ℕ-discrete i slot);
+      }

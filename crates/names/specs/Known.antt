@@ -13,11 +13,12 @@ use Rattle.aut68.specs.Rules.Names.{IsLine, Context}
 use Rattle.aut68.specs.Sizes.{lineLimit, rowWidth, atNameStart, atNameLength}
 use Rattle.lookup.specs.Identifiers.{Distinct}
 use Rattle.cells.specs.Rows.{Rows, Named}
+use Rattle.cells.specs.Links.{unlinked}
 
--- the first `lines` rows of the table are those of the lines ls, whose names stand in the book
+-- the first `lines` rows of the table, linked or not, are those of the lines ls, whose names stand in the book
 pub record Known (ls : Lines) (book tb : List ℕ) (lines : ℕ) : Type 0 where
   pub rows : Rows ls tb
-  pub named : Named ls book tb
+  pub named : Named ls book (unlinked lines tb)
   pub count : length ls ≡ lines
   pub few : lines < lineLimit
   pub contexts : {v : ℕ} {l : Line} → IsLine ls v l → Context ls (l .indicator) (l .context)

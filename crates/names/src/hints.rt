@@ -1,17 +1,23 @@
-// Hints: where in the working store a line's number is looked for, by its identifier. specs/Hints says what they promise.
+// Hints: the chains of lines in which a word is looked for. specs/Hints says what they promise.
 use constants::CELL_VALUES;
 use constants::Cell;
+use constants::LAST_LINE;
+use constants::NAME_LENGTH;
+use constants::ROW_WIDTH;
 use symbols::four_at;
 ghost use mathlib.Core.Path.{_≡_};
-ghost use Prim.Native.Nat.{_≤_, _<_};
+ghost use Prim.Native.Nat.{_*_, _≤_, _<_};
+ghost use lib.ListN.{length, getD};
+ghost use Rattle.aut68.specs.Sizes.{rowWidth};
+ghost use Rattle.cells.specs.Links.{unlinked};
 ghost use Rattle.names.specs.Hints.{mostSlots, hashOf, slots, slotOf};
-ghost use Rattle.names.specs.Posts.{NotePost};
+ghost use Rattle.names.specs.Posts.{HeadPost, LinkPost};
 
-// How many slots a search looks at.
-pub const PROBES: usize = 32;
+// A line's number stands so far above the length of an identifier.
+pub const LINK_FACTOR: usize = 65536;
 
 // How many slots there are at most.
-const MOST_SLOTS: usize = 32768;
+const MOST_SLOTS: usize = 131072;
 
 // The bytes of the word, mixed.
 fn hash(word: &[u8]) -> usize
@@ -40,31 +46,76 @@ fn slots(n: usize) -> usize
     m
 }
 
-// Where the search for the word begins, in a store of n cells.
-pub fn slot_of(word: &[u8], n: usize) -> usize
+// The slot of the word, in a store of n cells.
+fn slot_of(word: &[u8], n: usize) -> usize
     ensures { λ r. ⌜ (r ≡ slotOf n (now (word .entry))) × (r ≤ mostSlots) ⌝ }
 {
     hash(word) * slots(n) / 4294967296
 }
 
-// Notes that line v has the word as its identifier.
-pub fn note(w: &mut [Cell], word: &[u8], v: usize)
-    ensures { λ _. ⌜ NotePost (now (w .entry)) (now (w .exit)) (now (word .entry)) v ⌝ }
+// The line at the head of the word's chain; 0: none.
+pub fn head(w: &[Cell], word: &[u8]) -> usize
+    ensures { λ r. ⌜ r ≡ getD (now (w .entry)) (slotOf (length (now (w .entry))) (now (word .entry))) 0 ⌝ }
 {
+    let at = slot_of(word, w.len());
+    if at >= w.len() {
+        return 0;
+    }
+    w[at] as usize
+}
+
+// Puts line v at the head of the word's chain; the line that was there.
+pub fn put_head(w: &mut [Cell], word: &[u8], v: usize) -> usize
+    ensures { λ r. ⌜ HeadPost (now (w .entry)) (now (w .exit)) (now (word .entry)) v r ⌝ }
+{
+    let at = slot_of(word, w.len());
+    if at >= w.len() {
+        return 0;
+    }
     if v >= CELL_VALUES {
+        return 0;
+    }
+    let was = w[at] as usize;
+    w[at] = v as Cell;
+    was
+}
+
+// Links the row behind the first `lines` rows to line h.
+pub fn link(table: &mut [u32], lines: usize, h: usize)
+    ensures { λ _. ⌜ LinkPost (now (table .entry)) (now (table .exit)) lines h ⌝ }
+{
+    if lines >= LAST_LINE {
         return;
     }
-    let first = slot_of(word, w.len());
-    let mut i = 0;
-    while i < PROBES {
-        let at = first + i;
-        if at >= w.len() {
+    if h > LAST_LINE {
+        return;
+    }
+    let at = ROW_WIDTH * lines + NAME_LENGTH;
+    if at >= table.len() {
+        return;
+    }
+    let size = table[at] as usize;
+    if size >= LINK_FACTOR {
+        return;
+    }
+    let linked = size + LINK_FACTOR * h;
+    table[at] = linked as u32;
+}
+
+// Takes the links out of the first `lines` rows.
+pub fn unlink(table: &mut [u32], lines: usize)
+    ensures { λ _. ⌜ (rowWidth * lines ≤ length (now (table .entry)) → now (table .exit) ≡ unlinked lines (now (table .entry))) ⌝ }
+{
+    let mut v = 0;
+    let mut at = NAME_LENGTH;
+    while v < lines {
+        if at >= table.len() {
             return;
         }
-        if w[at] == 0 {
-            w[at] = v as Cell;
-            return;
-        }
-        i = i + 1;
+        let size = table[at] as usize;
+        let own = size % LINK_FACTOR;
+        table[at] = own as u32;
+        v = v + 1;
+        at = at + ROW_WIDTH;
     }
 }

@@ -2,7 +2,9 @@
 mod hints;
 mod names;
 
-pub use hints::note;
+pub use hints::link;
+pub use hints::put_head;
+pub use hints::unlink;
 pub use names::Part;
 pub use names::find;
 pub use names::identifier;

@@ -1,6 +1,6 @@
 // Lines by their identifiers, and identifiers by their lines. specs/Posts has the contracts.
-use crate::hints::PROBES;
-use crate::hints::slot_of;
+use crate::hints::LINK_FACTOR;
+use crate::hints::head;
 use cells::field;
 use constants::Cell;
 use constants::NAME_LENGTH;
@@ -13,7 +13,7 @@ ghost use lib.ListN.{length};
 ghost use Rattle.aut68.specs.Lines.{identifierPart, partOf};
 ghost use Rattle.aut68.specs.Bytes.{sameBytes};
 ghost use Rattle.names.specs.Known.{PartLent, identifierStart, IdentifierPlaced};
-ghost use Rattle.names.specs.Posts.{LineSought, LineIs, LineFound};
+ghost use Rattle.names.specs.Posts.{LineFound};
 
 // Is the word the n bytes of s from `first` on? No, where they are not whole in s.
 pub fn part_is(s: &[u8], first: usize, n: usize, word: &[u8]) -> bool
@@ -32,60 +32,27 @@ pub fn part_is(s: &[u8], first: usize, n: usize, word: &[u8]) -> bool
     same_bytes(word, &s[first..end])
 }
 
-// The line, of the first `lines` of the table, whose identifier is the word (numberOf), looked for in all rows; 0: none.
-fn search(book: &[u8], table: &[u32], lines: usize, word: &[u8]) -> usize
-    ensures { λ r. ⌜ LineSought (now (book .entry)) (now (table .entry)) lines (now (word .entry)) r ⌝ }
-{
-    let mut v = 0;
-    let mut at = 0;
-    while v < lines {
-        if ROW_WIDTH > table.len() - at {
-            return 0;
-        }
-        let first = table[at + NAME_START] as usize;
-        let n = table[at + NAME_LENGTH] as usize;
-        if part_is(book, first, n, word) {
-            return v + 1;
-        }
-        v = v + 1;
-        at = at + ROW_WIDTH;
-    }
-    0
-}
-
-// Does the row of line v, of the first `lines`, point to the word?
-fn line_is(book: &[u8], table: &[u32], lines: usize, v: usize, word: &[u8]) -> bool
-    ensures { λ r. ⌜ LineIs (now (book .entry)) (now (table .entry)) lines v (now (word .entry)) r ⌝ }
-{
-    if v > lines {
-        return false;
-    }
-    let first = field(table, v, NAME_START);
-    let n = field(table, v, NAME_LENGTH);
-    part_is(book, first, n, word)
-}
-
 // The line, of the first `lines` of the table, whose identifier is the word (numberOf), by the hints in w; 0: none.
 pub fn find(book: &[u8], table: &[u32], lines: usize, w: &[Cell], word: &[u8]) -> usize
     ensures { λ r. ⌜ LineFound (now (book .entry)) (now (table .entry)) lines (now (w .entry)) (now (word .entry)) r ⌝ }
 {
-    let first = slot_of(word, w.len());
-    let mut i = 0;
-    while i < PROBES {
-        let at = first + i;
-        if at >= w.len() {
-            return search(book, table, lines, word);
-        }
-        let v = w[at] as usize;
-        if v == 0 {
+    let mut v = head(w, word);
+    while v != 0 {
+        if v > lines {
             return 0;
         }
-        if line_is(book, table, lines, v, word) {
+        let start = field(table, v, NAME_START);
+        let size = field(table, v, NAME_LENGTH);
+        if part_is(book, start, size % LINK_FACTOR, word) {
             return v;
         }
-        i = i + 1;
+        let next = size / LINK_FACTOR;
+        if next >= v {
+            return 0;
+        }
+        v = next;
     }
-    search(book, table, lines, word)
+    0
 }
 
 // A part of the book: its first byte, and how many it has.

@@ -1,66 +1,62 @@
 use native.Mathlib.Omega.{arith}
-use Prim.Native.Nat.{_+_, _-_}
-use Rattle.names.proofs.ProbeLaws.{Passed, OtherName, passed-start, passed-more, found-by-rows, found-by-hint, found-nothing}
+use Rattle.names.proofs.FindLaws.{Searching, search-starts, search-on, found-here, found-nothing, found-outside, found-upward}
+use Rattle.names.proofs.LinkLaws.{link-is}
 use Rattle.names.proofs.names.find.Statement.{statement}
 use Rattle.names.proofs.names.find.Tie as tie
-use Rattle.names.specs.Hints.{probes}
 
 abbrev Inv-loop : tie.InvT-loop
-Inv-loop book table lines w word first i₀ i = Passed (OtherName book table lines word) w word first i
+Inv-loop book table lines w word v₀ v = Searching book table lines w word v
 
 abbrev μ-loop : tie.MeasureT-loop
-μ-loop book table lines w word first i₀ i = probes - i
+μ-loop book table lines w word v₀ v = v
 
-slot-of-requires : tie.Need-slot-of-requires Inv-loop μ-loop
-slot-of-requires c κs = tt
+head-requires : tie.Need-head-requires Inv-loop μ-loop
+head-requires c κs = tt
 
 loop-holds : tie.Need-loop-holds Inv-loop μ-loop
-loop-holds c = passed-start (c .slot-of .ensures .0)
-
-add-at : tie.Need-add-at Inv-loop μ-loop
-add-at c = omega arith
-
-search-requires : tie.Need-search-requires Inv-loop μ-loop
-search-requires c κs = tt
+loop-holds c = search-starts (c .head .ensures)
 
 returns : tie.Need-returns Inv-loop μ-loop
-returns c = found-by-rows (c .search .ensures)
+returns c = found-outside (c .before .before .loop .inv) (c .if1 .taken)
 
-mul-v : tie.Need-mul-v Inv-loop μ-loop
-mul-v c = omega arith
+field-requires : tie.Need-field-requires Inv-loop μ-loop
+field-requires c κs = omega arith
 
-shared-slice-read-v : tie.Need-shared-slice-read-v Inv-loop μ-loop
-shared-slice-read-v c = omega arith
+field-requires-2 : tie.Need-field-requires-2 Inv-loop μ-loop
+field-requires-2 c κs = omega arith
 
-cast-v : tie.Need-cast-v Inv-loop μ-loop
-cast-v c = omega (arith, c .shared-slice-known5 .given (c .before .before .before .before .slot-of .result + c .before .before .before .loop .i))
+part-is-requires : tie.Need-part-is-requires Inv-loop μ-loop
+part-is-requires c κs = tt
 
 returns-2 : tie.Need-returns-2 Inv-loop μ-loop
-returns-2 c = found-nothing (c .before .before .before .before .loop .inv) (omega arith) (omega arith) (c .if2 .taken)
-
-line-is-requires : tie.Need-line-is-requires Inv-loop μ-loop
-line-is-requires c κs = tt
+returns-2 c = found-here (c .before .before .before .before .before .before .loop .inv) (c .before .before .before .before .before .loop-test .taken) (c .before .before .before .field .ensures .0) (c .before .before .field2 .ensures .0) (c .before .part-is .ensures) (c .if2 .taken) (c .before .before .before .before .if1 .left)
 
 returns-3 : tie.Need-returns-3 Inv-loop μ-loop
-returns-3 c = found-by-hint (c .before .line-is .ensures) (c .if3 .taken) (c .before .before .if2 .left)
-
-add-i : tie.Need-add-i Inv-loop μ-loop
-add-i c = omega arith
+returns-3 c = found-upward (c .before .before .before .before .before .before .before .loop .inv) (c .before .before .before .before .before .before .loop-test .taken) (link-is _ _ (c .before .before .before .field2 .ensures .0)) (c .if3 .taken)
 
 loop-less : tie.Need-loop-less Inv-loop μ-loop
 loop-less c = omega arith
 
 loop-again : tie.Need-loop-again Inv-loop μ-loop
-loop-again c = passed-more (c .before .before .before .before .before .before .loop .inv) (omega arith) (λ p b. c .before .line-is .ensures .no p (c .if3 .left) b)
-
-search-requires-2 : tie.Need-search-requires-2 Inv-loop μ-loop
-search-requires-2 c κs = tt
+loop-again c = search-on (c .before .before .before .before .before .before .before .loop .inv) (c .before .before .before .before .before .before .loop-test .taken) (c .before .before .before .before .field .ensures .0) (c .before .before .before .field2 .ensures .0) (c .before .before .part-is .ensures) (c .before .if2 .left) (link-is _ _ (c .before .before .before .field2 .ensures .0)) (c .if3 .left)
 
 returns-4 : tie.Need-returns-4 Inv-loop μ-loop
-returns-4 c = found-by-rows (c .search2 .ensures)
+returns-4 c = found-nothing (c .before .loop .inv) (c .loop-test .left)
 
 pub find-spec : {M : Type 1} → statement M
 find-spec =
     tie.close
-    (tie.spec Inv-loop μ-loop slot-of-requires loop-holds add-at search-requires returns mul-v shared-slice-read-v cast-v returns-2
-    line-is-requires returns-3 add-i loop-less loop-again search-requires-2 returns-4)
+    (tie.spec
+    Inv-loop
+    μ-loop
+    head-requires
+    loop-holds
+    returns
+    field-requires
+    field-requires-2
+    part-is-requires
+    returns-2
+    returns-3
+    loop-less
+    loop-again
+    returns-4)
