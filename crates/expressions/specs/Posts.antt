@@ -19,7 +19,7 @@ use Rattle.cells.specs.Layout.{lineUnit, readerUnits}
 use Rattle.kinds.specs.Kinds.{KindsTable}
 use Rattle.cells.specs.declared.scope.Scope.{Scope}
 use Rattle.names.specs.Known.{Known}
-use Rattle.names.specs.Hints.{slots, Hinted, probes}
+use Rattle.names.specs.Hints.{slots, Hinted}
 use Rattle.meanings.specs.Bindings.{boundNames}
 use Rattle.meanings.specs.NotedContext.{ContextNoted}
 use Rattle.meanings.specs.Posts.{BindingFound}
@@ -63,7 +63,7 @@ pub record Ready (ls : Lines) (ks s book tb : List ℕ) (lines indicator : ℕ) 
   pub table : KindsTable ks
   pub known : Known ls book tb lines
   pub hinted : Hinted book tb lines w
-  pub below : slots (length w) + probes ≤ to
+  pub below : slots (length w) < to
   pub context : ContextNoted ls indicator w
   pub above : lineUnit * (length w / readerUnits) ≤ to
   pub earlier : indicator ≤ lines

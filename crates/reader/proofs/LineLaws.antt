@@ -28,7 +28,7 @@ use Rattle.headings.specs.declared.before_middle.Head.{Head}
 use Rattle.headings.specs.ReadLine.{nameOr}
 use Rattle.headings.specs.Posts.{HeadRead}
 use Rattle.names.specs.Known.{Known}
-use Rattle.names.specs.Hints.{slots, Hinted, probes}
+use Rattle.names.specs.Hints.{slots, Hinted}
 use Rattle.names.specs.HintLaws.{slots-fit, hinted-same}
 use Rattle.names.specs.Posts.{LineFound}
 use Rattle.meanings.specs.Posts.{ContextPost}
@@ -74,7 +74,7 @@ module _ {ks s book tb : List ℕ} {lines limit : ℕ} {w : List ℕ} {h : Head}
 -- ---- a line whose heading was read
 
 -- a search for a name stays below what is noted of the line's context
-hints-below : {limit n : ℕ} → smallestLimit ≤ limit → n ≡ readerUnits * limit → slots n + probes ≤ contextUnit * limit
+hints-below : {limit n : ℕ} → smallestLimit ≤ limit → n ≡ readerUnits * limit → slots n < contextUnit * limit
 hints-below {limit} large long = omega (arith, ap slots long, slots-fit limit large)
 
 -- the name of the line p, as it was looked up

@@ -24,7 +24,7 @@ use Rattle.cells.specs.Layout.{contextUnit, lineUnit, readerUnits}
 use Rattle.kinds.specs.Kinds.{KindsTable}
 use Rattle.headings.specs.ReadLine.{afterHeading}
 use Rattle.names.specs.Known.{Known}
-use Rattle.names.specs.Hints.{slots, Hinted, probes}
+use Rattle.names.specs.Hints.{slots, Hinted}
 use Rattle.meanings.specs.NotedContext.{ContextNoted}
 use Rattle.expressions.specs.declared.parts.Reading.{Reading}
 use Rattle.expressions.specs.Walk as Walk
@@ -55,7 +55,7 @@ pub record Lookup (ls : Lines) (ks s book tb : List ℕ) (lines indicator : ℕ)
   pub table : KindsTable ks
   pub known : Known ls book tb lines
   pub hinted : Hinted book tb lines w
-  pub below : slots (length w) + probes ≤ to
+  pub below : slots (length w) < to
   pub context : ContextNoted ls indicator w
   pub above : lineUnit * (length w / readerUnits) ≤ to
   pub earlier : indicator ≤ lines
