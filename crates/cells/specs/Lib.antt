@@ -1,5 +1,6 @@
 -- What the code says of cells and rows.
 pub mod Cells
+pub mod Widths
 pub mod Numbers
 pub mod Rows
 pub mod Layout

@@ -1,13 +1,15 @@
 -- Tests of the procedure, and what they tell.
 use mathlib.Core.Path.{_≡_, refl, ap₂}
-use Prim.Native.Nat.{ℕ, _≤_}
+use Prim.Native.Nat.{ℕ, suc, _≤_, _<_}
 use native.Mathlib.Omega.{arith}
 use mathlib.Core.Bool.{Bool, true, false, _&&_, false≢true}
-use borrow.Author.Tests.{leb-true, le-leb}
+use lib.ListN.{length}
+use borrow.Author.Tests.{leb-true, le-leb, ltb-true, lt-ltb}
 use Rattle.aut68.specs.Sizes.{nesting}
+use Rattle.aut68.specs.Stores.{Limits, Larger}
 use Rattle.aut68.specs.Expr.{Expr, size, levels}
-use Rattle.aut68.specs.Lines.{Kind, variable, primitive, abbreviation}
-use Rattle.aut68.specs.Procedure.CheckLine.{withinLimits, middleWithinLimits}
+use Rattle.aut68.specs.Lines.{Line, Lines, Kind, variable, primitive, abbreviation}
+use Rattle.aut68.specs.Procedure.CheckLine.{withinLimits, middleWithinLimits, room}
 
 pub and-true : (s t : Bool) → (s && t) ≡ true → (s ≡ true) × (t ≡ true)
 and-true true true e = (refl, refl)
@@ -38,3 +40,15 @@ unfolding middleWithinLimits
 larger-middle-within h variable t = t
 larger-middle-within h primitive t = t
 larger-middle-within h (abbreviation m) t = larger-within h m t
+
+-- a line that has room has it under larger limits
+pub larger-room : {m m′ : Limits} → Larger m m′ → (ls : Lines) (l : Line) → room ls m l ≡ true → room ls m′ l ≡ true
+unfolding room
+larger-room {m} {m′} h ls l e =
+    let (front, index) = and-true _ _ e in
+    let (numbered, terms) = and-true _ _ front in
+    let (below, table) = and-true _ _ numbered in
+    let k = h .lines in
+    let n : suc (length ls) < m .lines = ltb-true _ _ below in
+    let n′ : suc (length ls) < m′ .lines = omega arith in
+    rw (h .sameTable, h .sameTerms, h .sameIndex) (ap₂ _&&_ (ap₂ _&&_ (ap₂ _&&_ (lt-ltb _ _ n′) table) terms) index)

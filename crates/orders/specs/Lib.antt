@@ -1,5 +1,7 @@
 -- Larger limits and new orders: what document 01's demand 3 claims, proved in both languages.
 pub mod Limits
+-- The line limit as a parameter.
+pub mod LineLimits
 -- The renumbering lemma: steps, categories, names and derivations over lines with new numbers.
 pub mod Renumbering
 pub mod RenumberedSteps

@@ -9,23 +9,23 @@ use lib.Dec.{leb, ltb, eqb}
 use lib.ListN.{length}
 use Rattle.aut68.specs.Language.{Language, aut68, autQE}
 use Rattle.aut68.specs.Sizes.{smallestLimit, nesting}
-use Rattle.aut68.specs.Stores.{Limits, Larger}
+use Rattle.aut68.specs.Stores.{Stores, Limits, Larger}
 use Rattle.aut68.specs.Bytes.{Bytes, lines}
 use Rattle.aut68.specs.Expr.{Expr, Exprs, type, prop, var, bound, const, app, abs, nil, cons, snoc, size, isSort, Shape, shape, abstraction, other, firstCell, parts, overBinding}
 use Rattle.aut68.specs.Substitution.{lift, substitute, instantiate}
 use Rattle.aut68.specs.Lines.{Line, Lines, Kind, variable, primitive, abbreviation}
-use Rattle.aut68.specs.Procedure.Answer.{Answer, stop, Act, aside, done, _>>=_, refuse, notFunction, notType, tooLarge}
+use Rattle.aut68.specs.Procedure.Answer.{Answer, stop, Act, aside, done, _>>=_, refuse, notFunction, notType, tooLarge, outOfSpace}
 use Rattle.aut68.specs.Procedure.HeadStep.{headStep, left}
 use Rattle.aut68.specs.Procedure.Compare.{Next, same, byParts, stepLeft, stepRight, next, Comparison, each, hasSurplus, compareParts, sides, compareAt, compare}
 use Rattle.aut68.specs.Procedure.Category.{nth, theLine, made, headForm, toFunction, servesAsType, opens, Search, secondChance, categoryAt, arguments, searches, category}
 use Rattle.aut68.specs.Procedure.Category
-use Rattle.aut68.specs.Procedure.CheckLine.{Passed, readLine, room, store, checkDomain, checkSupertype, checkWritten, checkMiddle, checkCategories, checkLine}
-use Rattle.aut68.specs.Procedure.Run.{Recorded, accepted, refusedAt, codeAt, lineAt, stepsAt, tableEnd, termsEnd, indexEnd, checkLines, nothing, run}
-use Rattle.aut68.specs.Demands.{Verdict, LargerLimits, Admitted}
+use Rattle.aut68.specs.Procedure.CheckLine.{Passed, readLine, store, checkDomain, checkSupertype, checkWritten, checkMiddle, checkCategories, checkLine}
+use Rattle.aut68.specs.Procedure.Run.{Recorded, Ending, accepted, refusedAt, codeAt, lineAt, stepsAt, tableEnd, termsEnd, indexEnd, checkLines, nothing, run}
+use Rattle.aut68.specs.Demands.{Verdict, SameResult, LargerLimits, Admitted}
 use Rattle.lookup.specs.Runs.{run-admitted, verdict-admitted, verdict-decides}
-use Rattle.lookup.specs.Answers.{Decides, large-undecided, spent-undecided, Kept, Grows, grows-give, grows-refuse, grows-then, grows-ensure, grows-size, grows-aside}
-use Rattle.lookup.specs.Answers.{stays-same, stays-then, stays-size, larger}
-use Rattle.lookup.specs.Tests.{larger-within, larger-middle-within}
+use Rattle.lookup.specs.Answers.{Decides, large-undecided, spent-undecided, Kept, Grows, grows-give, grows-refuse, grows-then, grows-ensure, grows-test, grows-aside}
+use Rattle.lookup.specs.Answers.{space-undecided, stays-same, stays-then, stays-size, larger}
+use Rattle.lookup.specs.Tests.{larger-within, larger-middle-within, larger-room}
 
 -- ---- comparison
 
@@ -123,7 +123,7 @@ module _ (language : Language) (ls : Lines) {L L′ : ℕ} (hL : L ≤ L′) whe
 
   grows-made : (e : Expr) → Grows (made L e) (made L′ e)
   unfolding made
-  grows-made e = grows-then (grows-size hL (size e)) (λ _. grows-give)
+  grows-made e = grows-then (grows-test tooLarge large-undecided _ _ (larger (size e) hL)) (λ _. grows-give)
 
   form-none : (c d : ℕ) → c ≡ 0 + d → (f : Expr) (s : Shape) → shape f ≡ s → (o : Option Expr) → left (headStep ls f) ≡ o → Kept d (headForm ls L f zero) (headForm ls L′ f c)
   unfolding headForm
@@ -302,17 +302,28 @@ module _ (language : Language) (ls : Lines) {L L′ : ℕ} (hL : L ≤ L′) whe
 
 -- a line, the table, the shelf and the index being as long
 grows-line : (language : Language) (ls : Lines) (m m′ : Limits) → Larger m m′ → (bytes : Bytes) → Grows (checkLine language ls m bytes) (checkLine language ls m′ bytes)
-unfolding checkLine store room
+unfolding checkLine store
 grows-line language ls m m′ h bytes =
-    rw (h .sameTable, h .sameTerms, h .sameIndex)
-    (grows-then (grows-read language ls (h .limit) bytes) λ p.
-    grows-then (grows-ensure _ _) λ _.
+    grows-then (grows-read language ls (h .limit) bytes) λ p.
+    grows-then (grows-test outOfSpace space-undecided _ _ (larger-room h ls (p .line))) λ _.
     grows-then (grows-categories language ls (h .limit) (p .line)) λ _.
-    grows-give)
+    grows-give
+
+-- ---- books
+
+-- equal endings give equal results
+pub same-result : {e e′ : Ending} (s : Stores) → e′ ≡ e → SameResult e e′ s
+same-result s q =
+    record {
+      code = ap codeAt q;
+      line = ap lineAt q;
+      steps = ap stepsAt q;
+      tableCells = ap (λ x. tableEnd x (s .table)) q;
+      termsCells = ap (λ x. termsEnd x (s .terms)) q;
+      indexCells = ap (λ x. indexEnd x (s .index)) q;
+    }
 
 module _ (language : Language) where
-  -- ---- books
-
   module _ {m m′ : Limits} (h : Larger m m′) (d : ℕ) (more : m′ .budget ≡ m .budget + d) where
     lines-same : (pieces : List Bytes) (k : Recorded) (at b c : ℕ) → c ≡ b + d
         → Verdict (checkLines language m k at b pieces)
@@ -348,13 +359,4 @@ module _ (language : Language) where
 
   pub larger-limits : LargerLimits language
   unfolding LargerLimits
-  larger-limits book m m′ s h v =
-      let e = same-ending book m m′ h v in
-      record {
-        code = ap codeAt e;
-        line = ap lineAt e;
-        steps = ap stepsAt e;
-        tableCells = ap (λ x. tableEnd x (s .table)) e;
-        termsCells = ap (λ x. termsEnd x (s .terms)) e;
-        indexCells = ap (λ x. indexEnd x (s .index)) e;
-      }
+  larger-limits book m m′ s h v = same-result s (same-ending book m m′ h v)

@@ -6,3 +6,4 @@ pub mod Indexed
 pub mod Runs
 pub mod Bounds
 pub mod OnRecord
+pub mod Widths

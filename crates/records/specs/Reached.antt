@@ -53,7 +53,7 @@ indicators-before d v l i = below (l .indicator) (named-mentions (λ u. (1 ≤ u
 
 module _ (ls : Lines) (m : Limits) (l : Line) where
   pub record HasRoom : Type 0 where
-    pub fewLines : suc (length ls) < lineLimit
+    pub fewLines : suc (length ls) < m .lines
     pub rowFits : rowWidth * suc (length ls) ≤ m .table
     pub cellsFit : length (termsOf ls) + length (lineCells l) ≤ m .terms
     pub entryFits : length (indexOf ls) + length (entryOf l) ≤ m .index
@@ -61,10 +61,10 @@ module _ (ls : Lines) (m : Limits) (l : Line) where
   pub room-is : room ls m l ≡ true → HasRoom
   unfolding room
   room-is h =
-      go (ltb (suc (length ls)) lineLimit) (leb (rowWidth * suc (length ls)) (m .table)) (leb (length (termsOf ls) + length (lineCells l)) (m .terms))
+      go (ltb (suc (length ls)) (m .lines)) (leb (rowWidth * suc (length ls)) (m .table)) (leb (length (termsOf ls) + length (lineCells l)) (m .terms))
       (leb (length (indexOf ls) + length (entryOf l)) (m .index)) refl refl refl refl h
     where
-      go : (a b c d : Bool) → ltb (suc (length ls)) lineLimit ≡ a → leb (rowWidth * suc (length ls)) (m .table) ≡ b → leb (length (termsOf ls) + length (lineCells l)) (m .terms) ≡ c
+      go : (a b c d : Bool) → ltb (suc (length ls)) (m .lines) ≡ a → leb (rowWidth * suc (length ls)) (m .table) ≡ b → leb (length (termsOf ls) + length (lineCells l)) (m .terms) ≡ c
           → leb (length (indexOf ls) + length (entryOf l)) (m .index) ≡ d → (a && b && c && d) ≡ true → HasRoom
       go true true true true p q r s h = record { fewLines = ltb-true _ _ p; rowFits = leb-true _ _ q; cellsFit = leb-true _ _ r; entryFits = leb-true _ _ s }
       go false b c d p q r s h = absurd (false≢true h)
