@@ -10,11 +10,12 @@ use lib.ListN.{length, take, drop, length-take}
 use lib.Seq.{slice, sets, drop-at, length-slice}
 use borrow.Author.Tests.{not-true, not-false}
 use Rattle.aut68.specs.Language.{aut68}
-use Rattle.aut68.specs.Sizes.{lineLimit, rowWidth, largestLimit, workUnits, bookLimit}
+use Rattle.aut68.specs.Sizes.{lineLimit, rowWidth, atNameLength, largestLimit, workUnits, bookLimit}
 use Rattle.aut68.specs.Stores.{Stores, Limits, limitsOf}
 use Rattle.aut68.specs.Bytes.{Bytes, lines}
 use Rattle.aut68.specs.Expr.{size, cells}
-use Rattle.aut68.specs.Lines.{kindCells, lineCells, termsOf, tableOf, rowOf}
+use Rattle.aut68.specs.Lines.{kindCells, lineCells, termsOf, tableOf, rowOf, rowCell}
+use Rattle.aut68.specs.Lines as Lines
 use Rattle.aut68.specs.Index.{entryOf, indexOf}
 use Rattle.aut68.specs.Procedure.Answer.{done, andThen, codeOf}
 use Rattle.aut68.specs.Procedure.CheckLine.{Passed, readLine, checkLine, room}
@@ -23,8 +24,9 @@ use Rattle.aut68.specs.Procedure.Run.{Recorded}
 use Rattle.lookup.specs.DerivedBooks.{right-contexts}
 use Rattle.calculus.specs.Resolved.{resolved-known, category-known}
 use Rattle.inclusion.specs.Derivations.{line-middle, line-category, category-ends}
-use Rattle.cells.specs.Layout.{namesAt, lineUnit}
+use Rattle.cells.specs.Layout.{namesAt, lineUnit, readerUnits}
 use Rattle.cells.specs.Forests.{size-is-length}
+use Rattle.cells.specs.Links.{linkFactor, unlinked, unlinked-long}
 use Rattle.cells.specs.Results.{Result, passed, refused}
 use Rattle.kinds.specs.Kinds.{KindsTable}
 use Rattle.headings.specs.Posts.{LineEnd}
@@ -33,16 +35,16 @@ use Rattle.reader.specs.Posts as Reader
 use Rattle.reader.specs.declared.lines.Line.{Line}
 use Rattle.categories.specs.Places.{LineCells}
 use Rattle.records.specs.Tables.{table-long, spelled-long, over-long}
-use Rattle.records.specs.OnRecord.{reached-known, reached-book}
+use Rattle.records.specs.OnRecord.{reached-known, reached-book, book-linked}
 use Rattle.records.specs.ReadLines.{LineRead, line-read}
 use Rattle.records.specs.Reached.{Reached, HasRoom, room-is, reached-more, slice-is, context-before}
 use Rattle.records.specs.Indexed.{Indexed, indexed-more}
-use Rattle.records.specs.Bounds.{used-small, line-cells-fit, size-small, stored-cells, row-small}
+use Rattle.records.specs.Bounds.{used-small, line-cells-fit, size-small, stored-cells, row-small, name-short}
 use Rattle.entries.specs.Posts.{NamesPut, NamesPost, EntryPost}
 use Rattle.books.specs.Progress.{Fitting, ToStore, StoredPost, NotedLine, HintedIn, LineResult, LinePost, passed, refused}
 use Rattle.books.specs.Progress as P
 use Rattle.books.proofs.EntryLaws.{read-still, below-names, entry-long, entry-put}
-use Rattle.books.proofs.HintLaws.{hinted-on}
+use Rattle.books.proofs.HintLaws.{second-cell, hinted-on, row-on}
 use Rattle.books.proofs.ReadLaws.{result-done, result-stop, not-read, no-room, by-categories}
 
 -- where a line ends, and what is recorded, under other names
@@ -59,7 +61,12 @@ reached-as e f g h = rw (e, f, g) h
 indexed-as : {s : Stores} {k : Recorded} {n n′ : ℕ} {ix ix′ : List ℕ} → n′ ≡ n → ix′ ≡ ix → Indexed s k n ix → Indexed s k n′ ix′
 indexed-as e f h = rw (e, f) h
 
-module _ {book : Bytes} {N limit : ℕ} {s₀ : Stores} {k : Recorded} {n used entries : ℕ} {tb ts ix : List ℕ} (h : Reached aut68 book N limit s₀ k n used tb ts)
+-- the length of an identifier in the row that is written
+row-length : (tb : List ℕ) (n : ℕ) → rowWidth * suc n ≤ length tb → (l : Lines.Line) (used at : ℕ) → rowCell (sets tb (rowWidth * n) (rowOf at used l)) (suc n) atNameLength ≡ length (l .identifier)
+unfolding rowOf
+row-length tb n room l used at = second-cell tb n at (length (l .identifier)) (drop 2 (rowOf at used l)) room
+
+module _ {book : Bytes} {N limit : ℕ} {s₀ : Stores} {k : Recorded} {n used entries : ℕ} (tb : List ℕ) {ts ix : List ℕ} (h : Reached aut68 book N limit s₀ k n used (unlinked n tb) ts)
     (j : Indexed s₀ k entries ix) where
   abbrev limits : Limits
   limits = limitsOf N limit s₀
@@ -68,7 +75,7 @@ module _ {book : Bytes} {N limit : ℕ} {s₀ : Stores} {k : Recorded} {n used e
   table-same =
       let a = h .tableRoom in
       let q = h .linesAre in
-      ap length (h .tableIs) ∙ over-long (tableOf (k .firsts) (k .recorded)) (s₀ .table) (omega (arith, table-long (k .firsts) (k .recorded) (spelled-long (h .spelled))))
+      sym (unlinked-long n tb) ∙ ap length (h .tableIs) ∙ over-long (tableOf (k .firsts) (k .recorded)) (s₀ .table) (omega (arith, table-long (k .firsts) (k .recorded) (spelled-long (h .spelled))))
 
   terms-same : length ts ≡ length (s₀ .terms)
   terms-same =
@@ -88,7 +95,7 @@ module _ {book : Bytes} {N limit : ℕ} {s₀ : Stores} {k : Recorded} {n used e
   line-result : {bytes ks w w′ : List ℕ} {x : Line} → length bytes ≤ length book → Fitting book limit w → KindsTable ks → HintedIn limit book tb n w
       → LineReadTo ks bytes book tb n limit w w′ x → Result (Reader.LineRead bytes w′ (lineUnit * limit) x) (x .code) tt (readLine aut68 (k .recorded) limit bytes tt)
   line-result part f ks hints post =
-      post .read (k .recorded) ks (reached-known h) (let s = f .short in omega arith) (f .large) (let e = f .enough in omega arith) hints
+      post .read (k .recorded) ks (reached-known tb h) (let s = f .short in omega arith) (f .large) (let e = f .enough in omega arith) hints
 
   -- ---- stored
 
@@ -123,7 +130,7 @@ module _ {book : Bytes} {N limit : ℕ} {s₀ : Stores} {k : Recorded} {n used e
           cellsAt = a .cellsAt;
           enough = enough;
           few = few;
-          book = reached-book h small _ (lineCells (p .line)) e;
+          book = book-linked n tb (reached-book h small _ (lineCells (p .line)) e);
           cells = line-cells _ (x .middle) (omega (arith, length-take (used + x .size) (sets ts used (lineCells (p .line))))) e (a .middleIs);
         }
 
@@ -234,8 +241,8 @@ module _ {book : Bytes} {N limit : ℕ} {s₀ : Stores} {k : Recorded} {n used e
               λ i. (e ∙ ap (λ (j : ℕ). at + j) (a .firstIs)) i ∷ a .lenIs i ∷ a .indicatorIs i ∷ a .contextIs i ∷ a .kindIs i ∷ used ∷ (used + a .middleIs i) ∷ (used + a .sizeIs i) ∷ []
 
           -- it is recorded
-          pub ends-passed : code′ ≡ 0 → {w₃ ix′ : List ℕ} {to : ℕ} → (1 ≤ limit → limit ≤ largestLimit → to ≡ namesAt limit) → EntryPost ix entries w₂ to count ix′ → NotedLine book tb′ n limit w₂ w₃
-              → LineResult book N limit s₀ k at n budget tb ts ix 0 next (n + 1) (used + x .size) (entries + count + 1) left tb′ ts′ ix′ w₃
+          pub ends-passed : code′ ≡ 0 → {w₃ ix′ : List ℕ} {to : ℕ} → (1 ≤ limit → limit ≤ largestLimit → to ≡ namesAt limit) → EntryPost ix entries w₂ to count ix′ → {tb″ : List ℕ} → NotedLine book tb′ tb″ n limit w₂ w₃
+              → LineResult book N limit s₀ k at n budget tb ts ix 0 next (n + 1) (used + x .size) (entries + count + 1) left tb″ ts′ ix′ w₃
           unfolding andThen
           ends-passed c {to = to} place entry noted =
               let (t, e, z) = result-done c (checked .means stores) in
@@ -256,10 +263,15 @@ module _ {book : Bytes} {N limit : ℕ} {s₀ : Stores} {k : Recorded} {n used e
               entry-put one long (here .named) ix entries (place one (f .small)) (checked .long) (checked .below (f .small)) (f .small)
               (let i = room .entryFits in let q = j .entriesAre in omega (arith, index-same, size)) entry
               in
-              let hinted =
-              hinted-on (f .large) w w₂ (let e = f .enough in omega arith) (omega (arith, checked .long, names .long, post .outside .long)) (below-names names w₂ (post .outside) (checked .below (f .small)))
-              (rowOf (at + p .before) used (p .line)) tables
-              (let i = room .fewLines in let j = h .linesAre in omega arith) (let i = room .rowFits in let j = h .linesAre in omega (arith, table-same)) noted hints
+              let few : suc n < lineLimit = let i = room .fewLines in let j = h .linesAre in omega arith in
+              let row-fits : rowWidth * suc n ≤ length tb = let i = room .rowFits in let j = h .linesAre in omega (arith, table-same) in
+              let small : rowCell tb′ (suc n) atNameLength < linkFactor =
+              omega (arith, ap (λ (t : List ℕ). rowCell t (suc n) atNameLength) tables, row-length tb n row-fits (p .line) used (at + p .before), name-short R)
               in
-              P.passed cut ends-at done refl (reached-as (ap (λ (i : ℕ). used + i) (here .is .sizeIs)) tables (z .termsAre) more)
+              let long-w₂ : length w₂ ≡ length w = omega (arith, checked .long, names .long, post .outside .long) in
+              let unread = below-names names w₂ (post .outside) (checked .below (f .small)) in
+              let enough : readerUnits * limit ≤ length w = let e = f .enough in omega arith in
+              let hinted = hinted-on (f .large) w w₂ enough long-w₂ unread hints (rowOf (at + p .before) used (p .line)) tb′ _ _ tables few row-fits small noted in
+              let rows = row-on (f .large) w w₂ enough long-w₂ unread hints (rowOf (at + p .before) used (p .line)) tb′ _ _ tables few row-fits small noted in
+              P.passed cut ends-at done refl (reached-as (ap (λ (i : ℕ). used + i) (here .is .sizeIs)) rows (z .termsAre) more)
               (indexed-as (omega (arith, size)) index (indexed-more j at p (room .entryFits))) hinted

@@ -14,7 +14,9 @@ use entries::put_entry;
 use headings::line_end;
 use kinds::kinds_of_bytes;
 use names::identifier;
-use names::note;
+use names::link;
+use names::put_head;
+use names::unlink;
 use reader::Line;
 use reader::read_line;
 use storage::Room;
@@ -29,6 +31,7 @@ ghost use Rattle.aut68.specs.Language.{aut68};
 ghost use Rattle.aut68.specs.Stores.{stores, limitsOf};
 ghost use Rattle.aut68.specs.Bytes.{lines};
 ghost use Rattle.aut68.specs.Procedure.Run.{nothing, checkLines};
+ghost use Rattle.cells.specs.Links.{unlinked};
 ghost use Rattle.books.specs.Progress.{Fitting, StoredPost, NotedLine, LinePost, LinesPost};
 
 // Where the check of a book is. code: 0, or the refusal of line lines + 1. at: the next byte. lines, used, entries: the rows, the
@@ -86,9 +89,9 @@ fn check_stored(
     c
 }
 
-// Notes the line whose row was written behind the first `lines` rows.
-fn note_line(book: &[u8], table: &[u32], lines: usize, w: &mut [Cell], limit: usize)
-    ensures { λ _. ⌜ NotedLine (now (book .entry)) (now (table .entry)) lines limit (now (w .entry)) (now (w .exit)) ⌝ }
+// Notes the line whose row was written behind the first `lines` rows for name lookup.
+fn note_line(book: &[u8], table: &mut [u32], lines: usize, w: &mut [Cell], limit: usize)
+    ensures { λ _. ⌜ NotedLine (now (book .entry)) (now (table .entry)) (now (table .exit)) lines limit (now (w .entry)) (now (w .exit)) ⌝ }
 {
     if lines >= LAST_LINE {
         return;
@@ -99,11 +102,12 @@ fn note_line(book: &[u8], table: &[u32], lines: usize, w: &mut [Cell], limit: us
     let n = READER_UNITS * limit;
     let v = lines + 1;
     let word = identifier(book, table, v as u32);
-    note(&mut w[..n], word, v);
+    let before = put_head(&mut w[..n], word, v);
+    link(table, lines, before);
 }
 
 // The line that starts at p.at (checkLine), behind the first p.lines lines. Passed: its row, its cells and its entry are written, and
-// every other cell of table, terms and index is as it was. Refused: table, terms and index are as they were.
+// every other cell of table, terms and index is as it was. Refused: table, terms and index are as they were. The rows are linked.
 fn check_line(
     book: &[u8],
     kinds: &[u8; 256],
@@ -154,9 +158,8 @@ fn check_line(
     }
 }
 
-// The lines of the book, one after the other, up to the first that is refused (checkLines). No line is hinted at first, whatever
-// the cells hold; that they are empty saves searches.
-pub fn check_lines(
+// The lines of the book, one after the other, up to the first that is refused (checkLines). The rows stay linked.
+fn check_linked(
     book: &[u8],
     table: &mut [u32],
     terms: &mut [Cell],
@@ -166,7 +169,7 @@ pub fn check_lines(
     budget: u32,
 ) -> Progress
     requires { ⌜ Fitting (now book) limit (now w) ⌝ }
-    ensures { λ r. ⌜ ((work : List ℕ) → LinesPost (checkLines aut68 (limitsOf budget limit (stores (now (table .entry)) (now (terms .entry)) work (now (index .entry)))) nothing 0 budget (lines (now (book .entry)))) budget (now (table .entry)) (now (terms .entry)) (now (index .entry)) (r .code) (r .lines) (r .budget) (now (table .exit)) (now (terms .exit)) (now (index .exit))) ⌝ }
+    ensures { λ r. ⌜ ((work : List ℕ) → LinesPost (checkLines aut68 (limitsOf budget limit (stores (now (table .entry)) (now (terms .entry)) work (now (index .entry)))) nothing 0 budget (lines (now (book .entry)))) budget (now (table .entry)) (now (terms .entry)) (now (index .entry)) (r .code) (r .lines) (r .budget) (unlinked (r .lines) (now (table .exit))) (now (terms .exit)) (now (index .exit))) ⌝ }
 {
     let kinds = kinds_of_bytes();
     let hints = line_at(limit);
@@ -185,5 +188,24 @@ pub fn check_lines(
             return p;
         }
     }
+    p
+}
+
+// The lines of the book, one after the other, up to the first that is refused (checkLines).
+pub fn check_lines(
+    book: &[u8],
+    table: &mut [u32],
+    terms: &mut [Cell],
+    index: &mut [u32],
+    w: &mut [Cell],
+    limit: usize,
+    budget: u32,
+) -> Progress
+    requires { ⌜ Fitting (now book) limit (now w) ⌝ }
+    ensures { λ r. ⌜ ((work : List ℕ) → LinesPost (checkLines aut68 (limitsOf budget limit (stores (now (table .entry)) (now (terms .entry)) work (now (index .entry)))) nothing 0 budget (lines (now (book .entry)))) budget (now (table .entry)) (now (terms .entry)) (now (index .entry)) (r .code) (r .lines) (r .budget) (now (table .exit)) (now (terms .exit)) (now (index .exit))) ⌝ }
+{
+    let p = check_linked(book, table, terms, index, w, limit, budget);
+    let lines = p.lines;
+    unlink(table, lines);
     p
 }

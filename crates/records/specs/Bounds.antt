@@ -7,14 +7,16 @@ use native.Mathlib.Omega.{arith}
 use lib.ListN.{length, take, drop, length-append}
 use lib.Seq.{sets, take-at}
 use Rattle.aut68.specs.Language.{Language}
-use Rattle.aut68.specs.Sizes.{lineLimit, largestLimit, bookLimit}
+use Rattle.aut68.specs.Sizes.{lineLimit, largestLimit, bookLimit, nameLimit}
 use Rattle.aut68.specs.Stores.{Stores, limitsOf}
 use Rattle.aut68.specs.Bytes.{Bytes}
 use Rattle.aut68.specs.Expr.{cells}
 use Rattle.aut68.specs.Lines.{Line, Lines, Kind, variable, primitive, abbreviation, kindCells, kindNumber, lineCells, termsOf, rowOf}
+use Rattle.aut68.specs.Source.{SourceLine}
 use Rattle.aut68.specs.Procedure.CheckLine.{Passed}
 use Rattle.aut68.specs.Procedure.Run.{Recorded, over}
 use Rattle.aut68.specs.Rules.Names.{IsLine, first, later, Context, noContext, within}
+use Rattle.aut68.specs.Rules.Grammar.{WellFormed, line}
 use Rattle.cells.specs.Cells.{Below}
 use Rattle.records.specs.Tables.{Holds, over-more}
 use Rattle.records.specs.ReadLines.{LineRead}
@@ -37,7 +39,13 @@ terms-bound L (l ∷ ls) h =
     let c = line-cells-bound L l (h 1 l first) in
     omega (arith, r, c, length-append (lineCells l) (termsOf ls), add-mul 1 (length ls) (2 * L))
 
--- a line that is read has at most two units of cells
+form-name-short : {language : Language} {s : SourceLine} {bytes : Bytes} → WellFormed language s bytes → length (s .identifier) ≤ nameLimit
+form-name-short (line i a n b c m d e f) = n .atMost
+
+-- a line that is read has an identifier of at most 32 bytes, and at most two units of cells
+pub name-short : {language : Language} {ls : Lines} {L : ℕ} {bytes : Bytes} {p : Passed} → LineRead language ls L bytes p → length (p .line .identifier) ≤ nameLimit
+name-short r = omega (arith, ap length (r .reading .identifierIs), form-name-short (r .reading .form))
+
 pub line-cells-fit : {language : Language} {ls : Lines} {L : ℕ} {bytes : Bytes} {p : Passed} → LineRead language ls L bytes p → length (lineCells (p .line)) ≤ 2 * L
 line-cells-fit {L = L} {p = p} r = line-cells-bound L (p .line) (record { middleSize = r .middleFits; categorySize = r .categoryFits })
 

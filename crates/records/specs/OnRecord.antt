@@ -1,5 +1,5 @@
--- What an accepted book gives: its lines have derivations, and table, term store and book say of them what the functions on names
--- (`Known`) and on expressions (`Book`) rely on. A call on an accepted book starts from here.
+-- What is recorded gives what the functions on names (`Known`) and on expressions (`Book`) rely on; while a book is checked, from rows that
+-- are linked. A call on an accepted book starts from `on-record`.
 use mathlib.Core.Path.{_≡_, refl, sym}
 use mathlib.Core.List.{List, [], _++_}
 use Prim.Native.Nat.{ℕ, _≤_}
@@ -18,6 +18,7 @@ use Rattle.lookup.specs.Runs.{verdict-admitted}
 use Rattle.inclusion.specs.Books.{built-right}
 use Rattle.inclusion.specs.Derivations.{derived-built}
 use Rattle.cells.specs.Forests.{size-is-length}
+use Rattle.cells.specs.Links.{unlinked, rows-linked, stored-linked}
 use Rattle.names.specs.Known.{Known}
 use Rattle.heads.specs.Book.{Book}
 use Rattle.records.specs.Tables.{held-rows, held-stored, held-named}
@@ -28,15 +29,14 @@ use Rattle.records.specs.Runs.{run-reached}
 pub record OnRecord (language : Language) (book : Bytes) (L : ℕ) (ls : Lines) (tb ts : List ℕ) : Type 0 where
   pub past : List Bytes
   pub derived : Derived language [] past ls
-  pub known : Known ls book tb (length ls)
   pub held : Book ls L tb ts
 
-module _ {language : Language} {book : Bytes} {N L : ℕ} {s : Stores} {k : Recorded} {n used : ℕ} {tb ts : List ℕ} (h : Reached language book N L s k n used tb ts) where
-  -- the rows and names of the recorded lines
-  pub reached-known : Known (k .recorded) book tb n
-  reached-known =
+-- the rows and names of the recorded lines, where the rows are linked
+pub reached-known : {language : Language} {book : Bytes} {N L : ℕ} {s : Stores} {k : Recorded} {n used : ℕ} (tb : List ℕ) {ts : List ℕ} → Reached language book N L s k n used (unlinked n tb) ts
+    → Known (k .recorded) book tb n
+reached-known {n = n} tb h =
       record {
-        rows = held-rows (reached-stores h);
+        rows = rows-linked n tb (held-rows (reached-stores h));
         named = held-named (reached-stores h);
         count = sym (h .linesAre);
         few = h .few;
@@ -45,6 +45,22 @@ module _ {language : Language} {book : Bytes} {N L : ℕ} {s : Stores} {k : Reco
         behind = λ i. indicators-before (h .derived) _ _ i;
       }
 
+-- what rows and cells say of the lines hangs on no link
+pub book-linked : (n : ℕ) (tb : List ℕ) {ls : Lines} {L : ℕ} {ts : List ℕ} → Book ls L (unlinked n tb) ts → Book ls L tb ts
+book-linked n tb B =
+    record {
+      few = B .few;
+      rows = rows-linked n tb (B .rows);
+      stored = stored-linked n tb (B .stored);
+      resolved = B .resolved;
+      contexts = B .contexts;
+      earlier = B .earlier;
+      middleSize = B .middleSize;
+      categorySize = B .categorySize;
+      limit = B .limit;
+    }
+
+module _ {language : Language} {book : Bytes} {N L : ℕ} {s : Stores} {k : Recorded} {n used : ℕ} {tb ts : List ℕ} (h : Reached language book N L s k n used tb ts) where
   -- their rows and cells, also where the term store has other cells behind theirs
   pub reached-book : L ≤ largestLimit → (cs rest : List ℕ) → cs ≡ termsOf (k .recorded) ++ rest → Book (k .recorded) L tb cs
   reached-book small cs rest e =
@@ -73,6 +89,5 @@ module _ (language : Language) (book : Bytes) (N L : ℕ) (s : Stores) where
       record {
         past = h .past;
         derived = h .derived;
-        known = reached-known h;
         held = reached-book h (verdict-admitted language book (limitsOf N L s) v .atMost) _ (drop (length (termsOf (recordedAt ending .recorded))) (s .terms)) refl;
       }

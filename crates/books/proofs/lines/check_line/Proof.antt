@@ -44,7 +44,7 @@ returns c =
     line-as (c .stopped .ensures)
     (record {
       onward = λ z. absurd (c .before .if1 .taken z);
-      means = λ f t h j i. ends-unread h j (a .p .budget) (start .pre) (e .ensures) f t i (r .ensures) (c .before .if1 .taken);
+      means = λ f t h j i. ends-unread (a .table .now) h j (a .p .budget) (start .pre) (e .ensures) f t i (r .ensures) (c .before .if1 .taken);
     })
 
 line-names-requires : tie.Need-line-names-requires
@@ -76,7 +76,7 @@ returns-2 c =
     (record {
       onward = λ z. absurd (omega arith);
       means =
-          λ f t h j i. ends-full h j (a .p .budget) (start .pre) (e .ensures) f t i (r .ensures) (at-if1 .if1 .left) (at-names .line-names .ensures)
+          λ f t h j i. ends-full (a .table .now) h j (a .p .budget) (start .pre) (e .ensures) f t i (r .ensures) (at-if1 .if1 .left) (at-names .line-names .ensures)
           (c .before .if2 .taken) (c .before .before .has-room .ensures);
     })
 
@@ -136,7 +136,7 @@ returns-3 c =
     (record {
       onward = λ z. absurd (c .before .if3 .taken z);
       means =
-          λ f t h j i. ends-refused h j (a .p .budget) (start .pre) (e .ensures) f t i (r .ensures) (at-if1 .if1 .left) (at-names .line-names .ensures) (at-if2 .if2 .left)
+          λ f t h j i. ends-refused (a .table .now) h j (a .p .budget) (start .pre) (e .ensures) f t i (r .ensures) (at-if1 .if1 .left) (at-names .line-names .ensures) (at-if2 .if2 .left)
           (at-has-room .has-room .ensures) (at-sum .sum .ensures) (k .ensures) (c .before .if3 .taken);
     })
 
@@ -150,38 +150,38 @@ note-line-requires : tie.Need-note-line-requires
 note-line-requires c κs = tt
 
 add-t20 : tie.Need-add-t20
-add-t20 c = omega (arith, room-here (c .before .before .before .before .before .before .before .before .before .before .before .before .before .before .before .before .before .before .before .before .before .before .before .before) .0)
+add-t20 c = omega (arith, room-here (c .before .before .before .before .before .before .before .before .before .before .before .before .before .before .before .before .before .before .before .before .before .before .before .before .before .before) .0)
 
 add-t30 : tie.Need-add-t30
 add-t30 c =
-    let room = c .before .before .before .before .before .before .before .before .before .before .before .before .before .before .before .before .before .before .before .before .before .before .before .before .before in
+    let room = c .before .before .before .before .before .before .before .before .before .before .before .before .before .before .before .before .before .before .before .before .before .before .before .before .before .before .before in
     let start = room .before .before .before .before .before .before .before .before .before .before .before .before .before .before .before .before .before .before .before .before in
     omega (arith, start .good .1 .1 .1 .0 .0, room-here room .2)
 
 add-t31 : tie.Need-add-t31
 add-t31 c =
-    let room = c .before .before .before .before .before .before .before .before .before .before .before .before .before .before .before .before .before .before .before .before .before .before .before .before .before .before in
+    let room = c .before .before .before .before .before .before .before .before .before .before .before .before .before .before .before .before .before .before .before .before .before .before .before .before .before .before .before .before in
     let start = room .before .before .before .before .before .before .before .before .before .before .before .before .before .before .before .before .before .before .before .before in
     omega (arith, start .good .1 .1 .1 .1 .0 .0, room-here room .3)
 
 add-t47 : tie.Need-add-t47
 add-t47 c =
-    let room = c .before .before .before .before .before .before .before .before .before .before .before .before .before .before .before .before .before .before .before .before .before .before .before .before .before .before in
+    let room = c .before .before .before .before .before .before .before .before .before .before .before .before .before .before .before .before .before .before .before .before .before .before .before .before .before .before .before .before in
     let start = room .before .before .before .before .before .before .before .before .before .before .before .before .before .before .before .before .before .before .before .before in
     omega (arith, start .good .1 .1 .1 .1 .0 .0, room-here room .3)
 
 same-length-8 : tie.Need-same-length-8
-same-length-8 c = c .before .before .before .before .before .before .before .before .before .before .before .before .before .before .before .before .before .before .before .before .before .check-stored .kept .0
+same-length-8 c = c .before .before .before .before .before .before .note-line .kept .1 .0 ∙ c .before .before .before .before .before .before .before .before .before .before .before .before .before .before .before .before .before .before .before .before .before .before .before .check-stored .kept .0
 
 same-length-9 : tie.Need-same-length-9
-same-length-9 c = c .before .before .before .before .before .before .before .before .before .before .before .before .before .before .before .before .before .before .before .before .before .check-stored .kept .1 .0
+same-length-9 c = c .before .before .before .before .before .before .before .before .before .before .before .before .before .before .before .before .before .before .before .before .before .before .before .check-stored .kept .1 .0
 
 same-length-10 : tie.Need-same-length-10
-same-length-10 c = c .before .before .before .before .before .before .before .before .before .put-entry .kept .0
+same-length-10 c = c .before .before .before .before .before .before .before .before .before .before .before .put-entry .kept .0
 
 same-length-11 : tie.Need-same-length-11
 same-length-11 c =
-    let at-note-line = c .before .before .before .before in
+    let at-note-line = c .before .before .before .before .before .before in
     let at-check-stored = at-note-line .before .before .before .before .before .before .before .before .before .before .before .before .before .before .before .before .before in
     let at-names = at-check-stored .before .before .before .before .before .before .before .before .before in
     at-note-line .note-line .kept .1 .1 .1 .0
@@ -191,7 +191,7 @@ same-length-11 c =
 
 returns-4 : tie.Need-returns-4
 returns-4 c =
-    let at-note-line = c .before .before .before .before in
+    let at-note-line = c .before .before .before .before .before .before in
     let at-put = at-note-line .before .before .before .before .before in
     let at-names-at = at-put .before in
     let at-if3 = at-names-at .before .before .before in
@@ -211,7 +211,7 @@ returns-4 c =
     record {
       onward = λ z. (e .ensures .from (start .pre), e .ensures .within (omega (arith, start .pre)));
       means =
-          λ f t h j i. ends-passed h j (a .p .budget) (start .pre) (e .ensures) f t i (r .ensures) (at-if1 .if1 .left) (at-names .line-names .ensures) (at-if2 .if2 .left)
+          λ f t h j i. ends-passed (a .table .now) h j (a .p .budget) (start .pre) (e .ensures) f t i (r .ensures) (at-if1 .if1 .left) (at-names .line-names .ensures) (at-if2 .if2 .left)
           (at-has-room .has-room .ensures) (at-sum .sum .ensures) (k .ensures) (at-if3 .if3 .left) (at-names-at .names-at .ensures) (at-put .put-entry .ensures)
           (at-note-line .note-line .ensures);
     }

@@ -1,4 +1,5 @@
--- `note_line`: nothing where there is no such line or no such unit; else what `note` leaves of the first 26 units.
+-- `note_line`: nothing where there is no such line or no such unit; else what `put_head` leaves of the first 26 units, and `link` of
+-- the table.
 use mathlib.Core.Path.{sym}
 use native.Mathlib.Omega.{arith}
 use lib.Seq.{length-take-le}
@@ -25,24 +26,31 @@ cast-identifier c = search needs
 identifier-requires : tie.Need-identifier-requires
 identifier-requires c κs = search needs
 
-slice-relend-prefix-note : tie.Need-slice-relend-prefix-note
-slice-relend-prefix-note c = search needs
+slice-relend-prefix-put-head : tie.Need-slice-relend-prefix-put-head
+slice-relend-prefix-put-head c = search needs
 
-slice-aggregate-note : tie.Need-slice-aggregate-note
-slice-aggregate-note c = sym (length-take-le _ _ (omega arith))
+slice-aggregate-put-head : tie.Need-slice-aggregate-put-head
+slice-aggregate-put-head c = sym (length-take-le _ _ (omega arith))
 
-note-requires : tie.Need-note-requires
-note-requires c κs = search needs
+put-head-requires : tie.Need-put-head-requires
+put-head-requires c κs = search needs
+
+link-requires : tie.Need-link-requires
+link-requires c κs = search needs
 
 same-length : tie.Need-same-length
 same-length c = search needs
 
+same-length-2 : tie.Need-same-length-2
+same-length-2 c = search needs
+
 returns-3 : tie.Need-returns-3
 returns-3 c =
-    let at-identifier = c .before .before .before .before in
-    let start = at-identifier .before .before .before .before .before .before in
-    let a = start .args in
-    line-noted (a .lines) (a .limit) (a .w .now) (c .before .before .note .last .0) (omega arith) (at-identifier .identifier .ensures .contents) (c .before .before .note .ensures)
+    let at-put-head = c .before .before .before .before .before .before in
+    let at-identifier = at-put-head .before .before in
+    let a = at-identifier .before .before .before .before .before .before .before .args in
+    line-noted (a .lines) (a .limit) (a .w .now) (at-put-head .put-head .last .0) (omega arith) (at-identifier .identifier .ensures .contents) (at-put-head .put-head .ensures)
+    (c .before .before .link .ensures)
 
 pub note-line-spec : {M : Type 1} → statement M
 note-line-spec =
@@ -54,8 +62,10 @@ note-line-spec =
     add-v
     cast-identifier
     identifier-requires
-    slice-relend-prefix-note
-    slice-aggregate-note
-    note-requires
+    slice-relend-prefix-put-head
+    slice-aggregate-put-head
+    put-head-requires
+    link-requires
     same-length
+    same-length-2
     returns-3)
