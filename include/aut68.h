@@ -1,4 +1,4 @@
-/* The check of an AUT-68 book, and calls on accepted books, for C.
+/* The check of an AUT-68 book, calls on accepted books, and calls on stored shelves, for C.
    The library is target/staticlib/libc_api.a, which `rt staticlib c_api` writes. */
 #ifndef AUT68_H
 #define AUT68_H
@@ -22,7 +22,8 @@ enum {
 };
 
 /* What the check of a book ends with: 0 to 12, or 14. Codes 0, 3 to 9 and 14 are verdicts; 3 to 9 and 14 call the book wrong. Any
-   other call on a book checks it first and passes a refusal on; of an accepted book it ends with 0, 12, 13 or 15. */
+   other call on a book checks it first and passes a refusal on; of an accepted book it ends with 0, 12, 13 or 15. A call on a shelf
+   ends with 0, 15 or 16. */
 enum {
     AUT68_ACCEPTED = 0,
     AUT68_WORK_TOO_SMALL = 1,     /* under AUT68_WORK_UNITS * limit working cells; line 0, nothing written */
@@ -36,16 +37,18 @@ enum {
     AUT68_MISMATCH = 9,
     AUT68_TOO_LARGE = 10,         /* an expression, completed, larger than the limit or nested above 32; or compared below depth 32 */
     AUT68_OUT_OF_BUDGET = 11,
-    AUT68_OUT_OF_SPACE = 12,      /* table, shelf or index full, line 8,192, a book of more than 16,777,215 bytes (line 0), or an
+    AUT68_OUT_OF_SPACE = 12,      /* table, shelf or index full, line 65,536, a book of more than 16,777,215 bytes (line 0), or an
                                      answer that does not fit (line 0) */
     AUT68_NO_SUCH_LINE = 13,      /* the line is 0 or above the last */
     AUT68_NOT_IN_CONTEXT = 14,    /* the name has an EB line, outside the context of the line that uses it: its block has closed.
                                      Of 5, 6 and 14 a line gets that of the first name, from the left, that has one of them */
-    AUT68_STORE_TOO_SMALL = 15    /* the pages do not fit into the page store */
+    AUT68_STORE_TOO_SMALL = 15,   /* the pages do not fit into the page store, or the source not into the target */
+    AUT68_CELL_TOO_LARGE = 16     /* a cell above 65,535 is to be narrowed */
 };
 
-/* A cell of the shelf and of the working store. */
-typedef uint16_t Aut68Cell;
+/* A cell of the shelf and of the working store; and one of a shelf that was stored before cells had 32 bits. */
+typedef uint32_t Aut68Cell;
+typedef uint16_t Aut68NarrowCell;
 
 /* code: as above. line: the refused line, from 1; of an accepted book the number of its lines. steps: the head steps made. */
 typedef struct {
@@ -89,8 +92,9 @@ Aut68Outcome aut68_check(const uint8_t *book, size_t book_length,
                          Aut68Cell *work, size_t work_length,
                          uint32_t *index, size_t index_length);
 
-/* What a call on an accepted book ends with. A refusal of its check is passed on: code, line and steps as above, length 0. Else
-   line is 0, steps are the call's own head steps, and length is that of the answer it wrote; 0, if code is not 0. */
+/* What a call on an accepted book or on a shelf ends with. A refusal of the book's check is passed on: code, line and steps as
+   above, length 0. Else line is 0, steps are the call's own head steps, and length is that of the answer it wrote; 0, if code is
+   not 0. */
 typedef struct {
     uint32_t code;
     uint32_t line;
@@ -131,6 +135,22 @@ Aut68Answer aut68_pages(const uint8_t *book, size_t book_length,
                         Aut68Cell *work, size_t work_length,
                         uint32_t *index, size_t index_length,
                         uint8_t *page, size_t page_length);
+
+/* Puts the cells of a shelf that was stored in 16 bits each into cells of 32 bits. In this order:
+   - the source has more cells than the target, or more than 4,294,967,295: 15;
+   - else 0; the cells are in the first cells of the target, as many as length says.
+   steps are 0. Every other cell of the target is as it was; after 15 all of them are. The target must not overlap the source. */
+Aut68Answer aut68_widen(const Aut68NarrowCell *source, size_t source_length,
+                        Aut68Cell *target, size_t target_length);
+
+/* Puts the cells of a shelf into cells of 16 bits, for those who read shelves as they were stored before. In this order:
+   - the source has more cells than the target, or more than 4,294,967,295: 15;
+   - a cell is above 65,535: 16;
+   - else 0; the cells are in the first cells of the target, as many as length says.
+   steps are 0. Every other cell of the target is as it was; after 15 and 16 all of them are. The target must not overlap the source.
+   A widened shelf narrows to the one it came from, and a narrowed one widens to it. */
+Aut68Answer aut68_narrow(const Aut68Cell *source, size_t source_length,
+                         Aut68NarrowCell *target, size_t target_length);
 
 /* Where an identifier stands in the book: its first byte, from 0, and its length; length 0 where there is none. */
 typedef struct {

@@ -1,11 +1,14 @@
 // The calls for C and Rust: include/aut68.h declares them. Such callers prove nothing, so they require nothing.
 use constants::Cell;
+use constants::NarrowCell;
 use outcomes::AnswerNumbers;
 ghost use Rattle.aut68.specs.Language.{aut68};
 ghost use Rattle.aut68.specs.Stores.{stores};
 ghost use Rattle.aut68.specs.Demands.{Checks};
 ghost use Rattle.aut68.specs.Resting.{TellsRests};
 ghost use Rattle.aut68.specs.Printing.{PrintsPages};
+ghost use Rattle.aut68.specs.Sizes.{cellValues, narrowValues};
+ghost use Rattle.aut68.specs.Widths.{Converts};
 ghost use Rattle.names.specs.Known.{IdentifierPlaced};
 
 // Document 01's numbers of an outcome: code, line, steps.
@@ -73,6 +76,24 @@ pub extern "C" fn aut68_pages(
     ensures { λ r. ⌜ PrintsPages aut68 (now (book .entry)) budget limit (stores (now (table .entry)) (now (terms .entry)) (now (work .entry)) (now (index .entry))) (now (page .entry)) (r .code) (r .line) (r .steps) (r .length) (stores (now (table .exit)) (now (terms .exit)) (now (work .exit)) (now (index .exit))) (now (page .exit)) ⌝ }
 {
     let a = verifier::print_pages(book, budget, limit, table, terms, work, index, page);
+    verifier::answer_numbers(a)
+}
+
+// Puts the cells of a shelf into cells of 32 bits, the first of the target.
+#[no_mangle]
+pub extern "C" fn aut68_widen(source: &[NarrowCell], target: &mut [Cell]) -> AnswerNumbers
+    ensures { λ r. ⌜ Converts cellValues (now (source .entry)) (now (target .entry)) (r .code) (r .line) (r .steps) (r .length) (now (target .exit)) ⌝ }
+{
+    let a = verifier::widen(source, target);
+    verifier::answer_numbers(a)
+}
+
+// Puts the cells of a shelf into cells of 16 bits, the first of the target.
+#[no_mangle]
+pub extern "C" fn aut68_narrow(source: &[Cell], target: &mut [NarrowCell]) -> AnswerNumbers
+    ensures { λ r. ⌜ Converts narrowValues (now (source .entry)) (now (target .entry)) (r .code) (r .line) (r .steps) (r .length) (now (target .exit)) ⌝ }
+{
+    let a = verifier::narrow(source, target);
     verifier::answer_numbers(a)
 }
 

@@ -25,9 +25,9 @@ pub struct Question {
 }
 
 // A number, and the index behind the byte that ends it.
-struct Scanned {
-    value: u64,
-    next: usize,
+pub struct Scanned {
+    pub value: u64,
+    pub next: usize,
 }
 
 // The value of a digit; 0 for any other byte.
@@ -44,7 +44,7 @@ fn digit(b: u8) -> u64
 }
 
 // The number that starts at index `at` of the text: its first ten digits.
-fn number(text: &[u8], at: usize) -> Scanned {
+pub fn number(text: &[u8], at: usize) -> Scanned {
     let mut value: u64 = 0;
     let mut i = at;
     while i < text.len() {
@@ -77,7 +77,7 @@ fn number(text: &[u8], at: usize) -> Scanned {
 }
 
 // A number below 2^32; 2^32 - 1 for a larger one.
-fn narrow(x: u64) -> u32 {
+pub fn narrow(x: u64) -> u32 {
     if x > 4294967295 {
         return 4294967295;
     }

@@ -196,15 +196,20 @@ fn numbers(r: AnswerNumbers, c: u8) {
     say(r.length as u64, c);
 }
 
-// What a line rests on: the numbers of the call; the cells of the answer; how many cells changed behind them.
-pub fn answer(r: AnswerNumbers, cells: &[u32]) {
+// What a call wrote: its numbers; the cells of the answer; how many cells changed behind them.
+pub fn written(r: AnswerNumbers, cells: &[u32]) {
     let length = r.length as usize;
-    io::write_all(STDOUT_FILENO, b"rests ");
     numbers(r, b' ');
     io::write_all(STDOUT_FILENO, b":");
     wide_cells(cells, 0, length);
     io::write_all(STDOUT_FILENO, b" : ");
     say(changed(cells, length), 10);
+}
+
+// What a line rests on.
+pub fn answer(r: AnswerNumbers, cells: &[u32]) {
+    io::write_all(STDOUT_FILENO, b"rests ");
+    written(r, cells);
 }
 
 // How many bytes from index `from` on are not 7.

@@ -1,7 +1,8 @@
 // AUT-68 books: the public library. `check_book` checks a book; aut68's Demands has what it promises (`Checks`), crate `outcomes`
 // the code, line and steps of each outcome. `rests_on` (crate `resting`) tells what a line rests on, `print_pages` (crate `printing`)
-// prints a book; aut68's Resting and Printing have what they promise (`TellsRests`, `PrintsPages`). `identifier` fetches a recorded
-// line's identifier as the part of the book.
+// prints a book; aut68's Resting and Printing have what they promise (`TellsRests`, `PrintsPages`). `widen` and `narrow` (crate `widths`)
+// put a shelf into cells of another width; aut68's Widths has what they promise (`Converts`). `identifier` fetches a recorded line's
+// identifier as the part of the book.
 mod book;
 
 pub use book::check_book;
@@ -18,3 +19,5 @@ pub use outcomes::answer_numbers;
 pub use outcomes::numbers_of;
 pub use printing::print_pages;
 pub use resting::rests_on;
+pub use widths::narrow;
+pub use widths::widen;

@@ -1,0 +1,3 @@
+-- What the calls that convert shelves promise, put together.
+pub mod Fitting
+pub mod Conversions
