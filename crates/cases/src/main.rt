@@ -24,7 +24,7 @@ const TEXT: usize = 131072;
 // more than the largest limit needs.
 const TABLE: usize = ROW_WIDTH * LINE_LIMIT;
 
-const TERMS: usize = 32768;
+const TERMS: usize = 16384;
 
 const WORK: usize = WORK_UNITS * LARGEST_LIMIT + 1;
 

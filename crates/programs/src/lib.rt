@@ -6,13 +6,13 @@ pub const BYTES: usize = 65536;
 
 pub const LINES: usize = 2048;
 
-pub const TERMS: usize = 32768;
+pub const TERMS: usize = 16384;
 
 pub const INDEX: usize = 16384;
 
 pub const BUDGET: u32 = 100000;
 
-pub const LIMIT: usize = 256;
+pub const LIMIT: usize = 128;
 
 // Writes the first n bytes of out.
 pub fn write_first(fd: i32, out: &[u8], n: usize) {
