@@ -6,7 +6,7 @@
 
 #include <stdio.h>
 
-enum { BUDGET = 100000, LIMIT = 256, LINES = 8191, BYTES = 1 << 24, TERMS = 1 << 20, INDEX = 1 << 20 };
+enum { BUDGET = 100000, LIMIT = AUT68_LARGEST_LIMIT, LINES = AUT68_MOST_LINES, BYTES = 1 << 24, TERMS = 1 << 20, INDEX = 1 << 20 };
 enum { TABLE = AUT68_ROW_WIDTH * LINES, WORK = AUT68_WORK_UNITS * LIMIT };
 
 static uint8_t book[BYTES];

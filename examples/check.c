@@ -9,7 +9,7 @@
 #include <stdio.h>
 #include <stdlib.h>
 
-enum { BUDGET = 100000, LIMIT = 256, LINES = 8191, TERMS = 1 << 20, INDEX = 1 << 20 };
+enum { BUDGET = 100000, LIMIT = AUT68_LARGEST_LIMIT, LINES = AUT68_MOST_LINES, TERMS = 1 << 20, INDEX = 1 << 20 };
 enum { TABLE = AUT68_ROW_WIDTH * LINES, WORK = AUT68_WORK_UNITS * LIMIT };
 
 static const char *const MEANINGS[] = {

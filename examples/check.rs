@@ -13,7 +13,7 @@ mod aut68 {
     /// Working cells for each cell of the limit.
     pub const WORK_UNITS: usize = 128;
     /// A cell of the term store and of the working store.
-    pub type Cell = u16;
+    pub type Cell = u32;
 
     /// What the check of a book ends with; `include/aut68.h` lists the codes.
     #[repr(C)]
@@ -74,8 +74,8 @@ mod aut68 {
 }
 
 const BUDGET: u32 = 100_000;
-const LIMIT: usize = 256;
-const LINES: usize = 8_191;
+const LIMIT: usize = 4_096;
+const LINES: usize = 65_535;
 const TERMS: usize = 1 << 20;
 const INDEX: usize = 1 << 20;
 

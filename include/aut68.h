@@ -14,6 +14,7 @@ extern "C" {
 enum {
     AUT68_SMALLEST_LIMIT = 16,
     AUT68_LARGEST_LIMIT = 4096,
+    AUT68_MOST_LINES = 65535, /* lines of a book */
     AUT68_WORK_UNITS = 128,   /* working cells for each cell of the limit */
     AUT68_ROW_WIDTH = 8,      /* table cells for each line */
     AUT68_PAGE_ROW = 73,      /* bytes of a printed row: AUT68_NUMBER_COLUMNS, a blank one, AUT68_TEXT_COLUMNS, byte 10 */

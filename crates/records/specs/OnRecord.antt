@@ -35,15 +35,15 @@ pub record OnRecord (language : Language) (book : Bytes) (L : ℕ) (ls : Lines) 
 pub reached-known : {language : Language} {book : Bytes} {N L : ℕ} {s : Stores} {k : Recorded} {n used : ℕ} (tb : List ℕ) {ts : List ℕ} → Reached language book N L s k n used (unlinked n tb) ts
     → Known (k .recorded) book tb n
 reached-known {n = n} tb h =
-      record {
-        rows = rows-linked n tb (held-rows (reached-stores h));
-        named = held-named (reached-stores h);
-        count = sym (h .linesAre);
-        few = h .few;
-        contexts = λ i. right-contexts (h .derived) _ _ i;
-        distinct = distinct-names (h .derived);
-        behind = λ i. indicators-before (h .derived) _ _ i;
-      }
+    record {
+      rows = rows-linked n tb (held-rows (reached-stores h));
+      named = held-named (reached-stores h);
+      count = sym (h .linesAre);
+      few = h .few;
+      contexts = λ i. right-contexts (h .derived) _ _ i;
+      distinct = distinct-names (h .derived);
+      behind = λ i. indicators-before (h .derived) _ _ i;
+    }
 
 -- what rows and cells say of the lines hangs on no link
 pub book-linked : (n : ℕ) (tb : List ℕ) {ls : Lines} {L : ℕ} {ts : List ℕ} → Book ls L (unlinked n tb) ts → Book ls L tb ts
