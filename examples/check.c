@@ -25,7 +25,7 @@ static const char *const MEANINGS[] = {
     [AUT68_MISMATCH] = "categories differ",
     [AUT68_TOO_LARGE] = "larger than the limit",
     [AUT68_OUT_OF_BUDGET] = "budget spent",
-    [AUT68_OUT_OF_SPACE] = "table, shelf or index full",
+    [AUT68_OUT_OF_SPACE] = "table, shelf or index full, or more lines or bytes than a book may have",
     [AUT68_NOT_IN_CONTEXT] = "variable not in context",
 };
 
