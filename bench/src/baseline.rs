@@ -13,6 +13,7 @@ mod names;
 mod pages;
 mod reader;
 mod source;
+mod widths;
 
 use crate::sizes::{LARGEST_LIMIT, MOST_BYTES, MOST_LINES, ROW_WIDTH, SMALLEST_LIMIT, WORK_UNITS};
 use crate::stores::Stores;
@@ -24,6 +25,7 @@ use lines::Lines;
 use names::Names;
 pub use pages::{page_length, read_back, text_lengths};
 use reader::Reader;
+pub use widths::{narrow, widen};
 
 /// Why a book or a call is refused; the numbers are the specification's codes.
 #[derive(Clone, Copy, Debug, PartialEq, Eq)]
@@ -44,6 +46,7 @@ pub enum Refusal {
     NoSuchLine = 13,
     NotInContext = 14,
     StoreTooSmall = 15,
+    CellTooWide = 16,
 }
 
 /// What was met on the way, for the counts of the differential run.
@@ -103,9 +106,14 @@ pub fn check_noting(book: &[u8], budget: u32, limit: u32, stores: &mut Stores, n
     }
 }
 
-/// What a call ends with that writes nothing, behind an admitted book.
+/// What a call ends with that writes nothing; of a call on a book, behind its admission.
 fn declined(refusal: Refusal) -> Answer {
     Answer { code: refusal as u32, line: 0, steps: 0, length: 0 }
+}
+
+/// What a call ends with that wrote an answer of this length.
+fn answered(length: usize) -> Answer {
+    Answer { code: 0, line: 0, steps: 0, length: length as u32 }
 }
 
 /// Admits a book for another call on it: how many lines it has, or the refusal, passed on.
@@ -128,7 +136,7 @@ pub fn rests_on(book: &[u8], budget: u32, limit: u32, stores: &mut Stores, line:
         return declined(Refusal::OutOfSpace);
     }
     answer[..list.len()].copy_from_slice(&list);
-    Answer { code: 0, line: 0, steps: 0, length: list.len() as u32 }
+    answered(list.len())
 }
 
 /// The pages of an accepted book, from byte 0 of the page store.
@@ -141,7 +149,7 @@ pub fn pages(book: &[u8], budget: u32, limit: u32, stores: &mut Stores, page: &m
         return declined(Refusal::StoreTooSmall);
     }
     pages::put_pages(book, &mut page[..length]);
-    Answer { code: 0, line: 0, steps: 0, length: length as u32 }
+    answered(length)
 }
 
 fn check_lines(
@@ -162,7 +170,7 @@ fn check_lines(
         let too_large = parts.iter().any(|p| p.too_large);
         let too_deep = parts.iter().any(|p| p.too_deep);
         let count = lines.count();
-        let entry = dependencies.of_line(count + 1, line.indicator, cells);
+        let entry = dependencies.of_line(count as u32 + 1, line.indicator, cells);
         let full = table.len() / ROW_WIDTH <= count || terms.len() - used < cells.len() || index.len() - indexed <= entry.len();
         // In the order in which they are looked at.
         let faults = [
@@ -183,8 +191,8 @@ fn check_lines(
 
         terms[used..used + cells.len()].copy_from_slice(cells);
         let row = [
-            line.start as u32, line.identifier.len() as u32, u32::from(line.indicator),
-            u32::from(line.context.length()), line.kind as u32,
+            line.start as u32, line.identifier.len() as u32, line.indicator,
+            line.context.length(), line.kind as u32,
             used as u32, (used + middle) as u32, (used + cells.len()) as u32,
         ];
         table[ROW_WIDTH * count..ROW_WIDTH * (count + 1)].copy_from_slice(&row);

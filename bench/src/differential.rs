@@ -12,6 +12,7 @@ mod text;
 mod theory;
 mod trees;
 mod typed;
+mod widths;
 
 use std::path::Path;
 use std::time::{Duration, Instant};
@@ -29,8 +30,8 @@ const LONGEST: Duration = Duration::from_secs(110);
 /// So many books are made from one.
 const BOOKS_FROM_ONE: usize = 15;
 
-/// Prints how often each code, and each situation of refused and of completed lines, of lists and of pages, was met; false if there was
-/// a difference, or one of these was not met.
+/// Prints how often each code, and each situation of refused and of completed lines, of lists, of pages and of narrowed shelves, was met;
+/// false if there was a difference, or one of these was not met.
 pub fn run() -> bool {
     let start = Instant::now();
     let mut comparison = Comparison::default();
@@ -38,9 +39,11 @@ pub fn run() -> bool {
     let mut random = Random::new(SEED);
     for (book, call) in largest::books() {
         let outcome = comparison.check(&book, &call);
+        comparison.shelf_of_book(&outcome);
         comparison.last_line(&book, &call, &outcome);
         comparison.whole_pages(&book, &call, &outcome);
     }
+    comparison.shelves();
     let written = written_books();
     let mut books = 0;
     while books < BOOKS && start.elapsed() < LONGEST {

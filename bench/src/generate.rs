@@ -8,6 +8,10 @@ mod theories;
 use std::borrow::Borrow;
 
 use crate::random::Random;
+use crate::sizes::MOST_BYTES;
+
+/// In a long book so many bytes for each line leave room for the most lines.
+const BYTES_A_LINE: usize = 254;
 
 #[derive(Clone, Copy, Debug, PartialEq, Eq)]
 pub enum Kind {
@@ -21,10 +25,22 @@ pub enum Kind {
     Deep,
     /// Parts of the four by turns.
     Mixed,
+    /// As names, with contexts of 2 to 4 variables.
+    Narrow,
+    /// As deep, without the expressions near the limit.
+    Nested,
+    /// Parts of theories and steps by turns, and where the bytes allow it of names and deep.
+    Long,
 }
 
 impl Kind {
-    pub const ALL: [Kind; 5] = [Kind::Theories, Kind::Steps, Kind::Names, Kind::Deep, Kind::Mixed];
+    pub const USUAL: [Kind; 5] = [Kind::Theories, Kind::Steps, Kind::Names, Kind::Deep, Kind::Mixed];
+    /// In place of the last three, of which the most lines have too many bytes.
+    pub const LONG: [Kind; 3] = [Kind::Narrow, Kind::Nested, Kind::Long];
+
+    pub fn all() -> impl Iterator<Item = Kind> {
+        Kind::USUAL.into_iter().chain(Kind::LONG)
+    }
 
     pub fn title(self) -> &'static str {
         match self {
@@ -33,14 +49,30 @@ impl Kind {
             Kind::Names => "names",
             Kind::Deep => "deep",
             Kind::Mixed => "mixed",
+            Kind::Narrow => "narrow",
+            Kind::Nested => "nested",
+            Kind::Long => "long",
         }
     }
 
     /// The limit of cells under which the book is accepted.
     pub fn limit(self) -> u32 {
         match self {
-            Kind::Theories | Kind::Steps | Kind::Names => 1_024,
-            Kind::Deep | Kind::Mixed => 2_050,
+            Kind::Theories | Kind::Steps | Kind::Names | Kind::Narrow | Kind::Nested => 1_024,
+            Kind::Deep | Kind::Mixed | Kind::Long => 2_050,
+        }
+    }
+
+    /// What the next part is of, behind so many parts, of which some are of names or deep.
+    fn turn(self, part: usize, large_parts: &mut usize, writer: &Writer) -> Kind {
+        match self {
+            Kind::Mixed => Kind::USUAL[part % 4],
+            Kind::Long if writer.text.len() < BYTES_A_LINE * writer.lines => {
+                *large_parts += 1;
+                [Kind::Names, Kind::Deep][*large_parts % 2]
+            }
+            Kind::Long => [Kind::Theories, Kind::Steps][(part - *large_parts) % 2],
+            kind => kind,
         }
     }
 }
@@ -50,41 +82,45 @@ pub fn with_arguments<S: Borrow<str>>(name: &str, arguments: &[S]) -> String {
     if arguments.is_empty() { name.to_string() } else { format!("{name}({})", arguments.join(",")) }
 }
 
-/// A book of so many lines. Its prefixes of whole lines are correct books too.
+/// A book of so many lines, or of as many as there is room for. Its prefixes of whole lines are correct books too.
 pub fn book(kind: Kind, lines: usize, seed: u64) -> Vec<u8> {
-    let mut writer = Writer { text: Vec::new(), lines: 0, most: lines };
+    let mut writer = Writer { text: Vec::new(), lines: 0, most: lines, no_room: false };
     let mut random = Random::new(seed);
     let mut first_theory = None;
     let mut part = 0;
+    let mut large_parts = 0;
     while !writer.full() {
-        let turn = if kind == Kind::Mixed { Kind::ALL[part % 4] } else { kind };
-        match turn {
-            Kind::Theories | Kind::Mixed => {
+        match kind.turn(part, &mut large_parts, &writer) {
+            Kind::Theories | Kind::Mixed | Kind::Long => {
                 let first = *first_theory.get_or_insert(part);
                 theories::part(&mut writer, &mut random, part, first);
             }
             Kind::Steps => steps::part(&mut writer, &mut random, part),
-            Kind::Names => names::part(&mut writer, &mut random, part),
+            Kind::Names => names::part(&mut writer, &mut random, part, &names::WIDE),
+            Kind::Narrow => names::part(&mut writer, &mut random, part, &names::NARROW),
             Kind::Deep => deep::part(&mut writer, &mut random, part),
+            Kind::Nested => deep::nested_part(&mut writer, &mut random, part),
         }
         part += 1;
     }
     writer.text
 }
 
-/// A book being written; lines past the wanted number are dropped.
+/// A book being written; lines past the wanted number or the most bytes are dropped.
 struct Writer {
     text: Vec<u8>,
     lines: usize,
     most: usize,
+    no_room: bool,
 }
 
 impl Writer {
     fn full(&self) -> bool {
-        self.lines == self.most
+        self.no_room || self.lines == self.most
     }
 
     fn line(&mut self, line: &str) {
+        self.no_room |= self.text.len() + line.len() >= MOST_BYTES;
         if !self.full() {
             self.text.extend_from_slice(line.as_bytes());
             self.text.push(b'\n');

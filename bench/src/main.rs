@@ -11,6 +11,8 @@ mod verified;
 
 use std::process::ExitCode;
 
+use sizes::NARROW_LINES;
+
 /// What the check of a book ends with: code, line, head steps.
 #[repr(C)]
 #[derive(Clone, Copy, Debug, PartialEq, Eq)]
@@ -44,18 +46,20 @@ fn main() -> ExitCode {
     let agreed = match arguments[..] {
         ["table"] => table::print(),
         ["differential"] => differential::run(),
-        ["profile", book, program] => profile(book, program),
+        ["profile", book, program] => profile(book, program, None),
+        ["profile", book, program, lines, limit] => profile(book, program, lines.parse().ok().zip(limit.parse().ok())),
         _ => {
-            eprintln!("usage: bench table | differential | profile <book> <verified or baseline>");
+            eprintln!("usage: bench table | differential | profile <book> <verified or baseline> [<lines> <limit>]");
             return ExitCode::from(2);
         }
     };
     if agreed { ExitCode::SUCCESS } else { ExitCode::FAILURE }
 }
 
-fn profile(book: &str, program: &str) -> bool {
+fn profile(book: &str, program: &str, sizes: Option<(usize, u32)>) -> bool {
     let check: table::Check = if program == "verified" { verified::check } else { baseline::check };
-    let Some(kind) = generate::Kind::ALL.into_iter().find(|k| k.title() == book) else { return false };
-    table::profile(kind, check);
+    let Some(kind) = generate::Kind::all().find(|k| k.title() == book) else { return false };
+    let (lines, limit) = sizes.unwrap_or((NARROW_LINES, kind.limit()));
+    table::profile(kind, check, lines, limit);
     true
 }

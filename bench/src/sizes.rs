@@ -1,7 +1,10 @@
 //! The published sizes.
 
 /// A cell of the term store and of the working store; line numbers and lengths of contexts fit in it.
-pub type Cell = u16;
+pub type Cell = u32;
+
+/// A cell of a term store that was kept when cells had 16 bits.
+pub type NarrowCell = u16;
 
 /// A cell is CELL_FACTOR × value + kind.
 pub const CELL_FACTOR: Cell = 8;
@@ -18,7 +21,9 @@ pub const ROW_WIDTH: usize = 8;
 /// Where the kind of a line stands in its row.
 pub const KIND: usize = 4;
 
-pub const MOST_LINES: usize = 8_191;
+pub const MOST_LINES: usize = 65_535;
+/// How many lines there could be when cells had 16 bits.
+pub const NARROW_LINES: usize = 8_191;
 pub const MOST_BYTES: usize = 16_777_215;
 
 /// How deep expressions may be nested and comparisons may go.
@@ -32,4 +37,4 @@ pub const TEXT_COLUMNS: usize = 66;
 pub const PAGE_ROW: usize = NUMBER_COLUMNS + 1 + TEXT_COLUMNS + 1;
 
 /// How many codes there are, that of acceptance among them.
-pub const CODES: usize = 16;
+pub const CODES: usize = 17;

@@ -1,6 +1,6 @@
 //! The verified program, linked from its archive.
 
-use crate::sizes::Cell;
+use crate::sizes::{Cell, NarrowCell};
 use crate::stores::Stores;
 use crate::{Answer, Outcome};
 
@@ -32,6 +32,8 @@ extern "C" {
         index: *mut u32, index_length: usize,
         page: *mut u8, page_length: usize,
     ) -> Answer;
+    fn aut68_widen(source: *const NarrowCell, source_length: usize, target: *mut Cell, target_length: usize) -> Answer;
+    fn aut68_narrow(source: *const Cell, source_length: usize, target: *mut NarrowCell, target_length: usize) -> Answer;
 }
 
 pub fn check(book: &[u8], budget: u32, limit: u32, stores: &mut Stores) -> Outcome {
@@ -68,4 +70,14 @@ pub fn pages(book: &[u8], budget: u32, limit: u32, stores: &mut Stores, page: &m
             index.as_mut_ptr(), index.len(), page.as_mut_ptr(), page.len(),
         )
     }
+}
+
+pub fn widen(source: &[NarrowCell], target: &mut [Cell]) -> Answer {
+    // Sound: each pointer is valid for its length, and the two do not overlap.
+    unsafe { aut68_widen(source.as_ptr(), source.len(), target.as_mut_ptr(), target.len()) }
+}
+
+pub fn narrow(source: &[Cell], target: &mut [NarrowCell]) -> Answer {
+    // Sound: as above.
+    unsafe { aut68_narrow(source.as_ptr(), source.len(), target.as_mut_ptr(), target.len()) }
 }

@@ -10,14 +10,14 @@ use crate::stores::Stores;
 pub struct Dependencies {
     entry: Vec<u32>,
     /// The last line that named each line.
-    named_by: Vec<usize>,
+    named_by: Vec<u32>,
 }
 
 impl Dependencies {
     /// The entry of a line in the index, without its count: its indicator and the lines of its cells, ascending, each once.
-    pub fn of_line(&mut self, number: usize, indicator: Cell, cells: &[Cell]) -> &[u32] {
+    pub fn of_line(&mut self, number: u32, indicator: Cell, cells: &[Cell]) -> &[u32] {
         self.entry.clear();
-        self.named_by.resize(number, 0);
+        self.named_by.resize(number as usize, 0);
         if indicator != 0 {
             self.name(number, indicator);
         }
@@ -31,11 +31,11 @@ impl Dependencies {
     }
 
     #[inline]
-    fn name(&mut self, number: usize, named: Cell) {
+    fn name(&mut self, number: u32, named: Cell) {
         let last = &mut self.named_by[named as usize];
         if *last != number {
             *last = number;
-            self.entry.push(u32::from(named));
+            self.entry.push(named);
         }
     }
 }

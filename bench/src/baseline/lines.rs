@@ -27,7 +27,8 @@ pub struct Lines {
     lines: Vec<Line>,
     kinds: Vec<Kind>,
     lengths: Vec<Cell>,
-    /// The variables of contexts, in order. A context may begin with the cells of another.
+    /// The variables of contexts, in order. A context may begin with the cells of another; where blocks branch it is copied,
+    /// which in the worst book takes space in the square of its lines.
     contexts: Vec<Cell>,
 }
 

@@ -2,11 +2,14 @@
 
 use crate::baseline;
 use crate::random::Random;
-use crate::sizes::{Cell, LARGEST_LIMIT, ROW_WIDTH, SMALLEST_LIMIT, WORK_UNITS};
+use crate::sizes::{Cell, NarrowCell, LARGEST_LIMIT, ROW_WIDTH, SMALLEST_LIMIT, WORK_UNITS};
 use crate::stores::Stores;
 use crate::Outcome;
 
 const USUAL_LIMIT: u32 = 256;
+
+/// How many cells an answer may have beyond those that it needs.
+pub const MORE_ROOM: usize = 9;
 
 /// Lengths are in cells.
 #[derive(Clone, Copy, Debug)]
@@ -29,8 +32,14 @@ pub fn byte_pattern(at: usize) -> u8 {
     pattern(at) as u8
 }
 
-fn cell_pattern(at: usize) -> Cell {
-    (at as Cell).wrapping_mul(0x9e37) ^ 0x5a5a
+/// What stands in a term or working cell before a call.
+pub fn cell_pattern(at: usize) -> Cell {
+    (at as Cell).wrapping_mul(0x85eb_ca6b) ^ 0x5a5a_a5a5
+}
+
+/// What stands in a cell of 16 bits before a call.
+pub fn narrow_pattern(at: usize) -> NarrowCell {
+    cell_pattern(at) as NarrowCell
 }
 
 fn filled<T>(store: &mut Vec<T>, length: usize, pattern: fn(usize) -> T) {
@@ -71,7 +80,7 @@ impl Call {
 }
 
 /// How many term cells the first lines take.
-fn recorded_cells(stores: &Stores, lines: usize) -> usize {
+pub fn recorded_cells(stores: &Stores, lines: usize) -> usize {
     if lines == 0 { 0 } else { stores.table[ROW_WIDTH * lines - 1] as usize }
 }
 
@@ -95,14 +104,18 @@ impl Question {
         };
         let accepted = outcome.code == 0 && (1..=last).contains(&line);
         let length = if accepted { baseline::primitives(line, stores).len() } else { random.below(4) };
-        let room = match random.below(10) {
-            0..=3 => length,
-            4..=5 => length.saturating_sub(1),
-            6 => 0,
-            7 => random.between(0, length + 3),
-            _ => length + random.between(1, 9),
-        };
-        Question { line: line as u32, room }
+        Question { line: line as u32, room: room(random, length, MORE_ROOM) }
+    }
+}
+
+/// Room for an answer of this length: often just enough, or one less; seldom none; else up to so much more.
+pub fn room(random: &mut Random, length: usize, more: usize) -> usize {
+    match random.below(10) {
+        0..=3 => length,
+        4..=5 => length.saturating_sub(1),
+        6 => 0,
+        7 => random.between(0, length + more),
+        _ => length + random.between(1, more),
     }
 }
 

@@ -2,7 +2,8 @@
 
 use super::calls::{pattern, Call, Question};
 use super::printed::Printed;
-use crate::baseline::{self, Notes, Refusal};
+use super::widths::Widths;
+use crate::baseline::{self, Notes};
 use crate::random::Random;
 use crate::sizes::CODES;
 use crate::stores::Stores;
@@ -31,6 +32,7 @@ pub struct Comparison {
     answers: [usize; CODES],
     unfit: usize,
     pub(super) printed: Printed,
+    pub(super) widths: Widths,
     steps: u64,
     differences: usize,
 }
@@ -39,6 +41,7 @@ impl Comparison {
     /// Compares the checks of a book, then on some books what a line rests on, and their pages.
     pub fn compare(&mut self, random: &mut Random, book: &[u8], call: &Call) {
         let outcome = self.check(book, call);
+        self.shelf_of_some_books(&outcome);
         if random.once_in(if outcome.code == 0 { 2 } else { REFUSED_ASKED }) {
             let question = Question::new(random, &outcome, &self.theirs);
             self.rests_on(book, call, &outcome, question);
@@ -77,7 +80,7 @@ impl Comparison {
             return;
         }
         let length = baseline::primitives(outcome.line as usize, &self.theirs).len();
-        for room in [length, length - 1] {
+        for room in [length, length.saturating_sub(1)] {
             self.rests_on(book, call, outcome, Question { line: outcome.line, room });
         }
     }
@@ -110,9 +113,11 @@ impl Comparison {
 
     /// Prints the counts; true if there was no difference and each code and each situation was met.
     pub fn report(&self) -> bool {
-        println!("code    check rests_on    pages");
+        println!("code    check rests_on    pages    widen   narrow");
         for code in 0..CODES {
-            println!("{code:>4} {:>8} {:>8} {:>8}", self.codes[code], self.answers[code], self.printed.codes[code]);
+            print!("{code:>4}");
+            self.calls().iter().for_each(|(counts, _)| print!(" {:>8}", counts[code]));
+            println!();
         }
         let [put_in, size, nesting] = self.completed;
         println!("12 for a list that does not fit: {}", self.unfit);
@@ -122,22 +127,29 @@ impl Comparison {
             println!("{first} ahead of {other}: {count}");
         }
         println!("5 for a constant as indicator: {}", self.constant_indicators);
-        for (what, count) in self.printed.counts() {
+        let others: Vec<_> = self.printed.counts().into_iter().chain(self.widths.counts()).collect();
+        for (what, count) in &others {
             println!("{what}: {count}");
         }
         println!("{} head steps, {} differences", self.steps, self.differences);
         let counts = self.completed.iter().chain(&self.rivals).chain([&self.unfit, &self.constant_indicators]);
-        let printed = self.printed.counts().into_iter().map(|(_, count)| count);
-        self.differences == 0 && self.all_codes_met() && counts.copied().chain(printed).all(|count| count > 0)
+        let others = others.iter().map(|(_, count)| count);
+        self.differences == 0 && self.all_codes_met() && counts.chain(others).all(|&count| count > 0)
     }
 
-    /// Each code but those that the call never gives.
+    /// How often each call gave each code, and the codes that it can give.
+    fn calls(&self) -> [(&[usize; CODES], fn(usize) -> bool); 5] {
+        [
+            (&self.codes, |code| code <= 12 || code == 14),
+            (&self.answers, |code| code <= 14),
+            (&self.printed.codes, |code| code <= 12 || code == 14 || code == 15),
+            (&self.widths.widened, |code| code == 0 || code == 15),
+            (&self.widths.narrowed, |code| code == 0 || code == 15 || code == 16),
+        ]
+    }
+
+    /// Each call gave those codes that it can give.
     fn all_codes_met(&self) -> bool {
-        let [no_line, too_small] = [Refusal::NoSuchLine, Refusal::StoreTooSmall].map(|r| r as usize);
-        (0..CODES).all(|code| {
-            (self.codes[code] > 0 || code == no_line || code == too_small)
-                && (self.answers[code] > 0 || code == too_small)
-                && (self.printed.codes[code] > 0 || code == no_line)
-        })
+        self.calls().iter().all(|(counts, given)| (0..CODES).all(|code| (counts[code] > 0) == given(code)))
     }
 }

@@ -2,45 +2,60 @@
 
 use super::calls::Call;
 use crate::generate::with_arguments;
-use crate::sizes::{LARGEST_LIMIT, MOST_BYTES, MOST_LINES, ROW_WIDTH, SMALLEST_LIMIT, WORK_UNITS};
+use crate::sizes::{LARGEST_LIMIT, MOST_BYTES, MOST_LINES, NARROW_LINES, ROW_WIDTH, SMALLEST_LIMIT, WORK_UNITS};
+
+/// The least, that of the listing program, the largest.
+const LIMITS: [u32; 3] = [SMALLEST_LIMIT, 128, LARGEST_LIMIT];
 
 /// How many lines one line names at most.
 const NAMES: usize = 4_000;
 
+/// The line behind the last, once more with faults that are looked at before its storage, and some that are not.
+const LASTS: [&str; 9] = [
+    "*a:=PN:b\n", "*n7:=PN:type\n", "*a:=n0(n1):type\n", "*a:=n0:n1\n", "*a:=n2:n1\n", "*a:=PN:type", "a*b:=PN:type\n",
+    "n1*b:=PN:type\n", "*a:=n65534:n65534\n",
+];
+
+/// Each book with the limits and stores that it is checked with. Books of 65,535 lines are few, above all under small limits.
 pub fn books() -> Vec<(Vec<u8>, Call)> {
-    let call = Call {
-        budget: 9, limit: SMALLEST_LIMIT, table: ROW_WIDTH * (MOST_LINES + 2), terms: MOST_LINES + 2, work: 2_050,
-        index: MOST_LINES + 2,
-    };
+    let mut books = Vec::new();
+    for limit in LIMITS {
+        books.extend((NARROW_LINES - 1..=NARROW_LINES + 2).map(|count| (lines(count), room_for(count + 2, limit))));
+        books.extend([NARROW_LINES, NARROW_LINES + 2].map(|count| (chain(count), room_for(4 * count, limit))));
+        books.extend((MOST_BYTES - 1..=MOST_BYTES + 1).map(|bytes| (spaces(bytes), room_for(1, limit))));
+        books.push((lines(MOST_LINES + 1), room_for(MOST_LINES + 2, limit)));
+    }
+    let most = room_for(MOST_LINES + 2, LARGEST_LIMIT);
+    books.extend([MOST_LINES - 1, MOST_LINES].map(|count| (lines(count), most)));
+    books.extend(LASTS.map(|last| (with(last), most)));
+    books.push((with(LASTS[0]), room_for(MOST_LINES, LIMITS[1])));
+    books.push((chain(MOST_LINES), room_for(4 * MOST_LINES, LARGEST_LIMIT)));
+    books.extend(["v0", "c"].map(|middle| (block(MOST_LINES, middle), room_for(3 * MOST_LINES, LARGEST_LIMIT))));
+    books.extend(completed_books());
+    books.extend(named_books());
+    books
+}
+
+/// Room for so many lines, and for as many cells and cells of the index.
+fn room_for(lines: usize, limit: u32) -> Call {
+    Call { budget: 9, limit, table: ROW_WIDTH * lines, terms: lines, work: WORK_UNITS * limit as usize + 2, index: lines }
+}
+
+/// A book of so many lines that name nothing; the third is a variable.
+fn lines(count: usize) -> Vec<u8> {
     let line = |i: usize| format!("*n{i}:={}:type\n", if i == 2 { "EB" } else { "PN" }).into_bytes();
-    let lines = |count: usize| -> Vec<u8> { (0..count).flat_map(line).collect() };
-    let with = |line: &str| [&lines(MOST_LINES)[..], line.as_bytes()].concat();
-    let mut books = vec![lines(MOST_LINES - 1), lines(MOST_LINES), lines(MOST_LINES + 1)];
-    let lasts = [
-        "*a:=PN:b\n", "*n7:=PN:type\n", "*a:=n0(n1):type\n", "*a:=n0:n1\n", "*a:=n2:n1\n", "*a:=PN:type", "a*b:=PN:type\n",
-        "n1*b:=PN:type\n",
-    ];
-    books.extend(lasts.map(with));
-    // 2^16 + 1 and 2^32 + 1 cells when completed.
-    for (variables, names) in [(256, 256), (4_096, 1 << 20)] {
-        books.extend(["type", "nowhere"].map(|category| completed(variables, names, category)));
-    }
-    for bytes in [MOST_BYTES - 1, MOST_BYTES, MOST_BYTES + 1] {
-        let mut book = vec![b' '; bytes];
-        let line = b"*a:=PN:type\n";
-        book[bytes - line.len()..].copy_from_slice(line);
-        books.push(book);
-    }
-    let mut calls: Vec<(Vec<u8>, Call)> = books.into_iter().map(|book| (book, call)).collect();
-    let long = Call { terms: 4 * MOST_LINES, index: 4 * MOST_LINES, ..call };
-    calls.extend([MOST_LINES - 1, MOST_LINES].map(|count| (chain(count), long)));
-    let wide = Call { limit: LARGEST_LIMIT, work: WORK_UNITS * LARGEST_LIMIT as usize, ..long };
-    // Two cells for each variable and for the constant but the first, one for each other line, and the last line's.
-    let needed = 2 * NAMES + 1 + NAMES + (NAMES + 2);
-    for order in [|i| i, |i| NAMES - 1 - i, |i| i * 1_237 % NAMES, |i| i * i % NAMES / 16 * 16] {
-        calls.extend([wide.index, needed, needed - 1].map(|index| (named(order), Call { index, ..wide })));
-    }
-    calls
+    (0..count).flat_map(line).collect()
+}
+
+/// As many lines as there can be, and one more.
+fn with(last: &str) -> Vec<u8> {
+    [&lines(MOST_LINES)[..], last.as_bytes()].concat()
+}
+
+/// A book of so many bytes in one line.
+fn spaces(bytes: usize) -> Vec<u8> {
+    let line = b"*a:=PN:type\n";
+    [&vec![b' '; bytes - line.len()][..], line].concat()
 }
 
 /// A book in which every second line rests on all that stands before it.
@@ -55,10 +70,35 @@ fn chain(lines: usize) -> Vec<u8> {
     text.into_bytes()
 }
 
+/// A book of so many lines: a block of variables, each in the context of all before it, and in it a constant, then a line with
+/// this middle.
+fn block(lines: usize, middle: &str) -> Vec<u8> {
+    let mut text = variables(lines - 2);
+    let last = format!("v{}", lines - 3);
+    text.push_str(&format!("{last}*c:=PN:type\n{last}*u:={middle}:type\n"));
+    text.into_bytes()
+}
+
+/// A block of so many variables.
+fn variables(count: usize) -> String {
+    let mut text = String::from("*v0:=EB:type\n");
+    (1..count).for_each(|v| text.push_str(&format!("v{}*v{v}:=EB:type\n", v - 1)));
+    text
+}
+
+/// Lines of many names in four orders; the index has room, just room, or a cell too few.
+fn named_books() -> Vec<(Vec<u8>, Call)> {
+    let wide = room_for(8 * NAMES, LARGEST_LIMIT);
+    // Two cells for each variable and for the constant but the first, one for each other line, and the last line's.
+    let needed = 2 * NAMES + 1 + NAMES + (NAMES + 2);
+    let orders = [|i| i, |i| NAMES - 1 - i, |i| i * 1_237 % NAMES, |i| i * i % NAMES / 16 * 16];
+    let calls = [wide.index, needed, needed - 1].map(|index| Call { index, ..wide });
+    orders.iter().flat_map(|&order| calls.map(|call| (named(order), call))).collect()
+}
+
 /// A book whose last line has so many names in this order.
 fn named(order: fn(usize) -> usize) -> Vec<u8> {
-    let mut text = String::from("*v0:=EB:type\n");
-    (1..NAMES).for_each(|v| text.push_str(&format!("v{}*v{v}:=EB:type\n", v - 1)));
+    let mut text = variables(NAMES);
     text.push_str(&format!("v{}*c:=PN:type\n", NAMES - 1));
     (0..NAMES).for_each(|i| text.push_str(&format!("*n{i}:=PN:type\n")));
     let arguments: Vec<String> = (0..NAMES).map(|i| format!("n{}", order(i))).collect();
@@ -66,20 +106,24 @@ fn named(order: fn(usize) -> usize) -> Vec<u8> {
     text.into_bytes()
 }
 
+/// Lines of 2^16 + 1 and 2^32 + 1 cells when completed.
+fn completed_books() -> Vec<(Vec<u8>, Call)> {
+    let call = room_for(NARROW_LINES, SMALLEST_LIMIT);
+    let sizes = [(256, 256), (4_096, 1 << 20)];
+    sizes.iter().flat_map(|&(variables, names)| ["type", "nowhere"].map(|last| (completed(variables, names, last), call))).collect()
+}
+
 /// A block of variables, and in it a line of names that each lack arguments: variables × names + 1 cells when completed.
-fn completed(variables: usize, names: usize, category: &str) -> Vec<u8> {
+fn completed(count: usize, names: usize, category: &str) -> Vec<u8> {
     let mut arguments = Vec::new();
     let mut left = names - 1;
     while left > 0 {
-        let lone = (left - 1).min(variables - 1);
+        let lone = (left - 1).min(count - 1);
         arguments.push(with_arguments("c", &vec!["c"; lone]));
         left -= 1 + lone;
     }
-    let mut text = String::from("*v0:=EB:type\n");
-    for v in 1..variables {
-        text.push_str(&format!("v{}*v{v}:=EB:type\n", v - 1));
-    }
-    let block = format!("v{}", variables - 1);
+    let mut text = variables(count);
+    let block = format!("v{}", count - 1);
     text.push_str(&format!("{block}*c:=PN:type\n{block}*u:={}:{category}\n", with_arguments("c", &arguments)));
     text.into_bytes()
 }

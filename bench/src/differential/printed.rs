@@ -1,6 +1,6 @@
 //! The pages of a book by both programs, and the book that is read back from them.
 
-use super::calls::{byte_pattern, Call};
+use super::calls::{byte_pattern, room, Call};
 use super::comparison::Comparison;
 use crate::baseline;
 use crate::random::Random;
@@ -63,7 +63,7 @@ impl Comparison {
     /// Compares the pages of some books.
     pub fn print(&mut self, random: &mut Random, book: &[u8], call: &Call, outcome: &Outcome) {
         if random.once_in(if outcome.code == 0 { ACCEPTED_PRINTED } else { REFUSED_PRINTED }) {
-            let room = room(random, baseline::page_length(book));
+            let room = room(random, baseline::page_length(book), PAGE_ROW + 1);
             let reads = random.once_in(READ_BACK);
             self.pages(book, call, outcome, room, reads);
         }
@@ -100,16 +100,5 @@ impl Comparison {
         if reads && !self.printed.reads_back(&page[..length], call, outcome, &self.theirs) {
             self.differ(book, &format!("{call:?}\n{outcome:?}: read back from its pages it is another"));
         }
-    }
-}
-
-/// Room for pages of this length: often just enough, or a byte less.
-fn room(random: &mut Random, length: usize) -> usize {
-    match random.below(10) {
-        0..=3 => length,
-        4..=5 => length.saturating_sub(1),
-        6 => 0,
-        7 => random.between(0, length + PAGE_ROW),
-        _ => length + random.between(1, PAGE_ROW + 1),
     }
 }

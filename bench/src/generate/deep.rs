@@ -20,15 +20,24 @@ const NOTIONS: &str = "
 
 pub fn part(writer: &mut Writer, random: &mut Random, part: usize) {
     let own = format!("{part}");
-    writer.lines(NOTIONS, &own);
-    for i in 0..4 {
-        arguments(writer, random, &own, i);
-        applications(writer, random, &own, i);
-        abstractions(writer, random, &own, i);
-        domains(writer, random, &own, i);
-        dependent(writer, random, &own, i);
-    }
+    nested(writer, random, &own, 4);
     large(writer, random, &own);
+}
+
+/// A part without large expressions.
+pub fn nested_part(writer: &mut Writer, random: &mut Random, part: usize) {
+    nested(writer, random, &format!("{part}"), 3);
+}
+
+fn nested(writer: &mut Writer, random: &mut Random, own: &str, times: usize) {
+    writer.lines(NOTIONS, own);
+    for i in 0..times {
+        arguments(writer, random, own, i);
+        applications(writer, random, own, i);
+        abstractions(writer, random, own, i);
+        domains(writer, random, own, i);
+        dependent(writer, random, own, i);
+    }
 }
 
 /// Arguments in arguments; a comparison that goes down to depth 32.

@@ -2,6 +2,7 @@
 
 use super::{with_arguments, Writer};
 use crate::random::Random;
+use crate::sizes::LONGEST_NAME;
 
 /// Prefixes of 22 bytes; what follows makes a name unique.
 const PREFIXES: [&str; 4] = [
@@ -16,10 +17,12 @@ struct Names {
 
 impl Names {
     fn fresh(&mut self, random: &mut Random) -> String {
-        let filling = "_".repeat(random.below(5));
-        let name = format!("{}{filling}{:03}{:03}", random.choose(&PREFIXES), self.part, self.given);
+        let filling = random.below(5);
+        let prefix = random.choose(&PREFIXES);
+        let number = format!("{:03}{:03}", self.part, self.given);
         self.given += 1;
-        name
+        let filling = filling.min(LONGEST_NAME - prefix.len() - number.len());
+        format!("{prefix}{}{number}", "_".repeat(filling))
     }
 }
 
@@ -30,17 +33,26 @@ enum Variable {
     Equal(usize),
 }
 
-/// How many variables at the beginning of a context are numbers.
-const FIRST_NUMBERS: usize = 6;
+/// The contexts of a book.
+pub struct Shape {
+    least: usize,
+    most: usize,
+    /// How many variables at the beginning are numbers.
+    first_numbers: usize,
+}
+
+pub const WIDE: Shape = Shape { least: 20, most: 40, first_numbers: 6 };
+pub const NARROW: Shape = Shape { least: 2, most: 4, first_numbers: 2 };
 
 struct Context {
+    first_numbers: usize,
     names: Vec<String>,
     variables: Vec<Variable>,
     /// For each number the first of those that proofs connect it with.
     groups: Vec<usize>,
 }
 
-pub fn part(writer: &mut Writer, random: &mut Random, part: usize) {
+pub fn part(writer: &mut Writer, random: &mut Random, part: usize, shape: &Shape) {
     let names = &mut Names { part, given: 0 };
     let number = names.fresh(random);
     writer.line(&format!("*{number}:=PN:type"));
@@ -52,7 +64,7 @@ pub fn part(writer: &mut Writer, random: &mut Random, part: usize) {
     let reflexive = names.fresh(random);
     writer.line(&format!("{x}*{reflexive}:=PN:{equal}({x},{x})"));
 
-    let context = context(writer, random, names, &number, &equal);
+    let context = context(writer, random, names, &number, &equal, shape);
     let indicator = context.names.last().unwrap();
     let mut constants: Vec<String> = Vec::new();
     for _ in 0..3 {
@@ -72,14 +84,15 @@ pub fn part(writer: &mut Writer, random: &mut Random, part: usize) {
     }
 }
 
-/// A context of 20 to 40 variables, each third about a proof.
-fn context(writer: &mut Writer, random: &mut Random, names: &mut Names, number: &str, equal: &str) -> Context {
-    let mut context = Context { names: Vec::new(), variables: Vec::new(), groups: Vec::new() };
-    for place in 0..random.between(20, 40) {
+/// A context in which about each third variable is a proof.
+fn context(writer: &mut Writer, random: &mut Random, names: &mut Names, number: &str, equal: &str, shape: &Shape) -> Context {
+    let first_numbers = shape.first_numbers;
+    let mut context = Context { first_numbers, names: Vec::new(), variables: Vec::new(), groups: Vec::new() };
+    for place in 0..random.between(shape.least, shape.most) {
         let name = names.fresh(random);
         let indicator = context.names.last().map_or("", String::as_str);
         let numbers: Vec<usize> = (0..place).filter(|&i| matches!(context.variables[i], Variable::Number)).collect();
-        if place < FIRST_NUMBERS || !random.once_in(3) {
+        if place < first_numbers || !random.once_in(3) {
             writer.line(&format!("{indicator}*{name}:=EB:{number}"));
             context.variables.push(Variable::Number);
             context.groups.push(place);
@@ -121,7 +134,7 @@ fn applied(random: &mut Random, context: &Context, constants: &[String], reflexi
             nested = true;
             format!("{}({})", random.choose(constants), context.names.join(","))
         } else {
-            context.names[random.below(FIRST_NUMBERS)].clone()
+            context.names[random.below(context.first_numbers)].clone()
         });
     }
     for place in 0..left_out {
