@@ -10,25 +10,22 @@ const LIMITS: [u32; 3] = [SMALLEST_LIMIT, 128, LARGEST_LIMIT];
 /// How many lines one line names at most.
 const NAMES: usize = 4_000;
 
-/// The line behind the last, once more with faults that are looked at before its storage, and some that are not.
+/// Lines behind the last that there can be, with faults that are looked at before their storage, and with others.
 const LASTS: [&str; 9] = [
     "*a:=PN:b\n", "*n7:=PN:type\n", "*a:=n0(n1):type\n", "*a:=n0:n1\n", "*a:=n2:n1\n", "*a:=PN:type", "a*b:=PN:type\n",
     "n1*b:=PN:type\n", "*a:=n65534:n65534\n",
 ];
 
-/// Each book with the limits and stores that it is checked with. Books of 65,535 lines are few, above all under small limits.
+/// Each book with the limits and stores that it is checked with.
 pub fn books() -> Vec<(Vec<u8>, Call)> {
     let mut books = Vec::new();
     for limit in LIMITS {
-        books.extend((NARROW_LINES - 1..=NARROW_LINES + 2).map(|count| (lines(count), room_for(count + 2, limit))));
+        books.extend((NARROW_LINES - 1..=NARROW_LINES + 2).map(|count| (lines(count), room_for(count + 4, limit))));
         books.extend([NARROW_LINES, NARROW_LINES + 2].map(|count| (chain(count), room_for(4 * count, limit))));
         books.extend((MOST_BYTES - 1..=MOST_BYTES + 1).map(|bytes| (spaces(bytes), room_for(1, limit))));
-        books.push((lines(MOST_LINES + 1), room_for(MOST_LINES + 2, limit)));
+        books.extend((MOST_LINES - 1..=MOST_LINES + 1).map(|count| (lines(count), room_for(MOST_LINES + 4, limit))));
+        books.extend(LASTS.map(|last| (with(last), room_for(MOST_LINES + 4, limit))));
     }
-    let most = room_for(MOST_LINES + 2, LARGEST_LIMIT);
-    books.extend([MOST_LINES - 1, MOST_LINES].map(|count| (lines(count), most)));
-    books.extend(LASTS.map(|last| (with(last), most)));
-    books.push((with(LASTS[0]), room_for(MOST_LINES, LIMITS[1])));
     books.push((chain(MOST_LINES), room_for(4 * MOST_LINES, LARGEST_LIMIT)));
     books.extend(["v0", "c"].map(|middle| (block(MOST_LINES, middle), room_for(3 * MOST_LINES, LARGEST_LIMIT))));
     books.extend(completed_books());
