@@ -26,11 +26,7 @@ fn spaced(x: u64) {
     io::print_decimal(STDOUT_FILENO, x);
 }
 
-fn cell(x: Cell) {
-    spaced(x as u64);
-}
-
-fn wide_cell(x: u32) {
+fn cell(x: u32) {
     spaced(x as u64);
 }
 
@@ -45,14 +41,14 @@ pub fn outcome(r: Numbers) {
     say(r.steps as u64, 10);
 }
 
-// The term cells from index `from` on, below `to`, each behind a space.
-fn term_cells(terms: &[Cell], from: usize, to: usize) {
+// The cells from index `from` on, below `to`, each behind a space.
+fn cells_between(s: &[u32], from: usize, to: usize) {
     let mut i = from;
     while i < to {
-        if i >= terms.len() {
+        if i >= s.len() {
             return;
         }
-        cell(terms[i]);
+        cell(s[i]);
         i = i + 1;
     }
 }
@@ -76,9 +72,9 @@ fn row(book: &[u8], table: &[u32], terms: &[Cell], v: u32) {
     let category = field(table, line, CATEGORY_START);
     let end = field(table, line, CATEGORY_END);
     io::write_all(STDOUT_FILENO, &[b' ', b':']);
-    term_cells(terms, middle, category);
+    cells_between(terms, middle, category);
     io::write_all(STDOUT_FILENO, &[b' ', b':']);
-    term_cells(terms, category, end);
+    cells_between(terms, category, end);
     io::write_all(STDOUT_FILENO, &[10]);
 }
 
@@ -101,29 +97,25 @@ pub fn other_names(book: &[u8], table: &[u32], n: u32) {
     say(identifier(book, table, 4294967295).len() as u64, 10);
 }
 
-// The cells of 32 bits from index `from` on, below `to`, each behind a space.
-fn wide_cells(s: &[u32], from: usize, to: usize) {
+// How many cells from index `from` on, below `to`, are not x.
+fn others(s: &[u32], from: usize, to: usize, x: u32) -> u64 {
+    let mut n = 0;
     let mut i = from;
     while i < to {
         if i >= s.len() {
-            return;
+            return n;
         }
-        wide_cell(s[i]);
-        i = i + 1;
-    }
-}
-
-// How many cells of 32 bits from index `from` on are not 7.
-fn changed(s: &[u32], from: usize) -> u64 {
-    let mut n = 0;
-    let mut i = from;
-    while i < s.len() {
-        if s[i] != 7 {
+        if s[i] != x {
             n = n + 1;
         }
         i = i + 1;
     }
     n
+}
+
+// How many cells from index `from` on are not 7.
+fn changed(s: &[u32], from: usize) -> u64 {
+    others(s, from, s.len(), 7)
 }
 
 fn count(x: u32) -> usize {
@@ -151,25 +143,9 @@ fn entries_end(index: &[u32], n: u32) -> usize {
 // The index: the entries of the first `shown` lines, and how many cells changed behind those of the n recorded ones.
 pub fn entries(index: &[u32], n: u32, shown: u32) {
     io::write_all(STDOUT_FILENO, b"index");
-    wide_cells(index, 0, entries_end(index, shown));
+    cells_between(index, 0, entries_end(index, shown));
     io::write_all(STDOUT_FILENO, b" : ");
     say(changed(index, entries_end(index, n)), 10);
-}
-
-// How many cells from index `from` on, below `to`, are not x.
-fn others(s: &[Cell], from: usize, to: usize, x: Cell) -> u64 {
-    let mut n = 0;
-    let mut i = from;
-    while i < to {
-        if i >= s.len() {
-            return n;
-        }
-        if s[i] != x {
-            n = n + 1;
-        }
-        i = i + 1;
-    }
-    n
 }
 
 // Cells of table and term store that changed behind those of the n recorded lines; of the first WORK_UNITS × limit working cells
@@ -179,13 +155,10 @@ pub fn other_cells(table: &[u32], terms: &[Cell], work: &[Cell], n: u32, limit: 
     let room = WORK_UNITS * (limit as usize);
     io::write_all(STDOUT_FILENO, b"cells ");
     say(changed(table, ROW_WIDTH * lines), b' ');
-    say(
-        others(terms, field(table, lines, CATEGORY_END), terms.len(), 7),
-        b' ',
-    );
+    say(changed(terms, field(table, lines, CATEGORY_END)), b' ');
     say(others(work, 0, room, 0), b' ');
-    say(others(work, room, work.len(), 7), b' ');
-    say(others(work, 0, work.len(), 7), 10);
+    say(changed(work, room), b' ');
+    say(changed(work, 0), 10);
 }
 
 // Code, line, steps and length of a call other than the check, and the byte c.
@@ -201,7 +174,7 @@ pub fn written(r: AnswerNumbers, cells: &[u32]) {
     let length = r.length as usize;
     numbers(r, b' ');
     io::write_all(STDOUT_FILENO, b":");
-    wide_cells(cells, 0, length);
+    cells_between(cells, 0, length);
     io::write_all(STDOUT_FILENO, b" : ");
     say(changed(cells, length), 10);
 }

@@ -1,14 +1,14 @@
--- `reports::report::term_cells` is safe and ends. The measure is the number of cells that are left.
+-- `reports::report::cells_between` is safe and ends. The measure is the number of cells that are left.
 use Prim.Native.Nat.{_-_}
 use borrow.Author.Needs.{needs}
-use Rattle.reports.proofs.report.term_cells.Statement.{statement}
-use Rattle.reports.proofs.report.term_cells.Tie as tie
+use Rattle.reports.proofs.report.cells_between.Statement.{statement}
+use Rattle.reports.proofs.report.cells_between.Tie as tie
 
 abbrev Inv-loop : tie.InvT-loop
-Inv-loop terms from to i₀ i = Unit {0}
+Inv-loop s from to i₀ i = Unit {0}
 
 abbrev μ-loop : tie.MeasureT-loop
-μ-loop terms from to i₀ i = to - i
+μ-loop s from to i₀ i = to - i
 
 loop-holds : tie.Need-loop-holds Inv-loop μ-loop
 loop-holds c = search needs
@@ -37,8 +37,8 @@ loop-again c = search needs
 returns-2 : tie.Need-returns-2 Inv-loop μ-loop
 returns-2 c = search needs
 
-pub term-cells-spec : {M : Type 1} → statement M
-term-cells-spec =
+pub cells-between-spec : {M : Type 1} → statement M
+cells-between-spec =
     tie.close
     (tie.spec
     Inv-loop
