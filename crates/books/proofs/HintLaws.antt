@@ -9,9 +9,9 @@ use lib.Seq.{sets, length-sets, take-at, take-take, length-take-le, getD-set-sam
 use Rattle.aut68.specs.Lines.{identifierPart, partOf, rowCell}
 use Rattle.aut68.specs.Sizes.{lineLimit, rowWidth, atNameStart, atNameLength}
 use Rattle.cells.specs.Layout.{namesAt, readerUnits}
-use Rattle.cells.specs.Links.{linkFactor, linkOf, linkRow, unlinked, unlinked-more, unlinked-sets}
+use Rattle.cells.specs.Links.{linkFactor, linkOf, linkAt, linkRow, unlinked, unlinked-more, unlinked-sets}
 use Rattle.cells.specs.Stores.{sets-elsewhere}
-use Rattle.cells.specs.RowLaws.{row-cell-is}
+use Rattle.cells.specs.RowLaws.{row-cell-is, row-cell-behind}
 use Rattle.names.specs.Hints.{slots, slotOf, nameAt}
 use Rattle.names.specs.HintLaws.{slots-fit, slots-inside, slot-below, identifier-name, hinted-same, hinted-more}
 use Rattle.names.specs.Posts.{HeadPost, LinkPost}
@@ -22,12 +22,6 @@ use Rattle.books.specs.Progress.{Noted, NotedLine, HintedIn}
 -- a slot lies in a store that is not too small
 slot-inside : (w word : List ℕ) → 4 ≤ length w → slotOf (length w) word < length w
 slot-inside w word l = omega (arith, slot-below (length w) word, slots-inside (length w))
-
--- a cell of the row behind the first n rows
-cell-behind : (tb : List ℕ) (n k : ℕ) → rowCell tb (suc n) k ≡ getD tb (rowWidth * n + k) 0
-cell-behind tb n k =
-    let e : rowWidth * suc n + k - rowWidth ≡ rowWidth * n + k = omega arith in
-    row-cell-is tb (suc n) k (λ z. omega arith) ∙ ap (λ (i : ℕ). getD tb i 0) e
 
 pub not-noted : {book tb : List ℕ} (n limit : ℕ) {w : List ℕ} → (suc n < lineLimit → readerUnits * limit ≤ length w → ⊥) → NotedLine book tb tb n limit w w
 not-noted n limit f = record { long = refl; tableLong = refl; noted = λ l r p e s. absurd (f l e) }
@@ -48,7 +42,7 @@ line-noted {book} {tb} {tb′} n limit w part {word} {before} fits e head link =
           let inside : slotOf (length u) word < length u = slot-inside u word (omega (arith, long-u)) in
           let was : before ≡ getD u (slotOf (length u) (nameAt book tb (suc n))) 0 = head .was inside (omega arith) ∙ ap (λ (i : ℕ). getD u i 0) slot in
           record {
-            linkIs = λ l. link .is few (omega (arith, was)) room (omega (arith, cell-behind tb n atNameLength)) ∙ ap (linkRow tb n) was;
+            linkIs = λ l. link .is few (omega (arith, was)) room (omega (arith, row-cell-behind tb n atNameLength)) ∙ ap (linkRow tb n) was;
             headIs = take-at part (drop (readerUnits * limit) w) (readerUnits * limit) m ∙ head .is inside (omega arith) ∙ (λ i. set u (slot i) (next i));
           };
     }
@@ -60,7 +54,7 @@ pub second-cell : (tb : List ℕ) (n a b : ℕ) (rest : List ℕ) → rowWidth *
 second-cell tb n a b rest l =
     let e : rowWidth * n + atNameLength ≡ suc (rowWidth * n) = omega arith in
     let w : List ℕ = set (set tb (rowWidth * n) a) (suc (rowWidth * n)) b in
-    cell-behind (sets tb (rowWidth * n) (a ∷ b ∷ rest)) n atNameLength
+    row-cell-behind (sets tb (rowWidth * n) (a ∷ b ∷ rest)) n atNameLength
     ∙ ap (λ (i : ℕ). getD (sets w (suc (suc (rowWidth * n))) rest) i 0) e
     ∙ sets-elsewhere rest w (suc (suc (rowWidth * n))) (suc (rowWidth * n)) (inl (omega arith))
     ∙ getD-set-same (set tb (rowWidth * n) a) (suc (rowWidth * n)) b 0 (simp length-set (omega arith))
@@ -73,7 +67,7 @@ module _ (tb tb₁ tb₂ row : List ℕ) (n h : ℕ) (written : tb₁ ≡ sets t
       let at : ℕ = rowWidth * v + k - rowWidth in
       row-cell-is tb₂ v k (λ z. omega arith)
       ∙ ap (λ (x : List ℕ). getD x at 0) linked
-      ∙ getD-set-other tb₁ (rowWidth * n + atNameLength) at _ 0 (λ e. omega arith)
+      ∙ getD-set-other tb₁ (linkAt n) at _ 0 (λ e. omega arith)
       ∙ ap (λ (x : List ℕ). getD x at 0) written
       ∙ sets-elsewhere row tb (rowWidth * n) at (inl (omega arith))
       ∙ sym (row-cell-is tb v k (λ z. omega arith))
@@ -94,18 +88,18 @@ module _ (tb tb₁ tb₂ row : List ℕ) (n h : ℕ) (written : tb₁ ≡ sets t
     length-here : rowCell tb₂ (suc n) atNameLength ≡ rowCell tb₁ (suc n) atNameLength + linkFactor * h
     unfolding linkRow
     length-here =
-        cell-behind tb₂ n atNameLength
-        ∙ ap (λ (x : List ℕ). getD x (rowWidth * n + atNameLength) 0) linked
-        ∙ getD-set-same tb₁ (rowWidth * n + atNameLength) _ 0 (omega (arith, long))
-        ∙ ap (λ (x : ℕ). x + linkFactor * h) (sym (cell-behind tb₁ n atNameLength))
+        row-cell-behind tb₂ n atNameLength
+        ∙ ap (λ (x : List ℕ). getD x (linkAt n) 0) linked
+        ∙ getD-set-same tb₁ (linkAt n) _ 0 (omega (arith, long))
+        ∙ ap (λ (x : ℕ). x + linkFactor * h) (sym (row-cell-behind tb₁ n atNameLength))
 
     start-here : rowCell tb₂ (suc n) atNameStart ≡ rowCell tb₁ (suc n) atNameStart
     unfolding linkRow
     start-here =
-        cell-behind tb₂ n atNameStart
+        row-cell-behind tb₂ n atNameStart
         ∙ ap (λ (x : List ℕ). getD x (rowWidth * n + atNameStart) 0) linked
-        ∙ getD-set-other tb₁ (rowWidth * n + atNameLength) (rowWidth * n + atNameStart) _ 0 (λ e. omega arith)
-        ∙ sym (cell-behind tb₁ n atNameStart)
+        ∙ getD-set-other tb₁ (linkAt n) (rowWidth * n + atNameStart) _ 0 (λ e. omega arith)
+        ∙ sym (row-cell-behind tb₁ n atNameStart)
 
     name-here : (book : List ℕ) → nameAt book tb₂ (suc n) ≡ nameAt book tb₁ (suc n)
     unfolding nameAt
@@ -120,7 +114,7 @@ module _ (tb tb₁ tb₂ row : List ℕ) (n h : ℕ) (written : tb₁ ≡ sets t
     pub unlinked-on : unlinked (suc n) tb₂ ≡ sets (unlinked n tb) (rowWidth * n) row
     unlinked-on =
         ap (unlinked (suc n)) linked
-        ∙ unlinked-more n tb₁ h (omega (arith, long)) (omega (arith, cell-behind tb₁ n atNameLength))
+        ∙ unlinked-more n tb₁ h (omega (arith, long)) (omega (arith, row-cell-behind tb₁ n atNameLength))
         ∙ ap (unlinked n) written
         ∙ unlinked-sets n row tb (rowWidth * n) (omega arith)
 

@@ -14,7 +14,7 @@ use Rattle.aut68.specs.Sizes.{lineLimit, rowWidth, atNameLength, largestLimit, 
 use Rattle.aut68.specs.Stores.{Stores, Limits, limitsOf}
 use Rattle.aut68.specs.Bytes.{Bytes, lines}
 use Rattle.aut68.specs.Expr.{size, cells}
-use Rattle.aut68.specs.Lines.{kindCells, lineCells, termsOf, tableOf, rowOf, rowCell}
+use Rattle.aut68.specs.Lines.{kindCells, lineCells, termsOf, rowOf, rowCell}
 use Rattle.aut68.specs.Lines as Lines
 use Rattle.aut68.specs.Index.{entryOf, indexOf}
 use Rattle.aut68.specs.Procedure.Answer.{done, andThen, codeOf}
@@ -34,12 +34,12 @@ use Rattle.reader.specs.Posts.{LineReadTo}
 use Rattle.reader.specs.Posts as Reader
 use Rattle.reader.specs.declared.lines.Line.{Line}
 use Rattle.categories.specs.Places.{LineCells}
-use Rattle.records.specs.Tables.{table-long, spelled-long, over-long}
+use Rattle.records.specs.Tables.{over-long}
 use Rattle.records.specs.OnRecord.{reached-known, reached-book, book-linked}
 use Rattle.records.specs.ReadLines.{LineRead, line-read}
 use Rattle.records.specs.Reached.{Reached, HasRoom, room-is, reached-more, slice-is, context-before}
 use Rattle.records.specs.Indexed.{Indexed, indexed-more}
-use Rattle.records.specs.Bounds.{used-small, line-cells-fit, size-small, stored-cells, row-small, name-short}
+use Rattle.records.specs.Bounds.{reached-table, used-small, line-cells-fit, size-small, stored-cells, row-small, name-short}
 use Rattle.entries.specs.Posts.{NamesPut, NamesPost, EntryPost}
 use Rattle.books.specs.Progress.{Fitting, ToStore, StoredPost, NotedLine, HintedIn, LineResult, LinePost, passed, refused}
 use Rattle.books.specs.Progress as P
@@ -72,10 +72,7 @@ module _ {book : Bytes} {N limit : ℕ} {s₀ : Stores} {k : Recorded} {n used e
   limits = limitsOf N limit s₀
 
   table-same : length tb ≡ length (s₀ .table)
-  table-same =
-      let a = h .tableRoom in
-      let q = h .linesAre in
-      sym (unlinked-long n tb) ∙ ap length (h .tableIs) ∙ over-long (tableOf (k .firsts) (k .recorded)) (s₀ .table) (omega (arith, table-long (k .firsts) (k .recorded) (spelled-long (h .spelled))))
+  table-same = sym (unlinked-long n tb) ∙ reached-table h
 
   terms-same : length ts ≡ length (s₀ .terms)
   terms-same =

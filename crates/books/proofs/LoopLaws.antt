@@ -4,33 +4,26 @@ use mathlib.Core.Logic.{_≢_}
 use mathlib.Core.List.{List, _∷_}
 use Prim.Native.Nat.{ℕ, suc, _+_, _-_, _*_, _≤_, _<_}
 use native.Mathlib.Omega.{arith}
-use lib.ListN.{length, getD, take, drop, replicate, drop-of-length-le, length-replicate, getD-replicate, List·getD-append}
+use lib.ListN.{length, getD, take, drop, drop-of-length-le}
 use lib.Seq.{getD-take, length-take-le}
-use borrow.Author.Tests.{le-leb}
 use Rattle.aut68.specs.Language.{aut68}
 use Rattle.aut68.specs.Sizes.{rowWidth, largestLimit}
 use Rattle.aut68.specs.Stores.{Stores, limitsOf}
 use Rattle.aut68.specs.Bytes.{Bytes, lines}
 use Rattle.aut68.specs.Procedure.Answer.{done, stop, Refusal}
 use Rattle.aut68.specs.Procedure.CheckLine.{Passed, checkLine}
-use Rattle.aut68.specs.Procedure.Run.{Recorded, Ending, refusedAt, nothing, oneMore, checkLines, codeAt, lineAt, stepsAt, recordedAt, over, tableEnd, termsEnd, indexEnd}
+use Rattle.aut68.specs.Procedure.Run.{Recorded, Ending, refusedAt, nothing, oneMore, checkLines, codeAt, lineAt, stepsAt, recordedAt, tableEnd, termsEnd, indexEnd}
 use Rattle.cells.specs.Layout.{unitAt, lineUnit, readerUnits}
 use Rattle.cells.specs.Posts.{cleared}
+use Rattle.cells.specs.CopyLaws.{cleared-zero}
 use Rattle.lookup.specs.Answers.{code-nonzero}
 use Rattle.cells.specs.Links.{unlinked, unlinked-long}
 use Rattle.names.specs.Hints.{slots}
 use Rattle.names.specs.HintLaws.{slots-fit, no-line-hinted}
-use Rattle.records.specs.Tables.{table-long, spelled-long, over-long}
-use Rattle.aut68.specs.Lines.{tableOf}
+use Rattle.records.specs.Bounds.{reached-table}
 use Rattle.records.specs.Reached.{reached-nothing}
 use Rattle.records.specs.Indexed.{indexed-nothing}
 use Rattle.books.specs.Progress.{LineResult, passed, refused, Going, LinesPost, Fitting}
-
-zero-cleared : (n : ℕ) (w : List ℕ) → n ≤ length w → (i : ℕ) → i < n → getD (cleared n w) i 0 ≡ 0
-unfolding cleared over
-zero-cleared n w h i l =
-    rw (le-leb n (length w) h, cleared)
-    (List·getD-append (replicate n 0) (drop (length (replicate n 0)) w) 0 i (omega (arith, length-replicate {A = ℕ} n 0)) ∙ getD-replicate n i 0 0 l)
 
 -- all slots of name lookup are empty where the cells ahead of the line's are cleared
 pub slots-empty : (limit : ℕ) {book : Bytes} (w w′ : List ℕ) {n : ℕ} → Fitting book limit w → (limit ≤ largestLimit → n ≡ unitAt limit lineUnit) → w′ ≡ cleared n w → length w′ ≡ length w
@@ -42,7 +35,7 @@ slots-empty limit w w′ {n} f place e long i l =
     let at : n ≡ lineUnit * limit = place (f .small) in
     let m : length (take (readerUnits * limit) w′) ≡ readerUnits * limit = length-take-le (readerUnits * limit) w′ (omega arith) in
     let b : i < n = omega (arith, ap slots m, slots-fit limit big) in
-    getD-take (readerUnits * limit) w′ i 0 (omega arith) ∙ ap (λ (x : List ℕ). getD x i 0) e ∙ zero-cleared n w (omega arith) i b
+    getD-take (readerUnits * limit) w′ i 0 (omega arith) ∙ ap (λ (x : List ℕ). getD x i 0) e ∙ cleared-zero n w (omega arith) i b
 
 module _ (book : Bytes) (N limit : ℕ) (s : Stores) where
   abbrev ending : Ending
@@ -87,14 +80,6 @@ module _ (book : Bytes) (N limit : ℕ) (s : Stores) where
     rows-are : {n′ : ℕ} {tb′ : List ℕ} → n′ ≡ n → tb′ ≡ tb → unlinked n′ tb′ ≡ unlinked n tb
     rows-are l t = λ i. unlinked (l i) (t i)
 
-    rows-long : length (unlinked n tb) ≡ length (s .table)
-    rows-long =
-        let R = g .reached in
-        let a = R .tableRoom in
-        let q = R .linesAre in
-        ap length (R .tableIs)
-        ∙ over-long (tableOf (g .recorded .firsts) (g .recorded .recorded)) (s .table) (omega (arith, table-long (g .recorded .firsts) (g .recorded .recorded) (spelled-long (R .spelled))))
-
     -- a line that is refused
     pub going-stops : {code next n′ used′ entries′ left : ℕ} {tb′ ts′ ix′ w′ : List ℕ} → code ≢ 0
         → LineResult book N limit s (g .recorded) at n b tb ts ix code next n′ used′ entries′ left tb′ ts′ ix′ w′ → LinesPost ending N (s .table) (s .terms) (s .index) code n′ left (unlinked n′ tb′) ts′ ix′
@@ -108,7 +93,7 @@ module _ (book : Bytes) (N limit : ℕ) (s : Stores) where
           acceptedLine = λ x. absurd (z x);
           refusedLine = λ x. (let i = R .linesAre in let j : n + 1 ≡ suc (length (g .recorded .recorded)) = omega arith in ap (λ (y : ℕ). y + 1) l ∙ j) ∙ sym (ap lineAt q);
           few = (let i = R .few in omega arith);
-          rowsFit = (let i = R .tableRoom in omega (arith, ap length (rows-are l t), rows-long));
+          rowsFit = (let i = R .tableRoom in omega (arith, ap length (rows-are l t), reached-table R));
           stepsAre = sym (ap stepsAt q);
           tableIs = rows-are l t ∙ R .tableIs ∙ sym (ap (λ e. tableEnd e (s .table)) q);
           termsAre = u ∙ R .termsAre ∙ sym (ap (λ e. termsEnd e (s .terms)) q);
@@ -126,7 +111,7 @@ module _ (book : Bytes) (N limit : ℕ) (s : Stores) where
           acceptedLine = λ x. R .linesAre ∙ sym (ap lineAt q);
           refusedLine = λ x. absurd (x refl);
           few = R .few;
-          rowsFit = (let i = R .tableRoom in omega (arith, rows-long));
+          rowsFit = (let i = R .tableRoom in omega (arith, reached-table R));
           stepsAre = sym (ap stepsAt q);
           tableIs = R .tableIs ∙ sym (ap (λ e. tableEnd e (s .table)) q);
           termsAre = R .termsAre ∙ sym (ap (λ e. termsEnd e (s .terms)) q);

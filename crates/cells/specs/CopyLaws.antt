@@ -8,7 +8,7 @@ use native.Mathlib.Nat.{zero-add}
 use native.Mathlib.Numerals.{add-one}
 use native.Mathlib.Omega.{arith}
 use lib.Dec.{leb}
-use lib.ListN.{length, getD, take, drop, set, replicate, length-drop, length-replicate, replicate-append-replicate}
+use lib.ListN.{length, getD, take, drop, set, replicate, length-drop, length-replicate, getD-replicate, replicate-append-replicate, List·getD-append}
 use lib.Seq.{slice, sets, sets-eq, take-suc, getD-drop, length-take-le}
 use borrow.Author.Tests.{le-leb, lt-leb, leb-true, leb-false}
 use Rattle.aut68.specs.Procedure.Run.{over}
@@ -191,6 +191,12 @@ module _ (n : ℕ) (w : List ℕ) where
   zeros-all {i = i} l g h e =
       let q : i ≡ n = omega arith in
       e ∙ ap (λ (m : ℕ). zeros m w) q ∙ sym (cleared-whole h)
+
+  pub cleared-zero : n ≤ length w → (i : ℕ) → i < n → getD (cleared n w) i 0 ≡ 0
+  unfolding cleared over
+  cleared-zero h i l =
+      rw (le-leb _ _ h, cleared)
+      (List·getD-append (replicate n 0) (drop (length (replicate n 0)) w) 0 i (omega (arith, length-replicate {A = ℕ} n 0)) ∙ getD-replicate n i 0 0 l)
 
   pub cleared-not : length w < n → cleared n w ≡ w
   unfolding cleared

@@ -13,7 +13,7 @@ use Rattle.aut68.specs.Expr.{cells}
 use Rattle.aut68.specs.Lines.{Lines, kindCells, rowCell}
 use Rattle.cells.specs.Cells.{At}
 use Rattle.cells.specs.Rows.{Rows, Stored}
-use Rattle.cells.specs.RowLaws.{row-cell-of-none, row-cell-is}
+use Rattle.cells.specs.RowLaws.{row-cell-of-none, row-cell-is, row-cell-behind}
 
 -- a line's number stands so far above the length of an identifier
 abbrev pub linkFactor : ℕ
@@ -23,10 +23,17 @@ linkFactor = 65536
 unfoldable pub linkOf : List ℕ → ℕ → ℕ
 linkOf tb v = rowCell tb v atNameLength / linkFactor
 
--- the table without the link in row n + 1, and without those in the first n rows
-unfoldable pub unlinkRow : List ℕ → ℕ → List ℕ
-unlinkRow tb n = set tb (rowWidth * n + atNameLength) (getD tb (rowWidth * n + atNameLength) 0 % linkFactor)
+-- where the row behind the first n rows has its link; the table with a link to line h there, and without one
+abbrev pub linkAt : ℕ → ℕ
+linkAt n = rowWidth * n + atNameLength
 
+unfoldable pub linkRow : List ℕ → ℕ → ℕ → List ℕ
+linkRow tb n h = set tb (linkAt n) (getD tb (linkAt n) 0 + linkFactor * h)
+
+unfoldable pub unlinkRow : List ℕ → ℕ → List ℕ
+unlinkRow tb n = set tb (linkAt n) (getD tb (linkAt n) 0 % linkFactor)
+
+-- the table without the links of its first n rows
 unfoldable pub unlinked : ℕ → List ℕ → List ℕ
 unlinked zero tb = tb
 unlinked (suc n) tb = unlinkRow (unlinked n tb) n
@@ -43,7 +50,7 @@ pub unlinked-other : (n : ℕ) (tb : List ℕ) (i : ℕ) → (i % rowWidth ≢ a
 unfolding unlinked unlinkRow
 unlinked-other zero tb i h = refl
 unlinked-other (suc n) tb i h =
-    getD-set-other (unlinked n tb) (rowWidth * n + atNameLength) i _ 0 (λ e. ⊎-elim (λ k. k (omega arith)) (λ k. absurd (omega arith)) h)
+    getD-set-other (unlinked n tb) (linkAt n) i _ 0 (λ e. ⊎-elim (λ k. k (omega arith)) (λ k. absurd (omega arith)) h)
     ∙ unlinked-other n tb i (⊎-elim (λ k. inl k) (λ k. inr (omega arith)) h)
 
 -- a cell of the table, set to itself without its link, wherever it lies
@@ -58,27 +65,23 @@ cell-unlinked tb i = at (decLt i (length tb))
         List·getD-eq-default (set tb i (getD tb i 0 % linkFactor)) 0 past ∙ sym (ap (λ (x : ℕ). x % linkFactor) z)
 
 -- a cell that may have one
-pub unlinked-length : (n : ℕ) (tb : List ℕ) (v : ℕ) → v < n → getD (unlinked n tb) (rowWidth * v + atNameLength) 0 ≡ getD tb (rowWidth * v + atNameLength) 0 % linkFactor
+pub unlinked-length : (n : ℕ) (tb : List ℕ) (v : ℕ) → v < n → getD (unlinked n tb) (linkAt v) 0 ≡ getD tb (linkAt v) 0 % linkFactor
 unfolding unlinked unlinkRow
 unlinked-length zero tb v h = absurd (omega arith)
 unlinked-length (suc n) tb v h = at (ℕ-discrete v n) (unlinked-length n tb v)
   where
-    at : Dec (v ≡ n) → (v < n → getD (unlinked n tb) (rowWidth * v + atNameLength) 0 ≡ getD tb (rowWidth * v + atNameLength) 0 % linkFactor)
-        → getD (unlinked (suc n) tb) (rowWidth * v + atNameLength) 0 ≡ getD tb (rowWidth * v + atNameLength) 0 % linkFactor
+    at : Dec (v ≡ n) → (v < n → getD (unlinked n tb) (linkAt v) 0 ≡ getD tb (linkAt v) 0 % linkFactor)
+        → getD (unlinked (suc n) tb) (linkAt v) 0 ≡ getD tb (linkAt v) 0 % linkFactor
     at (yes e) ih =
-        ap (λ (k : ℕ). getD (unlinked (suc n) tb) (rowWidth * k + atNameLength) 0) e
-        ∙ cell-unlinked (unlinked n tb) (rowWidth * n + atNameLength)
-        ∙ ap (λ (x : ℕ). x % linkFactor) (unlinked-other n tb (rowWidth * n + atNameLength) (inr (omega arith)))
-        ∙ ap (λ (k : ℕ). getD tb (rowWidth * k + atNameLength) 0 % linkFactor) (sym e)
+        ap (λ (k : ℕ). getD (unlinked (suc n) tb) (linkAt k) 0) e
+        ∙ cell-unlinked (unlinked n tb) (linkAt n)
+        ∙ ap (λ (x : ℕ). x % linkFactor) (unlinked-other n tb (linkAt n) (inr (omega arith)))
+        ∙ ap (λ (k : ℕ). getD tb (linkAt k) 0 % linkFactor) (sym e)
     at (no e) ih =
-        getD-set-other (unlinked n tb) (rowWidth * n + atNameLength) (rowWidth * v + atNameLength) _ 0 (λ q. e (omega arith))
+        getD-set-other (unlinked n tb) (linkAt n) (linkAt v) _ 0 (λ q. e (omega arith))
         ∙ ih (omega arith)
 
 -- ---- one row more
-
--- the place of a row's link
-abbrev linkAt : ℕ → ℕ
-linkAt n = rowWidth * n + atNameLength
 
 -- what is written behind the first n rows stays
 unlinked-set : (n : ℕ) (tb : List ℕ) (i x : ℕ) → rowWidth * n ≤ i → unlinked n (set tb i x) ≡ set (unlinked n tb) i x
@@ -94,18 +97,11 @@ unlinked-sets n [] tb i h = refl
 unlinked-sets n (x ∷ vs) tb i h =
     unlinked-sets n vs (set tb i x) (suc i) (omega arith) ∙ ap (λ (t : List ℕ). sets t (suc i) vs) (unlinked-set n tb i x h)
 
--- the row behind the first n rows, linked to line h
-unfoldable pub linkRow : List ℕ → ℕ → ℕ → List ℕ
-linkRow tb n h = set tb (rowWidth * n + atNameLength) (getD tb (rowWidth * n + atNameLength) 0 + linkFactor * h)
-
-pub linked-long : (tb : List ℕ) (n h : ℕ) → length (linkRow tb n h) ≡ length tb
-unfolding linkRow
-linked-long tb n h = length-set tb _ _
-
+-- a row is linked: without the links nothing has changed
 link-gone : (n : ℕ) (tb : List ℕ) (h : ℕ) → getD tb (linkAt n) 0 < linkFactor → (getD tb (linkAt n) 0 + linkFactor * h) % linkFactor ≡ getD (unlinked n tb) (linkAt n) 0
 link-gone n tb h small = omega (arith, unlinked-other n tb (linkAt n) (inr (omega arith)))
 
-pub unlinked-more : (n : ℕ) (tb : List ℕ) (h : ℕ) → rowWidth * suc n ≤ length tb → getD tb (rowWidth * n + atNameLength) 0 < linkFactor
+pub unlinked-more : (n : ℕ) (tb : List ℕ) (h : ℕ) → rowWidth * suc n ≤ length tb → getD tb (linkAt n) 0 < linkFactor
     → unlinked (suc n) (linkRow tb n h) ≡ unlinked n tb
 unfolding unlinked unlinkRow linkRow
 unlinked-more n tb h room small =
@@ -128,11 +124,9 @@ row-unlinked n tb (suc v) k l ne =
 pub length-unlinked : (n : ℕ) (tb : List ℕ) (v : ℕ) → 1 ≤ v → v ≤ n → rowCell (unlinked n tb) v atNameLength ≡ rowCell tb v atNameLength % linkFactor
 length-unlinked n tb zero a b = absurd (omega arith)
 length-unlinked n tb (suc v) a b =
-    let e : rowWidth * suc v + atNameLength - rowWidth ≡ rowWidth * v + atNameLength = omega arith in
-    row-cell-is (unlinked n tb) (suc v) atNameLength (λ z. omega arith)
-    ∙ ap (λ (i : ℕ). getD (unlinked n tb) i 0) e
+    row-cell-behind (unlinked n tb) v atNameLength
     ∙ unlinked-length n tb v (omega arith)
-    ∙ sym (ap (λ (x : ℕ). x % linkFactor) (row-cell-is tb (suc v) atNameLength (λ z. omega arith) ∙ ap (λ (i : ℕ). getD tb i 0) e))
+    ∙ sym (ap (λ (x : ℕ). x % linkFactor) (row-cell-behind tb v atNameLength))
 
 -- what rows and term store say of the lines hangs on no link
 module _ (n : ℕ) (tb : List ℕ) where

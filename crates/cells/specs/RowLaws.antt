@@ -2,7 +2,7 @@
 use mathlib.Core.Path.{_≡_, sym, ap, _∙_}
 use mathlib.Core.Logic.{_⊎_, ⊎-elim}
 use mathlib.Core.List.{List}
-use Prim.Native.Nat.{ℕ, _+_, _*_, _-_, _/_, _%_, _≤_}
+use Prim.Native.Nat.{ℕ, suc, _+_, _*_, _-_, _/_, _%_, _≤_}
 use native.Mathlib.Omega.{arith}
 use lib.ListN.{length, length-drop, getD, List·getD-eq-default}
 use borrow.Author.Tests.{eq-eqb, ne-eqb}
@@ -20,6 +20,12 @@ row-cell-of-none tb v k e = rw (eq-eqb v 0 e, rowCell)
 pub row-cell-is : (tb : List ℕ) (v k : ℕ) → (v ≡ 0 → ⊥) → rowCell tb v k ≡ getD tb (rowWidth * v + k - rowWidth) 0
 unfolding rowCell
 row-cell-is tb v k n = rw (ne-eqb v 0 n, rowCell)
+
+-- a cell of the row behind the first n rows
+pub row-cell-behind : (tb : List ℕ) (n k : ℕ) → rowCell tb (suc n) k ≡ getD tb (rowWidth * n + k) 0
+row-cell-behind tb n k =
+    let e : rowWidth * suc n + k - rowWidth ≡ rowWidth * n + k = omega arith in
+    row-cell-is tb (suc n) k (λ z. omega arith) ∙ ap (λ (i : ℕ). getD tb i 0) e
 
 -- a row past the end of the table has no cell
 pub row-cell-past : (tb : List ℕ) (v k : ℕ) → (v ≡ 0 → ⊥) → length tb ≤ rowWidth * v + k - rowWidth → rowCell tb v k ≡ 0

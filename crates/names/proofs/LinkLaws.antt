@@ -8,7 +8,7 @@ use lib.ListN.{length, getD, set, length-set, List·getD-eq-default}
 use Rattle.aut68.specs.Bytes.{Bytes}
 use Rattle.aut68.specs.Lines.{rowCell}
 use Rattle.aut68.specs.Sizes.{cellValues, lineLimit, rowWidth, atNameLength}
-use Rattle.cells.specs.Links.{linkFactor, linkOf, linkRow, unlinkRow, unlinked}
+use Rattle.cells.specs.Links.{linkFactor, linkOf, linkAt, linkRow, unlinkRow, unlinked}
 use Rattle.names.specs.Hints.{slotOf}
 use Rattle.names.specs.Posts.{HeadPost, LinkPost}
 
@@ -37,10 +37,10 @@ head-put {w} {v = v} {at = at} e q s =
 
 -- ---- links
 
-pub not-linked : {tb : List ℕ} {n h : ℕ} → (suc n < lineLimit → h < lineLimit → rowWidth * suc n ≤ length tb → getD tb (rowWidth * n + atNameLength) 0 < linkFactor → ⊥) → LinkPost tb tb n h
+pub not-linked : {tb : List ℕ} {n h : ℕ} → (suc n < lineLimit → h < lineLimit → rowWidth * suc n ≤ length tb → getD tb (linkAt n) 0 < linkFactor → ⊥) → LinkPost tb tb n h
 not-linked f = record { long = refl; is = λ l k r s. absurd (f l k r s) }
 
-pub row-linked : {tb tb′ : List ℕ} {n h : ℕ} → tb′ ≡ set tb (rowWidth * n + atNameLength) (getD tb (rowWidth * n + atNameLength) 0 + linkFactor * h) → LinkPost tb tb′ n h
+pub row-linked : {tb tb′ : List ℕ} {n h : ℕ} → tb′ ≡ set tb (linkAt n) (getD tb (linkAt n) 0 + linkFactor * h) → LinkPost tb tb′ n h
 unfolding linkRow
 row-linked {tb} e = record { long = ap length e ∙ length-set tb _ _; is = λ l k r s. e }
 
@@ -48,7 +48,7 @@ pub unlinked-none : (tb : List ℕ) → tb ≡ unlinked 0 tb
 unfolding unlinked
 unlinked-none tb = refl
 
-pub unlinked-turn : (tb tb₁ : List ℕ) (v at : ℕ) → at ≡ rowWidth * v + 1 → tb₁ ≡ unlinked v tb → set tb₁ at (getD tb₁ at 0 % linkFactor) ≡ unlinked (v + 1) tb
+pub unlinked-turn : (tb tb₁ : List ℕ) (v at : ℕ) → at ≡ linkAt v → tb₁ ≡ unlinked v tb → set tb₁ at (getD tb₁ at 0 % linkFactor) ≡ unlinked (v + 1) tb
 unfolding unlinked unlinkRow
 unlinked-turn tb tb₁ v at e q =
     (λ i. set (q i) (e i) (getD (q i) (e i) 0 % linkFactor)) ∙ ap (λ (n : ℕ). unlinked n tb) (sym (add-one v))

@@ -24,7 +24,7 @@ mixed s (suc k) = (mixed s k + fourAt s (4 * k)) * 2146121005 % 4294967296
 unfoldable pub hashOf : Bytes → ℕ
 hashOf s = mixed s ((length s + 3) / 4)
 
--- a store of n cells has its slots in its first three quarters, and at most so many of them
+-- a store of n cells has its slots in its first three quarters, and at most so many of them (no limit comes near)
 abbrev pub mostSlots : ℕ
 mostSlots = 131072
 

@@ -2,12 +2,12 @@
 use mathlib.Core.Path.{_≡_}
 use mathlib.Core.Option.{Option, none, some}
 use mathlib.Core.List.{List}
-use Prim.Native.Nat.{ℕ, suc, _+_, _*_, _≤_, _<_}
+use Prim.Native.Nat.{ℕ, suc, _*_, _≤_, _<_}
 use lib.ListN.{length, getD, set}
 use Rattle.aut68.specs.Bytes.{Bytes}
 use Rattle.aut68.specs.Lines.{Lines, numberOf}
-use Rattle.aut68.specs.Sizes.{cellValues, lineLimit, rowWidth, atNameLength}
-use Rattle.cells.specs.Links.{linkFactor, linkRow}
+use Rattle.aut68.specs.Sizes.{cellValues, lineLimit, rowWidth}
+use Rattle.cells.specs.Links.{linkFactor, linkAt, linkRow}
 use Rattle.names.specs.Known.{Known}
 use Rattle.names.specs.Hints.{slotOf, Hinted}
 
@@ -30,4 +30,4 @@ pub record HeadPost (w w′ : List ℕ) (word : Bytes) (v r : ℕ) : Type 0 wher
 -- the row behind the first n rows is linked to line h
 pub record LinkPost (tb tb′ : List ℕ) (n h : ℕ) : Type 0 where
   pub long : length tb′ ≡ length tb
-  pub is : suc n < lineLimit → h < lineLimit → rowWidth * suc n ≤ length tb → getD tb (rowWidth * n + atNameLength) 0 < linkFactor → tb′ ≡ linkRow tb n h
+  pub is : suc n < lineLimit → h < lineLimit → rowWidth * suc n ≤ length tb → getD tb (linkAt n) 0 < linkFactor → tb′ ≡ linkRow tb n h

@@ -16,7 +16,7 @@ ghost use Rattle.names.specs.Posts.{HeadPost, LinkPost};
 // A line's number stands so far above the length of an identifier.
 pub const LINK_FACTOR: usize = 65536;
 
-// How many slots there are at most.
+// How many slots there are at most, so that a product with a hash has room; no limit comes near.
 const MOST_SLOTS: usize = 131072;
 
 // The bytes of the word, mixed.

@@ -11,14 +11,14 @@ use Rattle.aut68.specs.Sizes.{lineLimit, largestLimit, bookLimit, nameLimit}
 use Rattle.aut68.specs.Stores.{Stores, limitsOf}
 use Rattle.aut68.specs.Bytes.{Bytes}
 use Rattle.aut68.specs.Expr.{cells}
-use Rattle.aut68.specs.Lines.{Line, Lines, Kind, variable, primitive, abbreviation, kindCells, kindNumber, lineCells, termsOf, rowOf}
+use Rattle.aut68.specs.Lines.{Line, Lines, Kind, variable, primitive, abbreviation, kindCells, kindNumber, lineCells, termsOf, tableOf, rowOf}
 use Rattle.aut68.specs.Source.{SourceLine}
 use Rattle.aut68.specs.Procedure.CheckLine.{Passed}
 use Rattle.aut68.specs.Procedure.Run.{Recorded, over}
 use Rattle.aut68.specs.Rules.Names.{IsLine, first, later, Context, noContext, within}
 use Rattle.aut68.specs.Rules.Grammar.{WellFormed, line}
 use Rattle.cells.specs.Cells.{Below}
-use Rattle.records.specs.Tables.{Holds, over-more}
+use Rattle.records.specs.Tables.{Holds, over-more, over-long, table-long, spelled-long}
 use Rattle.records.specs.ReadLines.{LineRead}
 use Rattle.records.specs.Reached.{IndicatorsBefore, indicators-before, SmallLine, Reached, HasRoom, reached-holds, context-before}
 
@@ -68,6 +68,13 @@ module _ {language : Language} {book : Bytes} {N L : ℕ} {s : Stores} {k : Reco
   pub reached-stores : Holds book (k .firsts) (k .recorded) tb ts
   unfolding over
   reached-stores = reached-holds h ts (drop (length (termsOf (k .recorded))) (s .terms)) (h .termsAre)
+
+  -- the table is as long as the lent one
+  pub reached-table : length tb ≡ length (s .table)
+  reached-table =
+      let a = h .tableRoom in
+      let q = h .linesAre in
+      ap length (h .tableIs) ∙ over-long (tableOf (k .firsts) (k .recorded)) (s .table) (omega (arith, table-long (k .firsts) (k .recorded) (spelled-long (h .spelled))))
 
   -- the cells of the lines, with L at most 4,096
   pub used-small : L ≤ largestLimit → used ≤ 2 * lineLimit * largestLimit

@@ -2,14 +2,13 @@ use mathlib.Core.Path.{_≡_, refl, _∙_}
 use Prim.Native.Nat.{_+_, _-_, _*_, _≤_}
 use native.Mathlib.Omega.{arith}
 use lib.ListN.{length, length-set}
-use Rattle.aut68.specs.Sizes.{rowWidth}
-use Rattle.cells.specs.Links.{unlinked}
+use Rattle.cells.specs.Links.{linkAt, unlinked}
 use Rattle.names.proofs.LinkLaws.{unlinked-none, unlinked-turn, unlinked-at}
 use Rattle.names.proofs.hints.unlink.Statement.{statement}
 use Rattle.names.proofs.hints.unlink.Tie as tie
 
 abbrev Inv-loop : tie.InvT-loop
-Inv-loop table₀ lines v₀ at₀ table v at = (v ≤ lines) × (at ≡ rowWidth * v + 1) × (length table ≡ length table₀) × (table ≡ unlinked v table₀)
+Inv-loop table₀ lines v₀ at₀ table v at = (v ≤ lines) × (at ≡ linkAt v) × (length table ≡ length table₀) × (table ≡ unlinked v table₀)
 
 abbrev μ-loop : tie.MeasureT-loop
 μ-loop table₀ lines v₀ at₀ table v at = lines - v
