@@ -16,42 +16,45 @@ enum {
     AUT68_LARGEST_LIMIT = 4096,
     AUT68_MOST_LINES = 65535, /* lines of a book */
     AUT68_WORK_UNITS = 128,   /* working cells for each cell of the limit */
-    AUT68_ROW_WIDTH = 8,      /* table cells for each line */
+    AUT68_ROW_WIDTH = 9,      /* table cells for each line */
+    AUT68_OPEN_LIMIT = 32,    /* paragraphs open together */
     AUT68_PAGE_ROW = 73,      /* bytes of a printed row: AUT68_NUMBER_COLUMNS, a blank one, AUT68_TEXT_COLUMNS, byte 10 */
     AUT68_NUMBER_COLUMNS = 5,
     AUT68_TEXT_COLUMNS = 66
 };
 
-/* What the check of a book ends with: 0 to 12, or 14. Codes 0, 3 to 9 and 14 are verdicts; 3 to 9 and 14 call the book wrong. Any
-   other call on a book checks it first and passes a refusal on; of an accepted book it ends with 0, 12, 13 or 15. A call on a shelf
+/* What the check of a book ends with: 0 to 12, 14 or 17. Codes 0, 3 to 9, 14 and 17 are verdicts; all of them but 0 call the book
+   wrong. Any other call on a book checks it first and passes a refusal on; of an accepted book it ends with 0, 12, 13 or 15. A call on a shelf
    ends with 0, 15 or 16. */
 enum {
     AUT68_ACCEPTED = 0,
     AUT68_WORK_TOO_SMALL = 1,     /* under AUT68_WORK_UNITS * limit working cells; line 0, nothing written */
     AUT68_LIMIT_OUT_OF_RANGE = 2, /* looked at before 1; line 0, nothing written */
     AUT68_MALFORMED = 3,
-    AUT68_DUPLICATE = 4,
-    AUT68_UNKNOWN_NAME = 5,       /* no line above has the name; or an indicator that is no EB line */
+    AUT68_DUPLICATE = 4,          /* a line or a paragraph of the same paragraph has the name already */
+    AUT68_UNKNOWN_NAME = 5,       /* the name means no line above; or an indicator that is no EB line */
     AUT68_WRONG_ARITY = 6,        /* more arguments than its context has variables, or some left out that cannot be put in */
     AUT68_NOT_FUNCTION = 7,
     AUT68_NOT_TYPE = 8,
     AUT68_MISMATCH = 9,
     AUT68_TOO_LARGE = 10,         /* an expression, completed, larger than the limit or nested above 32; or compared below depth 32 */
     AUT68_OUT_OF_BUDGET = 11,
-    AUT68_OUT_OF_SPACE = 12,      /* table, shelf or index full, line 65,536, a book of more than 16,777,215 bytes (line 0), or an
-                                     answer that does not fit (line 0) */
+    AUT68_OUT_OF_SPACE = 12,      /* table, shelf or index full, line 65,536, a thirty-third open paragraph, a book of more than
+                                     16,777,215 bytes (line 0), or an answer that does not fit (line 0) */
     AUT68_NO_SUCH_LINE = 13,      /* the line is 0 or above the last */
     AUT68_NOT_IN_CONTEXT = 14,    /* the name has an EB line, outside the context of the line that uses it: its block has closed.
                                      Of 5, 6 and 14 a line gets that of the first name, from the left, that has one of them */
     AUT68_STORE_TOO_SMALL = 15,   /* the pages do not fit into the page store, or the source not into the target */
-    AUT68_CELL_TOO_LARGE = 16     /* a cell above 65,535 is to be narrowed */
+    AUT68_CELL_TOO_LARGE = 16,    /* a cell above 65,535 is to be narrowed */
+    AUT68_UNBALANCED = 17         /* a closing that is not of the innermost open paragraph; or one is left open at the end */
 };
 
 /* A cell of the shelf and of the working store; and one of a shelf that was stored before cells had 32 bits. */
 typedef uint32_t Aut68Cell;
 typedef uint16_t Aut68NarrowCell;
 
-/* code: as above. line: the refused line, from 1; of an accepted book the number of its lines. steps: the head steps made. */
+/* code: as above. line: the refused line, from 1; of an accepted book the number of its lines. Paragraph lines (`+p`, `-p`) have no
+   number: a refused one, and the end of the book, has that of the next line. steps: the head steps made. */
 typedef struct {
     uint32_t code;
     uint32_t line;
@@ -67,7 +70,8 @@ enum {
     AUT68_KIND = 4,           /* 0 EB, 1 PN, 2 abbreviation */
     AUT68_MIDDLE_START = 5,   /* shelf cells: middle, then category */
     AUT68_CATEGORY_START = 6,
-    AUT68_CATEGORY_END = 7
+    AUT68_CATEGORY_END = 7,
+    AUT68_PARAGRAPH = 8       /* number of its paragraph in order of opening, 0 outside */
 };
 
 /* Checks a book. Lengths count elements.

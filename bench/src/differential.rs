@@ -4,10 +4,17 @@ mod blocks;
 mod calls;
 mod closed;
 mod comparison;
+mod divided;
+mod division;
+mod flat;
 mod largest;
 mod layout;
+mod many;
 mod mutate;
+mod place;
 mod printed;
+mod situations;
+mod spoiled;
 mod text;
 mod theory;
 mod trees;
@@ -30,8 +37,8 @@ const LONGEST: Duration = Duration::from_secs(110);
 /// So many books are made from one.
 const BOOKS_FROM_ONE: usize = 15;
 
-/// Prints how often each code, and each situation of refused and of completed lines, of lists, of pages and of narrowed shelves, was met;
-/// false if there was a difference, or one of these was not met.
+/// Prints how often each code, and each situation of refused and of completed lines, of paragraphs, of lists, of pages and of narrowed
+/// shelves, was met; false if there was a difference, or one of these was not met.
 pub fn run() -> bool {
     let start = Instant::now();
     let mut comparison = Comparison::default();
@@ -47,7 +54,7 @@ pub fn run() -> bool {
     let written = written_books();
     let mut books = 0;
     while books < BOOKS && start.elapsed() < LONGEST {
-        let base = base(&mut random, &written);
+        let base = base(&mut random, &written, &mut comparison);
         for _ in 0..BOOKS_FROM_ONE {
             let book = changed(&mut random, &base);
             let call = calls.call(&mut random, &book);
@@ -83,14 +90,23 @@ fn is_book(file: &Path) -> bool {
     file.extension().is_some_and(|e| e == "aut")
 }
 
-fn base(random: &mut Random, written: &[Vec<u8>]) -> Vec<u8> {
-    match random.below(10) {
-        0..=2 => random.choose(written).clone(),
-        3 => {
-            let kind = *random.choose(&[Kind::Theories, Kind::Theories, Kind::Steps, Kind::Names, Kind::Deep]);
-            generate::book(kind, random.between(10, 60), random.next())
+/// Half of the books without paragraphs are divided into some.
+fn base(random: &mut Random, written: &[Vec<u8>], comparison: &mut Comparison) -> Vec<u8> {
+    let book = undivided(random, written);
+    let Some(divided) = divided::divide(random, &book).filter(|_| random.once_in(2)) else { return book };
+    comparison.division(&book, &divided);
+    divided.book
+}
+
+fn undivided(random: &mut Random, written: &[Vec<u8>]) -> Vec<u8> {
+    match random.below(100) {
+        0..=28 => random.choose(written).clone(),
+        29..=40 => {
+            let kinds = [Kind::Theories, Kind::Theories, Kind::Steps, Kind::Names, Kind::Deep, Kind::Paragraphs, Kind::Sections];
+            generate::book(*random.choose(&kinds), random.between(10, 60), random.next())
         }
-        4 => blocks::book(random),
+        41..=50 => blocks::book(random),
+        51 => many::book(random),
         _ => {
             let lines = random.between(4, 30);
             typed::book(random, lines)

@@ -2,6 +2,8 @@
 
 mod deep;
 mod names;
+mod paragraphs;
+mod sections;
 mod steps;
 mod theories;
 
@@ -31,15 +33,25 @@ pub enum Kind {
     Nested,
     /// Parts of theories and steps by turns, and where the bytes allow it of names and deep.
     Long,
+    /// Thousands of closed paragraphs beside each other, with the same identifiers in each.
+    Paragraphs,
+    /// Up to 32 paragraphs open, names from many paragraphs outward.
+    Sections,
 }
 
 impl Kind {
     pub const USUAL: [Kind; 5] = [Kind::Theories, Kind::Steps, Kind::Names, Kind::Deep, Kind::Mixed];
     /// In place of the last three, of which the most lines have too many bytes.
     pub const LONG: [Kind; 3] = [Kind::Narrow, Kind::Nested, Kind::Long];
+    pub const DIVIDED: [Kind; 2] = [Kind::Paragraphs, Kind::Sections];
 
     pub fn all() -> impl Iterator<Item = Kind> {
-        Kind::USUAL.into_iter().chain(Kind::LONG)
+        Kind::USUAL.into_iter().chain(Kind::LONG).chain(Kind::DIVIDED)
+    }
+
+    /// Those that are taken with about 8,000 lines.
+    pub fn short() -> impl Iterator<Item = Kind> {
+        Kind::USUAL.into_iter().chain(Kind::DIVIDED)
     }
 
     pub fn title(self) -> &'static str {
@@ -52,14 +64,16 @@ impl Kind {
             Kind::Narrow => "narrow",
             Kind::Nested => "nested",
             Kind::Long => "long",
+            Kind::Paragraphs => "paragraphs",
+            Kind::Sections => "sections",
         }
     }
 
     /// The limit of cells under which the book is accepted.
     pub fn limit(self) -> u32 {
         match self {
-            Kind::Theories | Kind::Steps | Kind::Names | Kind::Narrow | Kind::Nested => 1_024,
             Kind::Deep | Kind::Mixed | Kind::Long => 2_050,
+            _ => 1_024,
         }
     }
 
@@ -82,9 +96,10 @@ pub fn with_arguments<S: Borrow<str>>(name: &str, arguments: &[S]) -> String {
     if arguments.is_empty() { name.to_string() } else { format!("{name}({})", arguments.join(",")) }
 }
 
-/// A book of so many lines, or of as many as there is room for. Its prefixes of whole lines are correct books too.
+/// A book of so many lines, or of as many as there is room for, paragraph lines apart. Its prefixes of whole lines, with their
+/// paragraphs closed, are correct books too.
 pub fn book(kind: Kind, lines: usize, seed: u64) -> Vec<u8> {
-    let mut writer = Writer { text: Vec::new(), lines: 0, most: lines, no_room: false };
+    let mut writer = Writer { most: lines, ..Writer::default() };
     let mut random = Random::new(seed);
     let mut first_theory = None;
     let mut part = 0;
@@ -100,18 +115,29 @@ pub fn book(kind: Kind, lines: usize, seed: u64) -> Vec<u8> {
             Kind::Narrow => names::part(&mut writer, &mut random, part, &names::NARROW),
             Kind::Deep => deep::part(&mut writer, &mut random, part),
             Kind::Nested => deep::nested_part(&mut writer, &mut random, part),
+            Kind::Paragraphs => paragraphs::part(&mut writer, &mut random, part),
+            Kind::Sections => sections::part(&mut writer, &mut random, part),
         }
         part += 1;
     }
     writer.text
 }
 
+/// How many lines a book of the table has, paragraph lines apart.
+pub fn count_lines(book: &[u8]) -> usize {
+    book.split_inclusive(|&b| b == b'\n').filter(|line| !matches!(line[0], b'+' | b'-')).count()
+}
+
 /// A book being written; lines past the wanted number or the most bytes are dropped.
+#[derive(Default)]
 struct Writer {
     text: Vec<u8>,
     lines: usize,
     most: usize,
     no_room: bool,
+    /// The open paragraphs, outermost first, and how many openings inside them were dropped.
+    open: Vec<String>,
+    dropped: usize,
 }
 
 impl Writer {
@@ -119,11 +145,21 @@ impl Writer {
         self.no_room || self.lines == self.most
     }
 
+    /// Whether there is room for one more line of this length and for the closings.
+    fn has_room(&mut self, length: usize) -> bool {
+        let closings: usize = self.open.iter().map(|name| name.len() + 2).sum();
+        self.no_room |= self.text.len() + length + closings >= MOST_BYTES;
+        !self.full()
+    }
+
+    fn put(&mut self, line: &str) {
+        self.text.extend_from_slice(line.as_bytes());
+        self.text.push(b'\n');
+    }
+
     fn line(&mut self, line: &str) {
-        self.no_room |= self.text.len() + line.len() >= MOST_BYTES;
-        if !self.full() {
-            self.text.extend_from_slice(line.as_bytes());
-            self.text.push(b'\n');
+        if self.has_room(line.len()) {
+            self.put(line);
             self.lines += 1;
         }
     }
@@ -132,6 +168,24 @@ impl Writer {
     fn lines(&mut self, text: &str, own: &str) {
         for line in text.lines().map(str::trim).filter(|l| !l.is_empty()) {
             self.line(&line.replace('@', own));
+        }
+    }
+
+    fn open(&mut self, name: &str) {
+        if self.has_room(2 * (name.len() + 2)) {
+            self.put(&format!("+{name}"));
+            self.open.push(name.to_string());
+        } else {
+            self.dropped += 1;
+        }
+    }
+
+    /// Closes the paragraph that was opened last.
+    fn close(&mut self) {
+        if self.dropped > 0 {
+            self.dropped -= 1;
+        } else if let Some(name) = self.open.pop() {
+            self.put(&format!("-{name}"));
         }
     }
 }

@@ -16,10 +16,12 @@ pub const LARGEST_LIMIT: u32 = 4_096;
 pub const WORK_UNITS: usize = 128;
 
 /// Table cells for each line.
-pub const ROW_WIDTH: usize = 8;
+pub const ROW_WIDTH: usize = 9;
 
-/// Where the kind of a line stands in its row.
+/// Where the kind of a line, the end of its cells and the number of its paragraph stand in its row.
 pub const KIND: usize = 4;
+pub const TERMS_END: usize = 7;
+pub const PARAGRAPH: usize = 8;
 
 pub const MOST_LINES: usize = 65_535;
 /// How many lines there could be when cells had 16 bits.
@@ -29,6 +31,9 @@ pub const MOST_BYTES: usize = 16_777_215;
 /// How deep expressions may be nested and comparisons may go.
 pub const NESTING: usize = 32;
 
+/// How many paragraphs may be open together.
+pub const MOST_OPEN: usize = 32;
+
 pub const LONGEST_NAME: usize = 32;
 
 /// The columns of a printed row: a line's number, a blank one, its text; and the bytes of a row, byte 10 among them.
@@ -37,4 +42,4 @@ pub const TEXT_COLUMNS: usize = 66;
 pub const PAGE_ROW: usize = NUMBER_COLUMNS + 1 + TEXT_COLUMNS + 1;
 
 /// How many codes there are, that of acceptance among them.
-pub const CODES: usize = 17;
+pub const CODES: usize = 18;

@@ -19,9 +19,10 @@ const SIZES: [usize; 8] = [500, 1_000, 2_000, 4_000, 8_000, 16_000, 32_000, MOST
 /// The lines of the books of which lists and pages are asked for.
 const CALLED_LINES: usize = 8_000;
 
-/// The limits that are compared, and the lines of the books.
+/// The limits that are compared, and the books with their lines.
 const LIMITS: [u32; 6] = [4_096, 2_048, 1_024, 512, 256, 128];
-const LIMITED_LINES: [usize; 2] = [11_000, MOST_LINES];
+const LIMITED: [(Kind, usize); 4] =
+    [(Kind::Theories, 11_000), (Kind::Theories, MOST_LINES), (Kind::Paragraphs, 11_000), (Kind::Sections, 11_000)];
 const FEW: Repetition = Repetition { time: Duration::from_millis(600), least: 3, most: 21 };
 const TIME_TO_PROFILE: Duration = Duration::from_secs(2);
 
@@ -35,16 +36,16 @@ pub fn print() -> bool {
 /// The book of a kind with so many lines, or as many as there is room for, and how many it has.
 fn book(kind: Kind, lines: usize) -> (Vec<u8>, usize) {
     let book = generate::book(kind, lines, SEED);
-    let lines = book.iter().filter(|&&b| b == b'\n').count();
+    let lines = generate::count_lines(&book);
     (book, lines)
 }
 
 fn ratios() -> Option<()> {
-    println!("book          L  lines      bytes    steps  runs  verified ms  baseline ms   ratio");
-    for kind in Kind::USUAL {
+    println!("book            L  lines      bytes    steps  runs  verified ms  baseline ms   ratio");
+    for kind in Kind::short() {
         ratio(kind, NARROW_LINES, kind.limit())?;
     }
-    for kind in [Kind::Theories, Kind::Steps, Kind::Long] {
+    for kind in [Kind::Theories, Kind::Steps, Kind::Long, Kind::Paragraphs, Kind::Sections] {
         ratio(kind, MOST_LINES, LARGEST_LIMIT)?;
     }
     Some(())
@@ -55,7 +56,7 @@ fn ratio(kind: Kind, lines: usize, limit: u32) -> Option<()> {
     let title = kind.title();
     let Checked { outcome, turns } = measure::check(&Given { title, book: &book, lines, limit }, &measure::MANY)?;
     println!(
-        "{title:<9}{limit:>6}{lines:>7}{:>11}{:>9}{:>6}{:>13.3}{:>13.3}{:>8.2}",
+        "{title:<11}{limit:>6}{lines:>7}{:>11}{:>9}{:>6}{:>13.3}{:>13.3}{:>8.2}",
         book.len(), outcome.steps, turns.runs, milliseconds(turns.first), milliseconds(turns.second), turns.ratio,
     );
     Some(())
@@ -82,15 +83,15 @@ impl Columns {
     }
 
     fn print(&self, title: &str, head: &str) {
-        print!("{title:<9}{head:<10}");
+        print!("{title:<11}{head:<10}");
         self.heads.iter().for_each(|n| print!("{n:>9}"));
         println!("{:>10}", "quotient");
         for (who, times) in [("verified", &self.verified), ("baseline", &self.baseline)] {
-            print!("{:<9}{who:<10}", "");
+            print!("{:<11}{who:<10}", "");
             times.iter().for_each(|t| print!("{t:>9.0}"));
             println!("{:>10.2}", times[times.len() - 1] / times[0]);
         }
-        print!("{:<9}{:<10}", "", "ratio");
+        print!("{:<11}{:<10}", "", "ratio");
         self.ratios.iter().for_each(|r| print!("{r:>9.2}"));
         println!();
     }
@@ -119,27 +120,27 @@ fn lengths() -> Option<()> {
 
 /// What a line costs under smaller limits, which leave less room to find names.
 fn limits() -> Option<()> {
-    println!("\nns a line under so large limits, and the last of them to the first; theories");
-    for lines in LIMITED_LINES {
-        let (book, lines) = book(Kind::Theories, lines);
+    println!("\nns a line under so large limits, and the last of them to the first");
+    for (kind, lines) in LIMITED {
+        let (book, lines) = book(kind, lines);
         let mut columns = Columns::default();
         for limit in LIMITS {
-            let checked = measure::check(&Given { title: "theories", book: &book, lines, limit }, &FEW)?;
+            let checked = measure::check(&Given { title: kind.title(), book: &book, lines, limit }, &FEW)?;
             columns.add(limit as usize, lines, &checked, [Duration::ZERO; 2]);
         }
-        columns.print(&lines.to_string(), "L");
+        columns.print(kind.title(), &format!("{lines}, L"));
     }
     Some(())
 }
 
 fn resting() -> Option<()> {
     println!("\nwhat line {CALLED_LINES} rests on, beside the check of its book; verified");
-    println!("book     PN lines  index cells  runs  rests_on ms     check ms   ratio");
-    for kind in Kind::USUAL {
+    println!("book       PN lines  index cells  runs  rests_on ms     check ms   ratio");
+    for kind in Kind::short() {
         let (book, lines) = book(kind, CALLED_LINES);
         let m = measure::rests_on(&Given { title: kind.title(), book: &book, lines, limit: kind.limit() })?;
         println!(
-            "{:<9}{:>8}{:>13}{:>6}{:>13.3}{:>13.3}{:>8.2}",
+            "{:<11}{:>8}{:>13}{:>6}{:>13.3}{:>13.3}{:>8.2}",
             kind.title(), m.length, m.indexed, m.turns.runs, milliseconds(m.turns.first), milliseconds(m.turns.second), m.turns.ratio,
         );
     }
@@ -148,12 +149,12 @@ fn resting() -> Option<()> {
 
 fn printing() -> Option<()> {
     println!("\npages of books of {CALLED_LINES} lines, beside their check; verified. Without the check: both programs");
-    println!("book       rows  runs     pages ms     check ms   ratio  pages alone  baseline's   ratio");
-    for kind in Kind::USUAL {
+    println!("book         rows  runs     pages ms     check ms   ratio  pages alone  baseline's   ratio");
+    for kind in Kind::short() {
         let (book, lines) = book(kind, CALLED_LINES);
         let m = measure::pages(&Given { title: kind.title(), book: &book, lines, limit: kind.limit() })?;
         println!(
-            "{:<9}{:>6}{:>6}{:>13.3}{:>13.3}{:>8.2}{:>13.3}{:>12.3}{:>8.2}",
+            "{:<11}{:>6}{:>6}{:>13.3}{:>13.3}{:>8.2}{:>13.3}{:>12.3}{:>8.2}",
             kind.title(), m.length as usize / PAGE_ROW, m.verified.runs, milliseconds(m.verified.first),
             milliseconds(m.verified.second), m.verified.ratio, m.verified.surplus, m.baseline.surplus,
             m.verified.surplus / m.baseline.surplus,

@@ -24,16 +24,24 @@ pub fn page_length(book: &[u8]) -> usize {
     PAGE_ROW * text_lengths(book).map(|text| text.div_ceil(TEXT_COLUMNS)).sum::<usize>()
 }
 
+/// Whether a line with this text opens or closes a paragraph. In no other line stands one of these signs.
+fn is_paragraph_line(text: &[u8]) -> bool {
+    matches!(text.first(), Some(b'+' | b'-'))
+}
+
 /// Fills the pages, which are as long as the book needs.
 pub fn put_pages(book: &[u8], pages: &mut [u8]) {
     let mut rows = pages.chunks_exact_mut(PAGE_ROW);
     let mut kept = Vec::new();
-    for (number, line) in (1..).zip(lines(book)) {
+    let mut number = 0;
+    for line in lines(book) {
         let text = text_of(line, &mut kept);
+        let numbered = !is_paragraph_line(text);
+        number += usize::from(numbered);
         for (k, piece) in text.chunks(TEXT_COLUMNS).enumerate() {
             let row = rows.next().expect("a row for each piece");
             row.fill(b' ');
-            if k == 0 {
+            if k == 0 && numbered {
                 put_number(number, &mut row[..NUMBER_COLUMNS]);
             }
             row[TEXT_START..TEXT_START + piece.len()].copy_from_slice(piece);
@@ -64,14 +72,17 @@ fn put_number(number: usize, columns: &mut [u8]) {
     }
 }
 
-/// What the text columns hold, line by line, without byte 32. The last number column of a line's first row alone is not blank.
+/// What the text columns hold, line by line, without byte 32. On a line's further rows the last number column is blank and no
+/// sign of a paragraph line comes first.
 pub fn read_back(pages: &[u8]) -> Vec<u8> {
     let mut book = Vec::new();
     for row in lines(pages) {
-        if row[NUMBER_COLUMNS - 1] != b' ' && !book.is_empty() {
+        let text = &row[TEXT_START..TEXT_END];
+        let begins = row[NUMBER_COLUMNS - 1] != b' ' || is_paragraph_line(text);
+        if begins && !book.is_empty() {
             book.push(b'\n');
         }
-        book.extend(row[TEXT_START..TEXT_END].iter().filter(|&&b| is_text(b)));
+        book.extend(text.iter().filter(|&&b| is_text(b)));
     }
     if !book.is_empty() {
         book.push(b'\n');

@@ -1,27 +1,18 @@
 //! One walk over a line's bytes: its form, its cells with arguments left out put in, and the first name or count that is
 //! refused.
 
+use super::bytes::{is_name_byte, Bytes};
 use super::cells;
-use super::lines::{Context, Kind, Lines};
+use super::lines::{Kind, Lines};
 use super::names::Names;
-use super::source::{Line, Part};
-use super::{Faults, Refusal};
-use crate::sizes::{Cell, LONGEST_NAME, NESTING};
-
-/// Which bytes are letters, digits or underscore.
-const NAME_BYTE: [bool; 256] = {
-    let mut table = [false; 256];
-    let mut b = 0;
-    while b < 256 {
-        table[b] = (b as u8).is_ascii_alphanumeric() || b as u8 == b'_';
-        b += 1;
-    }
-    table
-};
+use super::notes::Faults;
+use super::scope::{Meaning, Scope};
+use super::source::{Line, ParagraphLine, Part};
+use super::Refusal;
+use crate::sizes::{Cell, NESTING};
 
 pub struct Reader<'b> {
-    book: &'b [u8],
-    at: usize,
+    bytes: Bytes<'b>,
     limit: usize,
     cells: Vec<Cell>,
     /// The current middle or category, whose length is that of the cells from `begin` on.
@@ -35,21 +26,18 @@ pub struct Reader<'b> {
     faults: Faults,
 }
 
-/// What names mean in the current line.
-struct Scope<'s, 'b> {
-    lines: &'s Lines,
-    names: &'s Names<'b>,
-    context: Context,
-}
-
 impl<'b> Reader<'b> {
     pub fn new(book: &'b [u8], limit: usize) -> Self {
         let (cells, bound) = (Vec::new(), Vec::with_capacity(NESTING));
-        Reader { book, at: 0, limit, cells, part: Part::default(), begin: 0, bound, refused: None, faults: Faults::default() }
+        Reader { bytes: Bytes::new(book), limit, cells, part: Part::default(), begin: 0, bound, refused: None, faults: Faults::default() }
+    }
+
+    pub fn at(&self) -> usize {
+        self.bytes.at
     }
 
     pub fn at_end(&self) -> bool {
-        self.at == self.book.len()
+        self.bytes.at_end()
     }
 
     pub fn cells(&self) -> &[Cell] {
@@ -60,8 +48,28 @@ impl<'b> Reader<'b> {
         self.refused.map(|(_, refusal)| refusal)
     }
 
+    /// Where the refused name begins, if one is refused.
+    pub fn refused_name(&self) -> Option<usize> {
+        self.refused.map(|(at, _)| at)
+    }
+
     pub fn faults(&self) -> Faults {
         self.faults
+    }
+
+    /// Reads a line that opens or closes a paragraph, if one begins here.
+    pub fn paragraph_line(&mut self) -> Result<Option<ParagraphLine<'b>>, Refusal> {
+        self.bytes.spaces();
+        let line = match self.bytes.peek() {
+            b'+' => ParagraphLine::Opening,
+            b'-' => ParagraphLine::Closing,
+            _ => return Ok(None),
+        };
+        self.bytes.at += 1;
+        self.bytes.spaces();
+        let name = self.bytes.name()?;
+        self.bytes.end_line()?;
+        Ok(Some(line(name)))
     }
 
     /// Reads a line. A refusal of its indicator is given too; later ones are left to the caller, in their order.
@@ -72,41 +80,44 @@ impl<'b> Reader<'b> {
         self.refused = None;
         self.faults = Faults::default();
 
-        self.spaces();
-        let indicator = if NAME_BYTE[self.peek() as usize] { Some(self.fresh_name()?) } else { None };
-        self.symbol(b'*')?;
-        let meant = match indicator {
-            None => Some(0),
-            Some(name) => names.find(name).filter(|&line| lines.kind(line) == Kind::Variable),
-        };
-        let context = lines.extend(meant.unwrap_or(0));
+        self.bytes.spaces();
+        let first = self.bytes.at;
+        let named = if self.bytes.at_name() { self.indicator(names)? } else { Some(0) };
+        self.bytes.symbol(b'*')?;
+        let indicator = named.filter(|&line| line == 0 || lines.kind(line) == Kind::Variable);
+        let context = lines.extend(indicator.unwrap_or(0));
         let scope = Scope { lines, names, context };
 
-        self.spaces();
-        let start = self.at;
-        let identifier = self.fresh_name()?;
-        self.symbol(b':')?;
-        if self.peek() != b'=' {
+        self.bytes.spaces();
+        let start = self.bytes.at;
+        let identifier = self.bytes.name()?;
+        self.bytes.symbol(b':')?;
+        if self.bytes.peek() != b'=' {
             return Err(Refusal::Malformed);
         }
-        self.at += 1;
+        self.bytes.at += 1;
 
         let kind = self.middle(&scope)?;
         let middle = self.end_part();
-        self.symbol(b':')?;
+        self.bytes.symbol(b':')?;
         self.category(&scope)?;
         let category = self.end_part();
-        self.spaces();
-        if self.at_end() {
-            return Err(Refusal::Malformed);
-        }
-        self.symbol(b'\n')?;
-        let Some(indicator) = meant else {
+        self.bytes.end_line()?;
+        let Some(indicator) = indicator else {
             // Without its context nothing is said of its names.
-            self.faults = Faults { constant_indicator: indicator.is_some_and(|name| names.contains(name)), ..Faults::default() };
+            self.faults = Faults::default();
+            self.faults.constant_indicator = named.is_some();
+            self.refused = Some((first, Refusal::UnknownName));
             return Err(Refusal::UnknownName);
         };
         Ok(Line { start, identifier, indicator, context, kind, middle, category })
+    }
+
+    /// The line that the indicator means, if there is one.
+    fn indicator(&mut self, names: &Names<'b>) -> Result<Option<Cell>, Refusal> {
+        let name = self.bytes.name()?;
+        self.bytes.spaces();
+        if self.bytes.peek() == b'.' { self.line_inside(names, name) } else { Ok(names.find(name)) }
     }
 
     /// The part that was read; the next begins.
@@ -119,13 +130,13 @@ impl<'b> Reader<'b> {
     }
 
     fn middle(&mut self, scope: &Scope<'_, 'b>) -> Result<Kind, Refusal> {
-        self.spaces();
-        if !NAME_BYTE[self.peek() as usize] {
+        self.bytes.spaces();
+        if !self.bytes.at_name() {
             self.expression(scope, 1)?;
             return Ok(Kind::Abbreviation);
         }
-        let start = self.at;
-        match self.word()? {
+        let start = self.bytes.at;
+        match self.bytes.word()? {
             b"EB" => Ok(Kind::Variable),
             b"PN" => Ok(Kind::Primitive),
             b"type" => Err(Refusal::Malformed),
@@ -134,12 +145,12 @@ impl<'b> Reader<'b> {
     }
 
     fn category(&mut self, scope: &Scope<'_, 'b>) -> Result<(), Refusal> {
-        self.spaces();
-        if !NAME_BYTE[self.peek() as usize] {
+        self.bytes.spaces();
+        if !self.bytes.at_name() {
             return self.expression(scope, 1);
         }
-        let start = self.at;
-        match self.word()? {
+        let start = self.bytes.at;
+        match self.bytes.word()? {
             b"type" => {
                 self.cells.push(cells::TYPE);
                 Ok(())
@@ -150,33 +161,33 @@ impl<'b> Reader<'b> {
     }
 
     fn expression(&mut self, scope: &Scope<'_, 'b>, depth: usize) -> Result<(), Refusal> {
-        self.spaces();
-        let first = self.peek();
-        if NAME_BYTE[first as usize] {
+        self.bytes.spaces();
+        let first = self.bytes.peek();
+        if is_name_byte(first) {
             if depth > NESTING {
                 return Err(Refusal::TooLarge);
             }
-            let start = self.at;
-            let name = self.fresh_name()?;
+            let start = self.bytes.at;
+            let name = self.bytes.name()?;
             return self.named(scope, start, name, depth);
         }
         match first {
             b'<' | b'[' if depth > NESTING => Err(Refusal::TooLarge),
             b'<' => {
-                self.at += 1;
+                self.bytes.at += 1;
                 self.cells.push(cells::APPLICATION);
                 self.expression(scope, depth + 1)?;
-                self.symbol(b'>')?;
+                self.bytes.symbol(b'>')?;
                 self.expression(scope, depth + 1)
             }
             b'[' => {
-                self.at += 1;
+                self.bytes.at += 1;
                 self.cells.push(cells::ABSTRACTION);
-                self.spaces();
-                let name = self.fresh_name()?;
-                self.symbol(b',')?;
+                self.bytes.spaces();
+                let name = self.bytes.name()?;
+                self.bytes.symbol(b',')?;
                 self.expression(scope, depth + 1)?;
-                self.symbol(b']')?;
+                self.bytes.symbol(b']')?;
                 self.bound.push(name);
                 self.expression(scope, depth + 1)?;
                 self.bound.pop();
@@ -186,9 +197,13 @@ impl<'b> Reader<'b> {
         }
     }
 
-    /// The name that was read at `start`, and its arguments.
-    fn named(&mut self, scope: &Scope<'_, 'b>, start: usize, name: &'b [u8], depth: usize) -> Result<(), Refusal> {
-        let meaning = self.meaning(scope, name);
+    /// The name whose first part was read at `start`, and its arguments.
+    fn named(&mut self, scope: &Scope<'_, 'b>, start: usize, first: &'b [u8], depth: usize) -> Result<(), Refusal> {
+        self.bytes.spaces();
+        let meaning = match self.bytes.peek() {
+            b'.' => self.meaning_inside(scope, first)?,
+            _ => self.meaning(scope, first),
+        };
         if let Err(refusal) = meaning {
             self.refuse(start, refusal);
         }
@@ -196,21 +211,20 @@ impl<'b> Reader<'b> {
         let (cell, wanted) = meaning.unwrap_or((cells::TYPE, 0));
         self.cells.push(cell);
         let arguments = self.cells.len();
-        self.spaces();
         let mut found = 0;
-        if self.peek() == b'(' {
-            self.at += 1;
+        if self.bytes.peek() == b'(' {
+            self.bytes.at += 1;
             loop {
                 self.expression(scope, depth + 1)?;
                 found += 1;
-                self.spaces();
-                match self.peek() {
-                    b',' => self.at += 1,
+                self.bytes.spaces();
+                match self.bytes.peek() {
+                    b',' => self.bytes.at += 1,
                     b')' => break,
                     _ => return Err(Refusal::Malformed),
                 }
             }
-            self.at += 1;
+            self.bytes.at += 1;
         }
         if found < wanted {
             self.complete(scope, start, cells::value(cell), arguments, found, depth);
@@ -241,20 +255,28 @@ impl<'b> Reader<'b> {
         }
     }
 
-    /// The cell of a name and how many arguments it takes; or that no line has it, or a variable outside the context.
     #[inline]
-    fn meaning(&self, scope: &Scope<'_, 'b>, name: &[u8]) -> Result<(Cell, usize), Refusal> {
+    fn meaning(&self, scope: &Scope<'_, 'b>, name: &[u8]) -> Meaning {
         if let Some(between) = self.bound.iter().rev().position(|&b| b == name) {
             return Ok((cells::cell(cells::BOUND, between as Cell), 0));
         }
-        let line = scope.names.find(name).ok_or(Refusal::UnknownName)?;
-        if scope.lines.kind(line) != Kind::Variable {
-            Ok((cells::cell(cells::CONSTANT, line), scope.lines.context_length(line)))
-        } else if scope.lines.in_context(scope.context, line) {
-            Ok((cells::cell(cells::VARIABLE, line), 0))
-        } else {
-            Err(Refusal::NotInContext)
-        }
+        scope.meaning(scope.names.find(name))
+    }
+
+    /// Of a name behind a point, which is next; bindings do not hide it.
+    #[inline(never)]
+    fn meaning_inside(&mut self, scope: &Scope<'_, 'b>, paragraph: &'b [u8]) -> Result<Meaning, Refusal> {
+        let line = self.line_inside(scope.names, paragraph)?;
+        Ok(scope.meaning(line))
+    }
+
+    /// The line that a name behind a point, which is next, means.
+    fn line_inside(&mut self, names: &Names<'b>, paragraph: &'b [u8]) -> Result<Option<Cell>, Refusal> {
+        self.bytes.at += 1;
+        self.bytes.spaces();
+        let name = self.bytes.name()?;
+        self.bytes.spaces();
+        Ok(names.find_inside(paragraph, name))
     }
 
     /// Keeps the refusal of the leftmost name; at one name the earlier refusal stays.
@@ -262,50 +284,6 @@ impl<'b> Reader<'b> {
         self.faults.add(refusal);
         if self.refused.map_or(true, |(earliest, _)| at < earliest) {
             self.refused = Some((at, refusal));
-        }
-    }
-
-    /// The byte at the current place; behind the book, a byte 10, which nothing but a line's end accepts.
-    #[inline]
-    fn peek(&self) -> u8 {
-        self.book.get(self.at).copied().unwrap_or(b'\n')
-    }
-
-    #[inline]
-    fn spaces(&mut self) {
-        while self.peek() == b' ' {
-            self.at += 1;
-        }
-    }
-
-    #[inline]
-    fn symbol(&mut self, byte: u8) -> Result<(), Refusal> {
-        self.spaces();
-        if self.peek() != byte {
-            return Err(Refusal::Malformed);
-        }
-        self.at += 1;
-        Ok(())
-    }
-
-    /// One to 32 name bytes.
-    #[inline]
-    fn word(&mut self) -> Result<&'b [u8], Refusal> {
-        let rest = &self.book[self.at..];
-        let length = rest.iter().position(|&b| !NAME_BYTE[b as usize]).unwrap_or(rest.len());
-        if length == 0 || length > LONGEST_NAME {
-            return Err(Refusal::Malformed);
-        }
-        self.at += length;
-        Ok(&rest[..length])
-    }
-
-    /// A word that is none of the three reserved ones.
-    #[inline]
-    fn fresh_name(&mut self) -> Result<&'b [u8], Refusal> {
-        match self.word()? {
-            b"type" | b"PN" | b"EB" => Err(Refusal::Malformed),
-            name => Ok(name),
         }
     }
 }

@@ -1,4 +1,4 @@
-//! A line as it was read, with arguments left out put in.
+//! Lines as they were read, with arguments left out put in.
 
 use super::lines::{Context, Kind};
 use crate::sizes::Cell;
@@ -12,6 +12,23 @@ pub struct Line<'b> {
     pub kind: Kind,
     pub middle: Part,
     pub category: Part,
+}
+
+impl Line<'_> {
+    pub fn parts(&self) -> [Part; 2] {
+        [self.middle, self.category]
+    }
+
+    /// Whether its middle or category has too many cells or is nested too deep when completed.
+    pub fn too_large(&self) -> bool {
+        self.parts().iter().any(|p| p.too_large || p.too_deep)
+    }
+}
+
+/// A line that opens or closes the paragraph of this name.
+pub enum ParagraphLine<'b> {
+    Opening(&'b [u8]),
+    Closing(&'b [u8]),
 }
 
 /// A middle or category.

@@ -1,12 +1,13 @@
 //! What is lent beside a book: limits, budgets and store lengths, often where the book just fits or just does not.
 
+use super::place::is_paragraph_line;
 use crate::baseline;
 use crate::random::Random;
 use crate::sizes::{Cell, NarrowCell, LARGEST_LIMIT, ROW_WIDTH, SMALLEST_LIMIT, WORK_UNITS};
 use crate::stores::Stores;
 use crate::Outcome;
 
-const USUAL_LIMIT: u32 = 256;
+pub const USUAL_LIMIT: u32 = 256;
 
 /// How many cells an answer may have beyond those that it needs.
 pub const MORE_ROOM: usize = 9;
@@ -49,8 +50,8 @@ fn filled<T>(store: &mut Vec<T>, length: usize, pattern: fn(usize) -> T) {
 
 impl Call {
     /// Stores in which the book fits when completed, and all the budget.
-    fn ample(book: &[u8], limit: u32) -> Call {
-        let lines = book.iter().filter(|&&b| b == b'\n').count() + 1;
+    pub fn ample(book: &[u8], limit: u32) -> Call {
+        let lines = book.split(|&b| b == b'\n').filter(|line| !is_paragraph_line(line)).count();
         let variables = book.windows(2).filter(|w| w == b"EB").count();
         let largest = 2 * limit.min(LARGEST_LIMIT) as usize;
         let terms = (book.len() * (1 + variables)).min(lines * largest) + 1;
@@ -72,16 +73,11 @@ impl Call {
         let recorded = outcome.recorded();
         let cleared = if outcome.code == 1 || outcome.code == 2 { 0 } else { WORK_UNITS * self.limit as usize };
         (ROW_WIDTH * recorded..table.len()).all(|i| table[i] == pattern(i))
-            && (recorded_cells(stores, recorded)..terms.len()).all(|i| terms[i] == cell_pattern(i))
+            && (stores.recorded_cells(recorded)..terms.len()).all(|i| terms[i] == cell_pattern(i))
             && (stores.indexed(recorded)..index.len()).all(|i| index[i] == pattern(i))
             && work[..cleared].iter().all(|&c| c == 0)
             && (cleared..work.len()).all(|i| work[i] == cell_pattern(i))
     }
-}
-
-/// How many term cells the first lines take.
-pub fn recorded_cells(stores: &Stores, lines: usize) -> usize {
-    if lines == 0 { 0 } else { stores.table[ROW_WIDTH * lines - 1] as usize }
 }
 
 /// A line to ask about, and the cells for the answer.
@@ -158,7 +154,7 @@ impl Calls {
             18 => ROW_WIDTH * recorded,
             _ => random.between(0, ROW_WIDTH * recorded + ROW_WIDTH),
         };
-        call.terms = near(random, call.terms, recorded_cells(&self.stores, recorded));
+        call.terms = near(random, call.terms, self.stores.recorded_cells(recorded));
         call.index = near(random, call.index, self.stores.indexed(recorded));
         call.work = match random.below(50) {
             0 => call.work - 1,

@@ -110,7 +110,8 @@ fn is_word(symbol: &[u8]) -> bool {
     WORDS.iter().any(|word| word.as_bytes() == symbol)
 }
 
-fn filled(template: &str, variable: &[u8], other: &[u8]) -> Vec<u8> {
+/// A template with these names for its V and O.
+pub fn filled(template: &str, variable: &[u8], other: &[u8]) -> Vec<u8> {
     let put_in = |byte: u8| match byte {
         b'V' => variable.to_vec(),
         b'O' => other.to_vec(),

@@ -2,6 +2,7 @@
 
 use super::calls::{pattern, Call, Question};
 use super::printed::Printed;
+use super::situations::Situations;
 use super::widths::Widths;
 use crate::baseline::{self, Notes};
 use crate::random::Random;
@@ -28,6 +29,9 @@ pub struct Comparison {
     /// Books with two faults in the refused line; with 5 for a constant as indicator.
     rivals: [usize; RIVALS.len()],
     constant_indicators: usize,
+    situations: Situations,
+    /// Books that kept their cells when they were divided.
+    pub(super) divisions: usize,
     /// The codes of `rests_on`; of those with 12, the lists that do not fit.
     answers: [usize; CODES],
     unfit: usize,
@@ -62,6 +66,7 @@ impl Comparison {
         self.codes[theirs.code as usize] += 1;
         self.steps += theirs.steps;
         self.note(&notes, theirs.code as usize);
+        self.situations.note(book, call.limit, &theirs, &notes, &self.theirs);
         theirs
     }
 
@@ -127,7 +132,9 @@ impl Comparison {
             println!("{first} ahead of {other}: {count}");
         }
         println!("5 for a constant as indicator: {}", self.constant_indicators);
-        let others: Vec<_> = self.printed.counts().into_iter().chain(self.widths.counts()).collect();
+        let divisions = ("accepted books divided into paragraphs, with the same cells", self.divisions);
+        let others = self.situations.counts().chain([divisions]).chain(self.printed.counts()).chain(self.widths.counts());
+        let others: Vec<_> = others.collect();
         for (what, count) in &others {
             println!("{what}: {count}");
         }
@@ -140,9 +147,9 @@ impl Comparison {
     /// How often each call gave each code, and the codes that it can give.
     fn calls(&self) -> [(&[usize; CODES], fn(usize) -> bool); 5] {
         [
-            (&self.codes, |code| code <= 12 || code == 14),
-            (&self.answers, |code| code <= 14),
-            (&self.printed.codes, |code| code <= 12 || code == 14 || code == 15),
+            (&self.codes, |code| code <= 12 || code == 14 || code == 17),
+            (&self.answers, |code| code <= 14 || code == 17),
+            (&self.printed.codes, |code| code <= 12 || code == 14 || code == 15 || code == 17),
             (&self.widths.widened, |code| code == 0 || code == 15),
             (&self.widths.narrowed, |code| code == 0 || code == 15 || code == 16),
         ]

@@ -1,8 +1,8 @@
-//! Books at the largest sizes: of lines, of bytes, of completed lines, and of lists of names.
+//! Books at the largest sizes: of lines, of bytes, of completed lines, of lists of names, and with many paragraphs.
 
 use super::calls::Call;
 use crate::generate::with_arguments;
-use crate::sizes::{LARGEST_LIMIT, MOST_BYTES, MOST_LINES, NARROW_LINES, ROW_WIDTH, SMALLEST_LIMIT, WORK_UNITS};
+use crate::sizes::{LARGEST_LIMIT, MOST_BYTES, MOST_LINES, MOST_OPEN, NARROW_LINES, ROW_WIDTH, SMALLEST_LIMIT, WORK_UNITS};
 
 /// The least, that of the listing program, the largest.
 const LIMITS: [u32; 3] = [SMALLEST_LIMIT, 128, LARGEST_LIMIT];
@@ -16,6 +16,18 @@ const LASTS: [&str; 9] = [
     "n1*b:=PN:type\n", "*a:=n65534:n65534\n",
 ];
 
+/// What may stand behind the last line that there can be, and paragraph lines that may not; a line in a paragraph is one too many.
+const LAST_PARAGRAPHS: [&str; 7] =
+    ["+p\n-p\n", "+n7\n-n7\n", "-p\n", "+p\n", "+p", "+p\n*n7:=PN:type\n-p\n", "+p\n*u:=q.n7:type\n-p\n"];
+
+/// How many paragraphs are beside each other under each limit, and under the largest.
+const PARAGRAPHS: usize = 1_500;
+const MORE_PARAGRAPHS: usize = 8_000;
+
+/// What stands behind paragraphs q0, q1 and so on, which have a line a each.
+const BEHIND: [&str; 6] =
+    ["*u:=q0.a:type\n", "*u:=q1499.a:type\n", "*u:=q7.b:type\n", "*u:=q8000.a:type\n", "*q7:=PN:type\n", "+q7\n-q7\n"];
+
 /// Each book with the limits and stores that it is checked with.
 pub fn books() -> Vec<(Vec<u8>, Call)> {
     let mut books = Vec::new();
@@ -25,7 +37,12 @@ pub fn books() -> Vec<(Vec<u8>, Call)> {
         books.extend((MOST_BYTES - 1..=MOST_BYTES + 1).map(|bytes| (spaces(bytes), room_for(1, limit))));
         books.extend((MOST_LINES - 1..=MOST_LINES + 1).map(|count| (lines(count), room_for(MOST_LINES + 4, limit))));
         books.extend(LASTS.map(|last| (with(last), room_for(MOST_LINES + 4, limit))));
+        books.push((inside("*n7:=p.n0:type\n"), room_for(MOST_LINES + 4, limit)));
+        books.extend(BEHIND.map(|last| (beside(PARAGRAPHS, last), room_for(2 * PARAGRAPHS, limit))));
     }
+    books.extend(LAST_PARAGRAPHS.map(|last| (with(last), room_for(MOST_LINES + 4, SMALLEST_LIMIT))));
+    books.extend([MOST_OPEN, MOST_OPEN + 1].map(|open| (with(&nested(open)), room_for(MOST_LINES + 4, SMALLEST_LIMIT))));
+    books.extend(BEHIND.map(|last| (beside(MORE_PARAGRAPHS, last), room_for(2 * MORE_PARAGRAPHS, LARGEST_LIMIT))));
     books.push((chain(MOST_LINES), room_for(4 * MOST_LINES, LARGEST_LIMIT)));
     books.extend(["v0", "c"].map(|middle| (block(MOST_LINES, middle), room_for(3 * MOST_LINES, LARGEST_LIMIT))));
     books.extend(completed_books());
@@ -47,6 +64,23 @@ fn lines(count: usize) -> Vec<u8> {
 /// As many lines as there can be, and one more.
 fn with(last: &str) -> Vec<u8> {
     [&lines(MOST_LINES)[..], last.as_bytes()].concat()
+}
+
+/// So many paragraphs inside each other.
+fn nested(count: usize) -> String {
+    "+p\n".repeat(count) + &"-p\n".repeat(count)
+}
+
+/// As many lines as there can be, all but the last in a paragraph.
+fn inside(last: &str) -> Vec<u8> {
+    [b"+p\n", &lines(MOST_LINES - 1)[..], b"-p\n", last.as_bytes()].concat()
+}
+
+/// So many paragraphs beside each other, and a line.
+fn beside(count: usize, last: &str) -> Vec<u8> {
+    let mut text: String = (0..count).map(|i| format!("+q{i}\n*a:=PN:type\n-q{i}\n")).collect();
+    text.push_str(last);
+    text.into_bytes()
 }
 
 /// A book of so many bytes in one line.

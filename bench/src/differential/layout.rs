@@ -1,6 +1,7 @@
 //! How a book is laid out: spaces between its symbols, and lines that fill whole rows of a page.
 
-use super::mutate::{is_name, lines, parts, symbols};
+use super::mutate::{lines, symbols};
+use super::place::identifier;
 use crate::baseline::text_lengths;
 use crate::random::Random;
 use crate::sizes::{LONGEST_NAME, TEXT_COLUMNS};
@@ -50,12 +51,4 @@ fn fill_rows(random: &mut Random, book: &mut Vec<u8>) {
     };
     let longer = [&identifier[..], &vec![b'q'; more]].concat();
     *book = symbols(book).into_iter().map(|s| if s == *identifier { longer.clone() } else { s }).collect::<Vec<_>>().concat();
-}
-
-/// What stands behind the star, if it is a name.
-fn identifier(line: &[u8]) -> Option<Vec<u8>> {
-    let (head, _, _) = parts(line)?;
-    let star = head.iter().position(|&b| b == b'*')?;
-    let name = head[star + 1..].strip_suffix(b":=")?.trim_ascii();
-    (symbols(name).len() == 1 && is_name(name)).then(|| name.to_vec())
 }

@@ -1,19 +1,20 @@
 //! Changes to a book: of its bytes, its symbols, its lines.
 
-use super::closed;
+use super::{closed, spoiled};
 use crate::random::Random;
 use crate::sizes::LONGEST_NAME;
 
 /// Bytes that stand in books, and some that do not.
-pub const BYTES: &[u8] = b" \n*:=(),<>[]_aEPNTBtype019Zz\t\r\0@{}\x7f\x80\xff";
+pub const BYTES: &[u8] = b" \n*:=(),<>[]+-._aEPNTBtype019Zz\t\r\0@{}\x7f\x80\xff";
 pub const WORDS: [&str; 3] = ["type", "PN", "EB"];
 
 pub fn mutate(random: &mut Random, book: &mut Vec<u8>) {
-    match random.below(14) {
+    match random.below(18) {
         0 => byte(random, book),
         1..=5 => symbol(random, book),
         6..=8 => line(random, book),
         9..=12 => closed::use_variable(random, book),
+        13..=16 => spoiled::spoil(random, book),
         _ => cut(random, book),
     }
 }

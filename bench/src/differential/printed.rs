@@ -2,6 +2,7 @@
 
 use super::calls::{byte_pattern, room, Call};
 use super::comparison::Comparison;
+use super::place::is_paragraph_line;
 use crate::baseline;
 use crate::random::Random;
 use crate::sizes::{CODES, PAGE_ROW, ROW_WIDTH, TEXT_COLUMNS};
@@ -18,31 +19,39 @@ const READ_BACK: usize = 2;
 #[derive(Default)]
 pub struct Printed {
     pub codes: [usize; CODES],
-    /// Books with spaces; lines of more than one row; lines that fill their last row; books read back.
+    /// Books with spaces; lines of more than one row; lines that fill their last row; paragraph lines behind such a one; books read
+    /// back; of these, books with paragraphs.
     spaced: usize,
     long_lines: usize,
     full_rows: usize,
+    behind_full_rows: usize,
     read_back: usize,
+    divided_read_back: usize,
     /// Of the book that is read back.
     again: Stores,
 }
 
 impl Printed {
     /// Each count that must not be 0, with what it counts.
-    pub fn counts(&self) -> [(&'static str, usize); 4] {
+    pub fn counts(&self) -> [(&'static str, usize); 6] {
         [
             ("printed books with spaces", self.spaced),
             ("printed lines of more than one row", self.long_lines),
             ("printed lines that fill their last row", self.full_rows),
+            ("printed paragraph lines behind such a line", self.behind_full_rows),
             ("books read back", self.read_back),
+            ("books with paragraphs read back", self.divided_read_back),
         ]
     }
 
     fn note(&mut self, book: &[u8]) {
         self.spaced += usize::from(book.contains(&b' '));
-        for length in baseline::text_lengths(book) {
+        let mut full = false;
+        for (line, length) in book.split_inclusive(|&b| b == b'\n').zip(baseline::text_lengths(book)) {
+            self.behind_full_rows += usize::from(full && is_paragraph_line(line));
+            full = length % TEXT_COLUMNS == 0;
             self.long_lines += usize::from(length > TEXT_COLUMNS);
-            self.full_rows += usize::from(length % TEXT_COLUMNS == 0);
+            self.full_rows += usize::from(full);
         }
     }
 
@@ -55,6 +64,7 @@ impl Printed {
             again.table[ROW_WIDTH * line] = stores.table[ROW_WIDTH * line];
         }
         self.read_back += 1;
+        self.divided_read_back += usize::from(pages.contains(&b'+'));
         other == *outcome && *again == *stores
     }
 }
@@ -97,7 +107,7 @@ impl Comparison {
             return;
         }
         self.printed.note(book);
-        if reads && !self.printed.reads_back(&page[..length], call, outcome, &self.theirs) {
+        if reads && !self.printed.reads_back(&other[..length], call, outcome, &self.theirs) {
             self.differ(book, &format!("{call:?}\n{outcome:?}: read back from its pages it is another"));
         }
     }

@@ -1,6 +1,6 @@
 //! Widening and narrowing by both programs: of shelves of any cells, and of those that accepted books leave.
 
-use super::calls::{cell_pattern, narrow_pattern, recorded_cells, room, MORE_ROOM};
+use super::calls::{cell_pattern, narrow_pattern, room, MORE_ROOM};
 use super::comparison::Comparison;
 use crate::random::Random;
 use crate::sizes::{Cell, NarrowCell, CODES};
@@ -71,7 +71,7 @@ impl Comparison {
     /// The shelf that the check of an accepted book has left: narrowed where it can be, and widened back.
     pub fn shelf_of_book(&mut self, outcome: &Outcome) {
         if outcome.code == 0 {
-            let cells = recorded_cells(&self.theirs, outcome.recorded());
+            let cells = self.theirs.recorded_cells(outcome.recorded());
             let shelf = self.theirs.terms[..cells].to_vec();
             let back = self.there_and_back(&shelf, cells);
             self.widths.books_back += usize::from(back);

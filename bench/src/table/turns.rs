@@ -62,7 +62,7 @@ pub fn stores(lines: usize, bytes: usize, limit: u32) -> Stores {
 /// Cuts off what the book that was checked does not need.
 pub fn cut(stores: &mut Stores) {
     let lines = stores.table.len() / ROW_WIDTH;
-    let cells = stores.table.last().map_or(0, |&end| end as usize);
+    let cells = stores.recorded_cells(lines);
     let indexed = stores.indexed(lines);
     stores.terms.truncate(cells);
     stores.index.truncate(indexed);

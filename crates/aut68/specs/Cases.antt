@@ -73,7 +73,7 @@ under language m book code line steps = record { language = language; book = boo
 
 -- under the listing program's stores, and under its budget and limit too
 unfoldable pub within : Language → ℕ → ℕ → List ℕ → ℕ → ℕ → ℕ → Case
-within language N L = under language (lending N L 16384 16384 16384 16384)
+within language N L = under language (lending N L 16380 16384 16384 16384)
 
 unfoldable pub usual : Language → List ℕ → ℕ → ℕ → ℕ → Case
 usual language = within language 100000 128

@@ -50,9 +50,9 @@ closedBlocks =
     -- its domain does not: x is bound in B and not in A
     ∷ usual aut68 (bytesOf "*a:=EB:type\n*b:=PN:type\n*t:=[a,a]b:type\n") 14 3 0
     -- names before storage: 14 though the shelf is full
-    ∷ under aut68 (lending 100000 128 16384 4 16384 16384) (blocks ++ bytesOf "*t:=n:nat\n") 14 5 0
+    ∷ under aut68 (lending 100000 128 16380 4 16384 16384) (blocks ++ bytesOf "*t:=n:nat\n") 14 5 0
     -- names before size: 14 though there are 17 cells
-    ∷ under aut68 (lending 100000 16 16384 16384 2048 16384) (bytesOf "*a:=PN:type\n*x:=EB:a\n*u:=[y,a][y,a][y,a][y,a][y,a][y,a][y,a][y,a]x:a\n") 14 3 0
+    ∷ under aut68 (lending 100000 16 16380 16384 2048 16384) (bytesOf "*a:=PN:type\n*x:=EB:a\n*u:=[y,a][y,a][y,a][y,a][y,a][y,a][y,a][y,a]x:a\n") 14 3 0
     -- left out arguments are never met as names: suc in the block of m is 6
     ∷ usual aut68 (blocks ++ bytesOf "m*t:=suc:nat\n") 6 5 0
     -- a line ahead of the variable it names: 5, since then its indicator is unknown
@@ -60,5 +60,5 @@ closedBlocks =
     -- a line ahead of a constant it names: 5
     ∷ usual aut68 (bytesOf "*nat:=PN:type\n*n:=EB:nat\nn*t:=suc(n):nat\nn*suc:=PN:nat\n") 5 3 0
     -- with larger numbers the same
-    ∷ under aut68 (lending 4294967295 4096 16384 16384 524288 16384) (blocks ++ bytesOf "*t:=n:nat\n") 14 5 0
+    ∷ under aut68 (lending 4294967295 4096 16380 16384 524288 16384) (blocks ++ bytesOf "*t:=n:nat\n") 14 5 0
     ∷ []

@@ -1,6 +1,7 @@
 -- The sixteen outcomes that document 01 calls the proved ones, as one table under one theorem; books that tell its misreadings apart,
 -- under another; the example books in AUT-QE, under a third; those with omitted arguments, under a fourth; those with the cells of the
--- index, under a fifth; those of closed blocks, under a sixth; the lines that a book of three records; and the pages of books.
+-- index, under a fifth; those of closed blocks, under a sixth; those with paragraphs, under a seventh; the lines that a book of three
+-- records; and the pages of books.
 use mathlib.Core.Path.{_≡_, refl}
 use Prim.Native.Nat.{ℕ, zero, suc}
 use mathlib.Core.Bool.{true}
@@ -15,18 +16,22 @@ use Rattle.aut68.specs.Procedure.Parse
 use Rattle.aut68.specs.Expr
 use Rattle.aut68.specs.Substitution
 use Rattle.aut68.specs.Lines
+use Rattle.aut68.specs.Paragraphs
 use Rattle.aut68.specs.Index
 use Rattle.aut68.specs.Pages
+use Rattle.aut68.specs.Procedure.Lookup
 use Rattle.aut68.specs.Procedure.Resolve
 use Rattle.aut68.specs.Procedure.HeadStep
 use Rattle.aut68.specs.Procedure.Compare
 use Rattle.aut68.specs.Procedure.Category
 use Rattle.aut68.specs.Procedure.CheckLine
+use Rattle.aut68.specs.Procedure.CheckPiece
 use Rattle.aut68.specs.Procedure.Run
 use Rattle.aut68.specs.Cases.{Case, bytesOf, sample, endsAs, holds, allHold, sameNumbers, recordsAs, keepsAs, keeps, allKeep, under, within, usual}
 use Rattle.aut68.specs.Omitted.{sums, sumRows, sumCells, omittedArguments}
 use Rattle.aut68.specs.Indexed.{sampleRows, sampleCells, sampleIndex, withIndex, indexCells}
 use Rattle.aut68.specs.ClosedBlocks.{blocks, closedBlocks}
+use Rattle.aut68.specs.ParagraphCases.{paragraphCases}
 use Rattle.aut68.specs.Printed.{printed, printsAs, allPrint, printedPages}
 use Rattle.aut68.specs.ExamplesQE.{naturals, families, examplesQE}
 
@@ -34,9 +39,9 @@ use Rattle.aut68.specs.ExamplesQE.{naturals, families, examplesQE}
 
 unfoldable pub tableRows : List Case
 tableRows =
-    under aut68 (lending 100000 16 16384 16384 2047 16384) sample 1 0 0
+    under aut68 (lending 100000 16 16380 16384 2047 16384) sample 1 0 0
     ∷ within aut68 100000 15 sample 2 0 0
-    ∷ under aut68 (lending 100000 4097 16384 16384 1000000 16384) sample 2 0 0
+    ∷ under aut68 (lending 100000 4097 16380 16384 1000000 16384) sample 2 0 0
     ∷ usual aut68 (bytesOf "*a:=:type\n") 3 1 0
     ∷ usual aut68 (bytesOf "*nat:=PN:type\n*nat:=PN:type\n") 4 2 0
     ∷ usual aut68 (bytesOf "*a:=b:type\n") 5 1 0
@@ -46,9 +51,9 @@ tableRows =
     ∷ usual aut68 (sample ++ bytesOf "*u:=one:F\n") 9 9 3
     ∷ within aut68 100000 16 (bytesOf "*a:=PN:type\n*u:=[x,a][x,a][x,a][x,a][x,a][x,a][x,a][x,a]a:type\n") 10 2 0
     ∷ within aut68 1 128 sample 11 8 1
-    ∷ under aut68 (lending 100000 128 56 16384 16384 16384) sample 12 8 1
-    ∷ under aut68 (beforeLine 8 (lending 100000 128 16384 16384 16384 16384)) sample 12 8 1
-    ∷ under aut68 (beforeLine 9 (lending 100000 128 16384 16384 16384 16384)) sample 0 8 2
+    ∷ under aut68 (lending 100000 128 63 16384 16384 16384) sample 12 8 1
+    ∷ under aut68 (beforeLine 8 (lending 100000 128 16380 16384 16384 16384)) sample 12 8 1
+    ∷ under aut68 (beforeLine 9 (lending 100000 128 16380 16384 16384 16384)) sample 0 8 2
     ∷ []
 
 -- ---- the four outcomes after the sample
@@ -156,30 +161,33 @@ numbers = bytesOf "*nat:=PN:type\n*one:=PN:nat\n*num:=nat:type\n"
 
 unfoldable pub numberLines : Lines.Lines
 numberLines =
-    record { identifier = bytesOf "nat"; indicator = 0; context = []; kind = Lines.primitive; category = Expr.type }
-    ∷ record { identifier = bytesOf "one"; indicator = 0; context = []; kind = Lines.primitive; category = Expr.const 1 Expr.nil }
-    ∷ record { identifier = bytesOf "num"; indicator = 0; context = []; kind = Lines.abbreviation (Expr.const 1 Expr.nil); category = Expr.type }
+    record { identifier = bytesOf "nat"; indicator = 0; context = []; kind = Lines.primitive; category = Expr.type; paragraph = 0 }
+    ∷ record { identifier = bytesOf "one"; indicator = 0; context = []; kind = Lines.primitive; category = Expr.const 1 Expr.nil; paragraph = 0 }
+    ∷ record { identifier = bytesOf "num"; indicator = 0; context = []; kind = Lines.abbreviation (Expr.const 1 Expr.nil); category = Expr.type; paragraph = 0 }
     ∷ []
 
 -- ---- the tables, computed
 
-computed : (allHold (tableRows ++ fourOutcomes) ≡ true) × (allHold (misreadings ++ procedureOrder) ≡ true) × (allHold examplesQE ≡ true) × (allKeep omittedArguments ≡ true) × (allKeep indexCells ≡ true) × (allHold closedBlocks ≡ true) × (Run.recordedAt (Run.run aut68 numbers (lending 0 16 24 8 2048 16384)) .recorded ≡ numberLines)
-unfolding numbers numberLines allHold endsAs holds sameNumbers recordsAs keepsAs keeps allKeep under within usual sums sumRows sumCells omittedArguments sampleRows sampleCells sampleIndex withIndex indexCells blocks closedBlocks naturals families examplesQE sample longer tableRows fourOutcomes selfNamed swapped renumbered stepsRemain misreadings equality pairs repeated nested deep procedureOrder bytesOf
+computed : (allHold (tableRows ++ fourOutcomes) ≡ true) × (allHold (misreadings ++ procedureOrder) ≡ true) × (allHold examplesQE ≡ true) × (allKeep omittedArguments ≡ true) × (allKeep indexCells ≡ true) × (allHold closedBlocks ≡ true) × (allKeep paragraphCases ≡ true) × (Run.recordedAt (Run.run aut68 numbers (lending 0 16 27 8 2048 16384)) .recorded ≡ numberLines)
+unfolding numbers numberLines allHold endsAs holds sameNumbers recordsAs keepsAs keeps allKeep under within usual sums sumRows sumCells omittedArguments sampleRows sampleCells sampleIndex withIndex indexCells blocks closedBlocks paragraphCases naturals families examplesQE sample longer tableRows fourOutcomes selfNamed swapped renumbered stepsRemain misreadings equality pairs repeated nested deep procedureOrder bytesOf
     Answer.codeOf Answer.andThen Answer.when Answer.ensure Answer.aside
     Bytes.nameByte Bytes.opensExpression Bytes.sameBytes Bytes.wordType Bytes.wordPN Bytes.wordEB Bytes.wordProp Bytes.reserved Bytes.onto Bytes.lines
     Source.countSrcs
-    Parse.spaces Parse.byte Parse.symbol Parse.starts Parse.wordOf Parse.afterWord Parse.wordAhead Parse.pastWord Parse.nameFits Parse.aName Parse.commaOrClose Parse.arguments Parse.argumentsIfAny Parse.named Parse.application Parse.abstraction Parse.anExpression Parse.anIndicator Parse.aMiddle Parse.propOrName Parse.wordAt Grammar.below Parse.bytesLeft Parse.lineEnd Parse.aLine
+    Parse.spaces Parse.byte Parse.symbol Parse.starts Parse.wordOf Parse.afterWord Parse.wordAhead Parse.pastWord Parse.nameFits Parse.aName Parse.pointIfAny Parse.aUsed Parse.commaOrClose Parse.arguments Parse.argumentsIfAny Parse.named Parse.application Parse.abstraction Parse.anExpression Parse.anIndicator Parse.aMiddle Parse.propOrName Parse.wordAt Grammar.below Parse.bytesLeft Parse.lineEnd Parse.aLine Parse.aSignLine Parse.signed
     Expr.size Expr.levels Expr.inFront Expr.firstCell Expr.parts Expr.cells Expr.snoc Expr.countExprs Expr.shape Expr.isType Expr.isSort Expr.endsInType Expr.endsInProp Expr.overBinding Expr.firstPart Expr.secondPart Expr.identical
     Substitution.liftIndex Substitution.lift Substitution.substituteBound Substitution.substitute Substitution.argumentFor Substitution.instantiateVariable Substitution.instantiate
-    Lines.noLine Lines.lineOf Lines.numberFrom Lines.numberOf Lines.kindCells Lines.lineCells Lines.termsOf Lines.kindNumber Lines.rowOf Lines.rowsFrom Lines.tableOf
+    Lines.noLine Lines.lineOf Lines.numberFrom Lines.numberIn Lines.kindCells Lines.lineCells Lines.termsOf Lines.kindNumber Lines.rowOf Lines.rowsFrom Lines.tableOf
+    Paragraphs.outside Paragraphs.numbersOf Paragraphs.current Paragraphs.isOpen Paragraphs.opening
     Index.mentioned Index.mentionedInMiddle Index.mentionedAsIndicator Index.mentionedBy Index.insert Index.ascending Index.namesOf Index.entryOf Index.indexOf
-    Resolve.leftOut Resolve.member Resolve.placeFrom Resolve.answered Resolve.lookUp Resolve.sought Resolve.wanted Resolve.build Resolve.resolve Resolve.resolveMiddle Resolve.indicatorLine Resolve.contextAt Resolve.unused
+    Lookup.seek Lookup.paragraphFrom Lookup.paragraphIn Lookup.closedIn Lookup.numberOf Lookup.unused
+    Resolve.leftOut Resolve.member Resolve.isPlain Resolve.placeFrom Resolve.answered Resolve.lookUp Resolve.sought Resolve.wanted Resolve.build Resolve.resolve Resolve.resolveMiddle Resolve.indicatorLine Resolve.contextAt
     HeadStep.under HeadStep.headStep HeadStep.left
     Compare.choose Compare.next Compare.each Compare.endsAs Compare.hasSurplus Compare.compareParts Compare.sides Compare.compareAt Compare.compare
     Category.nth Category.theLine Category.made Category.headForm Category.parts Category.toFunction Category.servesAsType Category.opens Category.secondChance Category.categoryAt Category.searches Category.category
     CheckLine.withinLimits CheckLine.middleWithinLimits CheckLine.readLine CheckLine.room CheckLine.store CheckLine.checkDomain CheckLine.checkSupertype CheckLine.checkWritten CheckLine.checkMiddle CheckLine.checkCategories CheckLine.checkLine
-    Run.codeAt Run.lineAt Run.stepsAt Run.recordedAt Run.over Run.tableEnd Run.termsEnd Run.workEnd Run.oneMore Run.checkLines Run.nothing Run.run
-computed = (refl, refl, refl, refl, refl, refl, refl)
+    CheckPiece.checkOpening CheckPiece.closing CheckPiece.checkClosing CheckPiece.checkPiece
+    Run.codeAt Run.lineAt Run.stepsAt Run.recordedAt Run.over Run.tableEnd Run.termsEnd Run.workEnd Run.oneMore Run.elsewhere Run.afterPiece Run.atEnd Run.checkLines Run.nothing Run.run
+computed = (refl, refl, refl, refl, refl, refl, refl, refl)
 
 pub outcomes : allHold (tableRows ++ fourOutcomes) ≡ true
 outcomes = computed .0
@@ -201,12 +209,15 @@ index-cells = computed .4
 pub closed-blocks : allHold closedBlocks ≡ true
 closed-blocks = computed .5
 
-pub numbers-recorded : Run.recordedAt (Run.run aut68 numbers (lending 0 16 24 8 2048 16384)) .recorded ≡ numberLines
-numbers-recorded = computed .6
+pub paragraph-cases : allKeep paragraphCases ≡ true
+paragraph-cases = computed .6
+
+pub numbers-recorded : Run.recordedAt (Run.run aut68 numbers (lending 0 16 27 8 2048 16384)) .recorded ≡ numberLines
+numbers-recorded = computed .7
 
 -- the pages of books, byte for byte, and what is read back from them
 pub pages-printed : allPrint printedPages ≡ true
 unfolding allPrint printsAs printed printedPages sameNumbers sample bytesOf
     Bytes.onto Bytes.lines Bytes.joined
-    Pages.without Pages.textOf Pages.digit Pages.numbered Pages.blank Pages.row Pages.rows Pages.rowCount Pages.textRows Pages.pagesFrom Pages.pages Pages.textIn Pages.atNumber Pages.ahead Pages.linesIn Pages.readBack
+    Pages.without Pages.textOf Pages.digit Pages.numbered Pages.blank Pages.row Pages.rows Pages.rowCount Pages.textRows Pages.beginsSigned Pages.pagesFrom Pages.pages Pages.textIn Pages.atNumber Pages.ahead Pages.linesIn Pages.readBack
 pages-printed = refl

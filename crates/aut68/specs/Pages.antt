@@ -1,6 +1,6 @@
 -- Printed pages, "on paper 72 columns wide": how a book is laid out in rows, and how its lines are read back from them.
 use Prim.Native.Nat.{ℕ, zero, suc, _+_, _-_, _/_, _%_}
-use mathlib.Core.Bool.{Bool, true, false, not}
+use mathlib.Core.Bool.{Bool, true, false, not, _||_}
 use mathlib.Core.List.{List, [], _∷_, _++_, map}
 use lib.Dec.{eqb, leb}
 use lib.ListN.{length, take, drop, replicate, getD}
@@ -45,10 +45,18 @@ rowCount text = (length text + (textColumns - 1)) / textColumns
 unfoldable pub textRows : Bytes → Bytes → Bytes
 textRows front text = rows (rowCount text) front text
 
--- "A line begins a row with its number": the lines from number n on
+-- The text begins with `+` or `-`, as that of a paragraph line does and no other.
+unfoldable pub beginsSigned : Bytes → Bool
+beginsSigned text = eqb (getD text 0 0) 43 || eqb (getD text 0 0) 45
+
+-- "A line begins a row with its number", but "a paragraph line has blank columns 1 to 5": the lines from number n on
 unfoldable pub pagesFrom : ℕ → List Bytes → Bytes
 pagesFrom n [] = []
-pagesFrom n (l ∷ ls) = textRows (numbered n) (textOf l) ++ pagesFrom (suc n) ls
+pagesFrom n (l ∷ ls) =
+    elim (beginsSigned (textOf l)) [
+      | true ↦ textRows blank (textOf l) ++ pagesFrom n ls
+      | false ↦ textRows (numbered n) (textOf l) ++ pagesFrom (suc n) ls
+    ]
 
 unfoldable pub pages : Bytes → Bytes
 pages book = pagesFrom 1 (lines book)
@@ -59,10 +67,10 @@ pages book = pagesFrom 1 (lines book)
 unfoldable pub textIn : Bytes → Bytes
 textIn r = take textColumns (drop (suc numberColumns) r)
 
--- Does a line end ahead of these rows? There is none, or the first one has a number, which ends in column 5.
+-- Does a line end ahead of these rows? There is none, or the first one has a number, which ends in column 5, or a sign in column 7.
 unfoldable pub atNumber : List Bytes → Bool
 atNumber [] = true
-atNumber (r ∷ rs) = not (eqb (getD r (numberColumns - 1) 32) 32)
+atNumber (r ∷ rs) = not (eqb (getD r (numberColumns - 1) 32) 32) || beginsSigned (textIn r)
 
 -- bytes ahead of the first line
 unfoldable pub ahead : Bytes → List Bytes → List Bytes

@@ -1,4 +1,4 @@
--- Paper 4's cases: the pages of books, byte for byte.
+-- The cases of papers 4 and 7: the pages of books, byte for byte.
 use mathlib.Core.Bool.{Bool, true, false, _&&_}
 use mathlib.Core.List.{List, [], _∷_}
 use Rattle.aut68.specs.Bytes.{Bytes, lines, joined}
@@ -43,4 +43,8 @@ printedPages =
     ∷ printed (bytesOf "*a1:=PN:type\n*a2:=PN:type\n*a3:=PN:type\n*a4:=PN:type\n*a5:=PN:type\n*a6:=PN:type\n*a7:=PN:type\n*a8:=PN:type\n*a9:=PN:type\n*a10:=PN:type\n*a11:=PN:type\n*a12:=PN:type\n") (bytesOf "    1 *a1:=PN:type                                                      \n    2 *a2:=PN:type                                                      \n    3 *a3:=PN:type                                                      \n    4 *a4:=PN:type                                                      \n    5 *a5:=PN:type                                                      \n    6 *a6:=PN:type                                                      \n    7 *a7:=PN:type                                                      \n    8 *a8:=PN:type                                                      \n    9 *a9:=PN:type                                                      \n   10 *a10:=PN:type                                                     \n   11 *a11:=PN:type                                                     \n   12 *a12:=PN:type                                                     \n")
     -- arguments left out stay left out: the page holds the bytes, not the completed form
     ∷ printed (bytesOf "*nat:=PN:type\n*n:=EB:nat\nn*suc:=PN:nat\nn*t:=suc:nat\n") (bytesOf "    1 *nat:=PN:type                                                     \n    2 *n:=EB:nat                                                        \n    3 n*suc:=PN:nat                                                     \n    4 n*t:=suc:nat                                                      \n")
+    -- a paragraph line has blank columns 1 to 5, and lines are numbered without it
+    ∷ printed (bytesOf "*a:=PN:type\n+ p\n*b:=PN:a\n-p\n") (bytesOf "    1 *a:=PN:type                                                       \n      +p                                                                \n    2 *b:=PN:a                                                          \n      -p                                                                \n")
+    -- behind a line of 66 bytes it is told apart by the sign in column 7
+    ∷ printed (bytesOf "*wwwwwwwwwwwwwwwwwwwwwwwwwwwwwwww:=PN:type\n*vvvvvvvvvvvvvvvvvvvvvvvvvv:=wwwwwwwwwwwwwwwwwwwwwwwwwwwwwwww:type\n+p\n-p\n") (bytesOf "    1 *wwwwwwwwwwwwwwwwwwwwwwwwwwwwwwww:=PN:type                        \n    2 *vvvvvvvvvvvvvvvvvvvvvvvvvv:=wwwwwwwwwwwwwwwwwwwwwwwwwwwwwwww:type\n      +p                                                                \n      -p                                                                \n")
     ∷ []

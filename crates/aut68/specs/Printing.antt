@@ -2,31 +2,35 @@
 use mathlib.Core.Path.{_≡_}
 use mathlib.Core.Logic.{_⊎_, _≢_}
 use Prim.Native.Nat.{ℕ, _*_, _%_, _≤_}
-use mathlib.Core.List.{[]}
 use lib.ListN.{take, getD}
 use Rattle.aut68.specs.Language.{Language}
 use Rattle.aut68.specs.Sizes.{rowWidth}
 use Rattle.aut68.specs.Stores.{Stores, limitsOf}
 use Rattle.aut68.specs.Bytes.{Bytes, lines, joined}
 use Rattle.aut68.specs.Source.{SourceLine}
+use Rattle.aut68.specs.Paragraphs.{start}
 use Rattle.aut68.specs.Pages.{without, withoutSpaces, pages, readBack}
 use Rattle.aut68.specs.Symbols.{symbolsIn}
 use Rattle.aut68.specs.Procedure.Calls.{storeTooSmall}
-use Rattle.aut68.specs.Procedure.Run.{Ending, run, codeAt, lineAt, stepsAt, recordedAt, tableEnd, termsEnd, workEnd, indexEnd}
-use Rattle.aut68.specs.Rules.Grammar.{WellFormed}
+use Rattle.aut68.specs.Procedure.Run.{Ending, run, stateOf, codeAt, lineAt, stepsAt, recordedAt, tableEnd, termsEnd, workEnd, indexEnd}
+use Rattle.aut68.specs.Rules.Grammar.{WellFormed, SignLine, IsSign}
 use Rattle.aut68.specs.Rules.Derivation.{Derived}
 use Rattle.aut68.specs.Demands.{Accepted}
 use Rattle.aut68.specs.Admission.{Writes, AdmitsFirst}
 
 -- ---- a line without its spaces
 
--- It is read as the same line: what its bytes say never hangs on byte 32.
+-- It is read as the same line, ordinary or paragraph line: what its bytes say never hangs on byte 32.
 unfoldable pub SameReading : Type 0
-SameReading = (language : Language) (source : SourceLine) (bytes : Bytes) → WellFormed language source bytes → WellFormed language source (without 32 bytes)
+SameReading = (language : Language) (bytes : Bytes)
+    → ((source : SourceLine) → WellFormed language source bytes → WellFormed language source (without 32 bytes))
+    × ((sign : ℕ) (p : Bytes) → IsSign sign → SignLine language sign p bytes → SignLine language sign p (without 32 bytes))
 
 -- Spaces dropped never join two symbols.
 unfoldable pub NeverJoined : Type 0
-NeverJoined = (language : Language) (source : SourceLine) (bytes : Bytes) → WellFormed language source bytes → symbolsIn (without 32 bytes) ≡ symbolsIn bytes
+NeverJoined = (language : Language) (bytes : Bytes)
+    → ((source : SourceLine) → WellFormed language source bytes → symbolsIn (without 32 bytes) ≡ symbolsIn bytes)
+    × ((sign : ℕ) (p : Bytes) → IsSign sign → SignLine language sign p bytes → symbolsIn (without 32 bytes) ≡ symbolsIn bytes)
 
 -- ---- the book that is read back
 
@@ -54,7 +58,7 @@ unfoldable pub ReadsBackPadded : Type 0
 ReadsBackPadded = (language : Language) (book : Bytes) (N L : ℕ) (s : Stores)
     → let e = run language book (limitsOf N L s) in
     Accepted e
-    → Derived language [] (lines (joined (readBack (pages book)))) (recordedAt e .recorded)
+    → Derived language start (lines (joined (readBack (pages book)))) (stateOf (recordedAt e))
 
 -- ---- the call that prints a book
 
@@ -71,4 +75,4 @@ pub record PrintsPages (language : Language) (book : Bytes) (N L : ℕ) (s : Sto
   -- With the padding each line still has a derivation and means what it meant. Shut out: a program that pads the first row of a line of
   -- two; one that prints the lines in another order.
   pub readsBackPadded : let e = run language book (limitsOf N L s) in
-      code ≡ 0 → Derived language [] (lines (joined (readBack (take count new)))) (recordedAt e .recorded)
+      code ≡ 0 → Derived language start (lines (joined (readBack (take count new)))) (stateOf (recordedAt e))

@@ -35,4 +35,5 @@ renumberLine ρ l = record {
   context = map ρ (l .context);
   kind = renumberKind ρ (l .kind);
   category = renumber ρ (l .category);
+  paragraph = l .paragraph;
 }

@@ -8,6 +8,7 @@ use Rattle.aut68.specs.Language.{Language}
 use Rattle.aut68.specs.Stores.{Stores, limitsOf}
 use Rattle.aut68.specs.Bytes.{Bytes, lines, joined}
 use Rattle.aut68.specs.Lines.{Line, Lines}
+use Rattle.aut68.specs.Paragraphs.{State, start}
 use Rattle.aut68.specs.Index.{namesOf}
 use Rattle.aut68.specs.Renumbering.{renumberLine}
 use Rattle.aut68.specs.Procedure.Calls.{declineCode, noSuchLine, answerTooLong}
@@ -25,23 +26,28 @@ Entries = (l : Line) → Ascends (namesOf l) × ((v : ℕ) → Member v (namesOf
 
 -- ---- all lines deleted that are not reached
 
--- What stays of the pieces, which mean the lines ls, when all lines not reached from line v are deleted: a correct book; each line
--- that stays means what it meant, renumbered; and line v rests on what it rested on.
+-- What stays of the pieces, which mean the lines ls, when all lines not reached from line v are deleted, and the paragraph lines are left
+-- standing: a correct book; each line that stays means what it meant, renumbered; and line v rests on what it rested on.
 pub record Remains (language : Language) (pieces : List Bytes) (ls : Lines) (v : ℕ) : Type 0 where
   pub rest : List Bytes
-  pub deleted : Deleted (Reaches ls v) 1 pieces rest
+  pub deleted : Deleted language (Reaches ls v) 1 pieces rest
   pub correct : Correct language (joined rest)
-  pub meanings : Lines
-  pub derived : Derived language [] rest meanings
+  pub meanings : State
+  pub derived : Derived language start rest meanings
   -- the new number of a line
   pub number : ℕ → ℕ
   pub inOrder : (u w : ℕ) → Reaches ls v u → Reaches ls v w → u < w → number u < number w
-  pub keepsMeaning : (u : ℕ) (l : Line) → Reaches ls v u → IsLine ls u l → IsLine meanings (number u) (renumberLine number l)
-  pub restsOnTheSame : (list : List ℕ) → RestsOn ls v list → RestsOn meanings (number v) (map number list)
+  pub keepsMeaning : (u : ℕ) (l : Line) → Reaches ls v u → IsLine ls u l → IsLine (meanings .earlier) (number u) (renumberLine number l)
+  pub restsOnTheSame : (list : List ℕ) → RestsOn ls v list → RestsOn (meanings .earlier) (number v) (map number list)
 
 -- Paper 2: "deleting all lines not reached leaves a book that the rules find correct".
 unfoldable pub Deletion : Type 0
-Deletion = (language : Language) (pieces : List Bytes) (ls : Lines) (v : ℕ) → Derived language [] pieces ls → 1 ≤ v → v ≤ length ls → Remains language pieces ls v
+Deletion = (language : Language) (pieces : List Bytes) (st : State) (v : ℕ)
+    → Derived language start pieces st
+    → st .place .opened ≡ []
+    → 1 ≤ v
+    → v ≤ length (st .earlier)
+    → Remains language pieces (st .earlier) v
 
 -- ---- the call that tells what a line rests on
 

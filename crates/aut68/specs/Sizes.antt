@@ -45,10 +45,10 @@ bookLimit = 16777215
 
 -- A line's row in the table: how many cells it has ..
 abbrev pub rowWidth : ℕ
-rowWidth = 8
+rowWidth = 9
 
 -- .. and which is which: first byte and length of the identifier, the indicator's line, the length of the context, the kind, and
--- in the term store the starts of middle and category and the category's end.
+-- in the term store the starts of middle and category and the category's end, and the paragraph.
 abbrev pub atNameStart : ℕ
 atNameStart = 0
 
@@ -72,6 +72,13 @@ atCategory = 6
 
 abbrev pub atEnd : ℕ
 atEnd = 7
+
+abbrev pub atParagraph : ℕ
+atParagraph = 8
+
+-- "More than 32 paragraphs open together is 12"
+abbrev pub openLimit : ℕ
+openLimit = 32
 
 -- A printed row: columns 1 to 5 for the number, a blank one, columns 7 to 72 for the text, and byte 10.
 abbrev pub numberColumns : ℕ

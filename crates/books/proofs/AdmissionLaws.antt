@@ -2,7 +2,7 @@
 use mathlib.Core.Path.{_≡_, refl, sym, ap, _∙_}
 use mathlib.Core.Logic.{_≢_}
 use mathlib.Core.Bool.{Bool, true, false}
-use mathlib.Core.List.{List, [], _++_}
+use mathlib.Core.List.{List, _++_}
 use Prim.Native.Nat.{ℕ, _+_, _-_, _*_, _≤_, _<_}
 use native.Mathlib.Omega.{arith}
 use lib.ListN.{length, drop, replicate, length-append, length-drop, length-replicate}
@@ -16,11 +16,11 @@ use Rattle.aut68.specs.Bytes.{Bytes, lines}
 use Rattle.aut68.specs.Lines.{tableOf, rowsFrom, termsOf}
 use Rattle.aut68.specs.Index.{indexOf}
 use Rattle.aut68.specs.Procedure.Answer.{Refusal, codeOf, workTooSmall, limitOutOfRange, outOfSpace}
-use Rattle.aut68.specs.Procedure.Run.{Recorded, Ending, turnedAway, refusedAt, nothing, checkLines, run, over, codeAt, lineAt, stepsAt, recordedAt, tableEnd, termsEnd, workEnd, indexEnd}
+use Rattle.aut68.specs.Procedure.Run.{Recorded, stateOf, Ending, turnedAway, refusedAt, nothing, checkLines, run, over, codeAt, lineAt, stepsAt, recordedAt, tableEnd, termsEnd, workEnd, indexEnd}
 use Rattle.aut68.specs.Demands.{Determined}
-use Rattle.lookup.specs.Runs.{LinesEnd, allPass, oneStops, lines-end, run-admitted}
+use Rattle.lookup.specs.Runs.{LinesEnd, allPass, leftOpen, oneStops, lines-end, run-admitted}
 use Rattle.cells.specs.Posts.{cleared}
-use Rattle.books.specs.Progress.{LinesPost}
+use Rattle.books.specs.Loop.{LinesPost}
 
 module _ (language : Language) (book : Bytes) (N L : ℕ) (s : Stores) where
   abbrev limits : Limits
@@ -88,9 +88,10 @@ module _ (language : Language) (book : Bytes) (N L : ℕ) (s : Stores) where
           (e ∙ cleared-over (s .work) refl refl)
 
       -- where the lines were looked at the working store ends as zeros
-      lines-clear : {e : Ending} → LinesEnd language limits [] N (lines book) e → workEnd L e (s .work) ≡ over zeros (s .work)
+      lines-clear : {e : Ending} → LinesEnd language limits (stateOf nothing) N (lines book) e → workEnd L e (s .work) ≡ over zeros (s .work)
       unfolding workEnd
-      lines-clear (allPass x) = refl
+      lines-clear (allPass x o) = refl
+      lines-clear (leftOpen x o) = refl
       lines-clear (oneStops past bytes rest q x f) = refl
 
       -- the lines were checked, with the units of the working store lent

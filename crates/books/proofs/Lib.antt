@@ -1,8 +1,4 @@
 -- Laws that the proofs of several functions cite.
-pub mod StoreLaws
-pub mod ReadLaws
-pub mod EntryLaws
-pub mod HintLaws
-pub mod LineLaws
 pub mod LoopLaws
+pub mod PieceLaws
 pub mod AdmissionLaws

@@ -1,2 +1,2 @@
--- What the check of the lines leaves, from one line to the next.
-pub mod Progress
+-- What the check of the pieces comes to, from one to the next.
+pub mod Loop

@@ -1,5 +1,4 @@
-// The check of a book: its lines one after the other, rows and term cells of those that pass; and the whole call. specs/Progress has
-// the contracts.
+// The check of a book: its pieces one after the other; and the whole call. specs/Loop has the contracts.
 mod admission;
 mod lines;
 

@@ -1,161 +1,98 @@
-// The lines of a book, one after the other.
-use categories::Checked;
-use categories::check_cells;
+// The pieces of a book, one after the other: ordinary lines and paragraph lines.
 use cells::READER_UNITS;
 use cells::line_at;
-use cells::names_at;
+use checking::Progress;
+use checking::check_line;
+use checking::stopped;
 use constants::Cell;
-use constants::LAST_LINE;
 use constants::OUT_OF_SPACE;
+use constants::UNBALANCED;
 use copies::clear;
-use copies::exchange;
-use entries::line_names;
-use entries::put_entry;
 use headings::line_end;
+use headings::sign_of;
 use kinds::kinds_of_bytes;
-use names::identifier;
-use names::link;
-use names::put_head;
+use moves::Moved;
+use moves::Open;
+use moves::none_open;
+use moves::paragraph_line;
 use names::unlink;
-use reader::Line;
-use reader::read_line;
-use storage::Room;
-use storage::has_room;
-use storage::put_row;
-use storage::sum;
 ghost use mathlib.Core.Path.{_≡_};
-ghost use mathlib.Core.List.{List, [], _∷_};
-ghost use Prim.Native.Nat.{ℕ, _+_, _<_, _≤_};
-ghost use lib.ListN.{length};
+ghost use mathlib.Core.Logic.{_≢_};
+ghost use mathlib.Core.Bool.{_||_};
+ghost use mathlib.Core.List.{List};
+ghost use Prim.Native.Nat.{ℕ, _*_, _≤_};
+ghost use lib.Dec.{eqb};
+ghost use lib.ListN.{length, take};
 ghost use Rattle.aut68.specs.Language.{aut68};
+ghost use Rattle.aut68.specs.Sizes.{bookLimit};
 ghost use Rattle.aut68.specs.Stores.{stores, limitsOf};
 ghost use Rattle.aut68.specs.Bytes.{lines};
 ghost use Rattle.aut68.specs.Procedure.Run.{nothing, checkLines};
+ghost use Rattle.cells.specs.Layout.{readerUnits};
 ghost use Rattle.cells.specs.Links.{unlinked};
-ghost use Rattle.books.specs.Progress.{Fitting, StoredPost, NotedLine, LinePost, LinesPost};
+ghost use Rattle.moves.specs.Posts.{MovedPost};
+ghost use Rattle.checking.specs.Progress.{Fitting};
+ghost use Rattle.books.specs.Loop.{LinesPost};
 
-// Where the check of a book is. code: 0, or the refusal of line lines + 1. at: the next byte. lines, used, entries: the rows, the
-// term cells and the index cells of the lines that passed. budget: what is left of it.
-pub struct Progress {
-    pub code: u32,
-    pub at: usize,
-    pub lines: usize,
-    pub used: usize,
-    pub entries: usize,
-    pub budget: u32,
+// Is k the kind of one of the two signs?
+fn is_sign(k: u8) -> bool
+    ensures { λ r. ⌜ r ≡ (eqb k 15 || eqb k 16) ⌝ }
+{
+    if k == kinds::PLUS {
+        return true;
+    }
+    k == kinds::MINUS
 }
 
-// The check stops at the line that starts at p.at.
-fn stopped(p: Progress, code: u32, budget: u32) -> Progress
-    ensures { λ r. ⌜ (r .code ≡ code) × (r .at ≡ p .at) × (r .lines ≡ p .lines) × (r .used ≡ p .used) × (r .entries ≡ p .entries) × (r .budget ≡ budget) ⌝ }
+// The check goes on at byte `next`, behind a paragraph line.
+fn moved(p: Progress, next: usize) -> Progress
+    ensures { λ r. ⌜ (r .code ≡ p .code) × (r .at ≡ next) × (r .lines ≡ p .lines) × (r .used ≡ p .used) × (r .entries ≡ p .entries) × (r .budget ≡ p .budget) ⌝ }
 {
     Progress {
-        code: code,
-        at: p.at,
+        code: p.code,
+        at: next,
         lines: p.lines,
         used: p.used,
         entries: p.entries,
-        budget: budget,
+        budget: p.budget,
     }
 }
 
-// A line that was read and has room (checkWritten, checkMiddle). Its cells are exchanged with the next free term cells; they
-// stay there if its categories pass, and its row is written. If not, they are exchanged back.
-fn check_stored(
-    table: &mut [u32],
-    terms: &mut [Cell],
-    w: &mut [Cell],
-    limit: usize,
-    lines: usize,
-    used: usize,
-    first: usize,
-    l: Line,
-    budget: u32,
-) -> Checked
-    requires { ⌜ used + l .size ≤ length (now terms) ⌝ }
-    ensures { λ r. ⌜ StoredPost limit lines used (l .middle) (l .size) (first ∷ l .len ∷ l .indicator ∷ l .context ∷ l .kind ∷ used ∷ (used + l .middle) ∷ (used + l .size) ∷ []) budget (now (table .entry)) (now (terms .entry)) (now (w .entry)) (now (table .exit)) (now (terms .exit)) (now (w .exit)) (r .code) (r .budget) ⌝ }
-{
-    let size = l.size;
-    let to = line_at(limit);
-    exchange(terms, used, w, to, size);
-    let stop = used + size;
-    let category = sum(used, l.middle);
-    let c = check_cells(table, &terms[..stop], used, category, w, limit, budget);
-    if c.code != 0 {
-        exchange(terms, used, w, to, l.size);
-        return c;
-    }
-    put_row(table, lines, first, l, used, category, stop);
-    c
-}
-
-// Notes the line whose row was written behind the first `lines` rows for name lookup.
-fn note_line(book: &[u8], table: &mut [u32], lines: usize, w: &mut [Cell], limit: usize)
-    ensures { λ _. ⌜ NotedLine (now (book .entry)) (now (table .entry)) (now (table .exit)) lines limit (now (w .entry)) (now (w .exit)) ⌝ }
-{
-    if lines >= LAST_LINE {
-        return;
-    }
-    if limit > w.len() / READER_UNITS {
-        return;
-    }
-    let n = READER_UNITS * limit;
-    let v = lines + 1;
-    let word = identifier(book, table, v as u32);
-    let before = put_head(&mut w[..n], word, v);
-    link(table, lines, before);
-}
-
-// The line that starts at p.at (checkLine), behind the first p.lines lines. Passed: its row, its cells and its entry are written, and
-// every other cell of table, terms and index is as it was. Refused: table, terms and index are as they were. The rows are linked.
-fn check_line(
+// The paragraph line from `at` up to `next`, its sign of kind k, behind the first `lines` lines (paragraph_line, on the units of name
+// lookup).
+fn check_signed(
     book: &[u8],
     kinds: &[u8; 256],
-    table: &mut [u32],
-    terms: &mut [Cell],
-    index: &mut [u32],
+    table: &[u32],
+    lines: usize,
     w: &mut [Cell],
     limit: usize,
-    p: Progress,
-) -> Progress
-    requires { ⌜ p .at < length (now book) ⌝ }
-    ensures { λ r. ⌜ LinePost (now (book .entry)) (now (kinds .entry)) limit (p .at) (p .lines) (p .used) (p .entries) (p .budget) (now (table .entry)) (now (terms .entry)) (now (index .entry)) (now (w .entry)) (r .code) (r .at) (r .lines) (r .used) (r .entries) (r .budget) (now (table .exit)) (now (terms .exit)) (now (index .exit)) (now (w .exit)) ⌝ }
+    at: usize,
+    next: usize,
+    k: u8,
+    o: Open,
+) -> Moved
+    requires { ⌜ (at ≤ next) × (next ≤ length (now book)) × (length (now book) ≤ bookLimit) ⌝ }
+    ensures { λ r. ⌜ (readerUnits * limit ≤ length (now (w .entry)) → MovedPost (now (kinds .entry)) (now (book .entry)) (now (table .entry)) lines (take (readerUnits * limit) (now (w .entry))) (take (readerUnits * limit) (now (w .exit))) at next k o (r .code) (r .open)) ⌝ }
 {
-    let at = p.at;
-    let lines = p.lines;
-    let used = p.used;
-    let next = line_end(book, at);
-    let l = read_line(&book[at..next], kinds, book, table, lines, w, limit);
-    if l.code != 0 {
-        return stopped(p, l.code, p.budget);
+    if limit > w.len() / READER_UNITS {
+        return Moved {
+            code: OUT_OF_SPACE,
+            open: o,
+        };
     }
-    let names = line_names(w, limit, l.size, l.indicator);
-    let room = Room {
-        table: table.len(),
-        terms: terms.len(),
-        index: index.len(),
-        used: used,
-        entries: p.entries,
-    };
-    let fits = has_room(room, lines, l.size, names);
-    if !fits {
-        return stopped(p, OUT_OF_SPACE, p.budget);
+    let n = READER_UNITS * limit;
+    paragraph_line(book, kinds, table, lines, &mut w[..n], at, next, k, o)
+}
+
+// The end of the book, with so many paragraphs open.
+fn at_end(p: Progress, depth: usize) -> Progress
+    ensures { λ r. ⌜ (depth ≡ 0 → r .code ≡ p .code) × (depth ≢ 0 → r .code ≡ 17) × (r .lines ≡ p .lines) × (r .budget ≡ p .budget) ⌝ }
+{
+    if depth == 0 {
+        return p;
     }
-    let first = sum(at, l.first);
-    let s = check_stored(table, terms, w, limit, lines, used, first, l, p.budget);
-    if s.code != 0 {
-        return stopped(p, s.code, s.budget);
-    }
-    put_entry(index, p.entries, w, names_at(limit), names);
-    note_line(book, table, lines, w, limit);
-    Progress {
-        code: 0,
-        at: next,
-        lines: lines + 1,
-        used: used + l.size,
-        entries: p.entries + names + 1,
-        budget: s.budget,
-    }
+    stopped(p, UNBALANCED, p.budget)
 }
 
 // The lines of the book, one after the other, up to the first that is refused (checkLines). The rows stay linked.
@@ -182,13 +119,27 @@ fn check_linked(
         entries: 0,
         budget: budget,
     };
+    let mut o = none_open();
     while p.at < book.len() {
-        p = check_line(book, &kinds, table, terms, index, w, limit, p);
-        if p.code != 0 {
-            return p;
+        let at = p.at;
+        let next = line_end(book, at);
+        let k = sign_of(&book[at..next], &kinds);
+        if is_sign(k) {
+            let lines = p.lines;
+            let m = check_signed(book, &kinds, table, lines, w, limit, at, next, k, o);
+            if m.code != 0 {
+                return stopped(p, m.code, p.budget);
+            }
+            o = m.open;
+            p = moved(p, next);
+        } else {
+            p = check_line(book, &kinds, table, terms, index, w, limit, p, next);
+            if p.code != 0 {
+                return p;
+            }
         }
     }
-    p
+    at_end(p, o.depth)
 }
 
 // The lines of the book, one after the other, up to the first that is refused (checkLines).

@@ -4,7 +4,6 @@
 // each call.
 use constants::Cell;
 use constants::LARGEST_LIMIT;
-use constants::LINE_LIMIT;
 use constants::ROW_WIDTH;
 use constants::WORK_UNITS;
 use libc::STDOUT_FILENO;
@@ -20,9 +19,9 @@ const LISTED: usize = 3;
 // The largest case's bytes.
 const TEXT: usize = 131072;
 
-// The cells of the stores: line LINE_LIMIT has a row; the index is one longer than the listing program's; the working store has a cell
-// more than the largest limit needs.
-const TABLE: usize = ROW_WIDTH * LINE_LIMIT;
+// The cells of the stores: more than 8,192 lines have rows; the index is one longer than the listing program's; the working store has a
+// cell more than the largest limit needs.
+const TABLE: usize = ROW_WIDTH * 8193;
 
 const TERMS: usize = 16384;
 

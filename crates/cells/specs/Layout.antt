@@ -1,5 +1,6 @@
 -- The working store of workUnits × limit cells, in units of `limit` cells:
---     0   23  hints of name lookup, in the first cells; the rest is free
+--     0   13  slots of name lookup
+--    13    9  the note of paragraphs, behind the slots' last cell; unit 22 is free
 --    23    1  the context of the line that is read; then, with unit 22 and the cell ahead of it, the lines that the line names
 --    24    2  the line's cells before storage; then the term cells that they displaced
 --    26   36  categories, one unit a level

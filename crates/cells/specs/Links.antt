@@ -8,7 +8,7 @@ use native.Mathlib.Decide.{decLt, ℕ-discrete}
 use native.Mathlib.Omega.{arith}
 use lib.ListN.{length, getD, set, length-set, List·getD-eq-default}
 use lib.Seq.{sets, getD-set-same, getD-set-other, set-getD, set-set, set-comm}
-use Rattle.aut68.specs.Sizes.{rowWidth, atNameLength, atIndicator, atContext, atKind, atMiddle, atCategory, atEnd}
+use Rattle.aut68.specs.Sizes.{rowWidth, atNameLength, atIndicator, atContext, atKind, atMiddle, atCategory, atEnd, atParagraph}
 use Rattle.aut68.specs.Expr.{cells}
 use Rattle.aut68.specs.Lines.{Lines, kindCells, rowCell}
 use Rattle.cells.specs.Cells.{At}
@@ -143,6 +143,7 @@ module _ (n : ℕ) (tb : List ℕ) where
               indicatorIs = other v atIndicator (omega arith) (λ e. omega arith) ∙ r .indicatorIs;
               contextIs = other v atContext (omega arith) (λ e. omega arith) ∙ r .contextIs;
               kindIs = other v atKind (omega arith) (λ e. omega arith) ∙ r .kindIs;
+              paragraphIs = other v atParagraph (omega arith) (λ e. omega arith) ∙ r .paragraphIs;
             };
       }
 

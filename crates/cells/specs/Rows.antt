@@ -4,7 +4,7 @@ use mathlib.Core.List.{List}
 use Prim.Native.Nat.{ℕ, _+_, _*_, _≤_}
 use lib.ListN.{length}
 use lib.Seq.{slice}
-use Rattle.aut68.specs.Sizes.{rowWidth, atNameStart, atNameLength, atIndicator, atContext, atKind, atMiddle, atCategory, atEnd}
+use Rattle.aut68.specs.Sizes.{rowWidth, atNameStart, atNameLength, atIndicator, atContext, atKind, atMiddle, atCategory, atEnd, atParagraph}
 use Rattle.aut68.specs.Expr.{cells}
 use Rattle.aut68.specs.Lines.{Line, Lines, kindNumber, kindCells, rowCell}
 use Rattle.aut68.specs.Rules.Names.{IsLine}
@@ -16,6 +16,7 @@ pub record RowOf (tb : List ℕ) (v : ℕ) (l : Line) : Type 0 where
   pub indicatorIs : rowCell tb v atIndicator ≡ l .indicator
   pub contextIs : rowCell tb v atContext ≡ length (l .context)
   pub kindIs : rowCell tb v atKind ≡ kindNumber (l .kind)
+  pub paragraphIs : rowCell tb v atParagraph ≡ l .paragraph
 
 -- the term store has the middle and the category of l where the row of line v says
 pub record CellsOf (tb ts : List ℕ) (v : ℕ) (l : Line) : Type 0 where

@@ -3,7 +3,7 @@ use mathlib.Core.Path.{_≡_, sym, ap, ap₂, _∙_}
 use mathlib.Core.Logic.{_⊎_, inl, inr, ⊎-elim}
 use mathlib.Core.List.{List, [], _∷_, _++_, append-assoc}
 use Prim.Native.Nat.{ℕ, zero, suc, _+_, _-_, _≤_, _<_, min}
-use native.Mathlib.Nat.{zero-add}
+use native.Mathlib.Nat.{zero-add, add-assoc}
 use native.Mathlib.Omega.{arith}
 use lib.ListN.{length, getD, take, drop, set, length-take, length-drop, length-set, take-append-drop}
 use lib.Seq.{slice, slice-cons, slice-empty, ext-getD, getD-take, getD-drop, take-take, take-nil, drop-drop, drop-append-le, getD-set-same}
@@ -38,6 +38,13 @@ slice-snoc a k w l =
     sym (slice-append a (a + k) (a + (k + 1)) w (omega arith) (omega arith) (omega arith))
     ∙ ap (λ (p : List ℕ). slice a (a + k) w ++ p)
     (slice-next a k (k + 1) w (omega arith) (omega arith) ∙ ap (λ (p : List ℕ). getD w (a + k) 0 ∷ p) (slice-empty (a + (k + 1)) w))
+
+-- a part of a part
+pub slice-slice : (a e : ℕ) (l : List ℕ) (b n : ℕ) → a + (b + n) ≤ e → slice b (b + n) (slice a e l) ≡ slice (a + b) (a + b + n) l
+slice-slice a e l b n h =
+    ap (drop b) (sym (run-is-slice a (b + n) (take e l)) ∙ ap (drop a) (take-take (a + (b + n)) e l h))
+    ∙ drop-drop b a (take (a + (b + n)) l)
+    ∙ ap (λ (k : ℕ). drop (a + b) (take k l)) (sym (add-assoc a b n))
 
 -- ---- parts of two stores
 

@@ -36,6 +36,8 @@ pub const STORE_TOO_SMALL: u32 = 15;
 
 pub const CELL_TOO_LARGE: u32 = 16;
 
+pub const UNBALANCED: u32 = 17;
+
 // Why a call writes no answer: one on a book that was admitted, or one on a shelf.
 pub enum Cause {
     NoSuchLine,
@@ -71,6 +73,7 @@ pub enum Reason {
     OutOfBudget,
     OutOfSpace,
     NotInContext,
+    Unbalanced,
 }
 
 // The code of a reason.
@@ -91,6 +94,7 @@ pub fn code_of(reason: Reason) -> u32
         Reason::OutOfBudget => OUT_OF_BUDGET,
         Reason::OutOfSpace => OUT_OF_SPACE,
         Reason::NotInContext => NOT_IN_CONTEXT,
+        Reason::Unbalanced => UNBALANCED,
     }
 }
 
@@ -111,6 +115,7 @@ pub fn reason_of(code: u32) -> Reason
         TOO_LARGE => Reason::TooLarge,
         OUT_OF_BUDGET => Reason::OutOfBudget,
         OUT_OF_SPACE => Reason::OutOfSpace,
-        _ => Reason::NotInContext,
+        NOT_IN_CONTEXT => Reason::NotInContext,
+        _ => Reason::Unbalanced,
     }
 }

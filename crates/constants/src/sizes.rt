@@ -35,7 +35,7 @@ pub const NAME_LIMIT: usize = 32;
 pub const BOOK_LIMIT: usize = 16777215;
 
 // A line's row in the table: how many cells it has, and which is which.
-pub const ROW_WIDTH: usize = 8;
+pub const ROW_WIDTH: usize = 9;
 
 pub const NAME_START: usize = 0;
 
@@ -52,6 +52,11 @@ pub const MIDDLE_START: usize = 5;
 pub const CATEGORY_START: usize = 6;
 
 pub const CATEGORY_END: usize = 7;
+
+pub const PARAGRAPH: usize = 8;
+
+// How many paragraphs may be open together.
+pub const OPEN_LIMIT: usize = 32;
 
 // A printed row: NUMBER_COLUMNS columns, a blank one, TEXT_COLUMNS columns, and byte 10.
 pub const NUMBER_COLUMNS: usize = 5;

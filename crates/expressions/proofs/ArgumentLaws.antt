@@ -7,7 +7,7 @@ use native.Mathlib.Omega.{arith}
 use lib.ListN.{length, drop}
 use Rattle.aut68.specs.Bytes.{Bytes}
 use Rattle.aut68.specs.Source.{cons, countSrcs}
-use Rattle.aut68.specs.Lines.{Lines}
+use Rattle.aut68.specs.Paragraphs.{State}
 use Rattle.aut68.specs.Procedure.Answer.{andThen, when}
 use Rattle.aut68.specs.Procedure.Parse.{arguments}
 use Rattle.aut68.specs.Procedure.Resolve.{contextAt}
@@ -31,10 +31,10 @@ pub record ArgumentsSoFar (ks s : Bytes) (scope : Scope) (book tb : List ℕ) (l
   pub inside : at ≤ length s
   pub small : to ≤ length w₀ + 1
   pub few : count ≤ at
-  pub rest : (ls : Lines) → Ready ls ks s book tb lines indicator scope w₀ (r .to) → (n : ℕ) → length s - r .at < n
+  pub rest : (st : State) → Ready st ks s book tb lines indicator scope w₀ (r .to) → (n : ℕ) → length s - r .at < n
       → (m : ℕ) × (length s - at < m) × ((w′ : List ℕ) (r′ : Reading) → SameBelow to w w′ → to ≤ r′ .to
-      → ReadTo s (Counted ls s indicator scope w w′ to fault count r′) (r′ .code) (r′ .at) (arguments (expressionIn scope) m (drop at s))
-      → ReadTo s (Counted ls s indicator scope w₀ w′ (r .to) (r .fault) 0 r′) (r′ .code) (r′ .at) (arguments (expressionIn scope) n (drop (r .at) s)))
+      → ReadTo s (Counted st s indicator scope w w′ to fault count r′) (r′ .code) (r′ .at) (arguments (expressionIn scope) m (drop at s))
+      → ReadTo s (Counted st s indicator scope w₀ w′ (r .to) (r .fault) 0 r′) (r′ .code) (r′ .at) (arguments (expressionIn scope) n (drop (r .at) s)))
 
 pub arguments-start : {ks s : Bytes} {scope : Scope} {book tb : List ℕ} {lines indicator : ℕ} {w : List ℕ} {r : Reading} → r .to ≤ length w + 1 → r .at ≤ length s
     → ArgumentsSoFar ks s scope book tb lines indicator w w r (r .at) (r .to) (r .fault) 0
@@ -46,7 +46,7 @@ arguments-start {w = w} {r} f i =
       inside = i;
       small = f;
       few = omega arith;
-      rest = λ ls ready n l. (n, l, λ w′ r′ b u h. h);
+      rest = λ st ready n l. (n, l, λ w′ r′ b u h. h);
     }
 
 module _ {ks s : Bytes} {scope : Scope} {book tb : List ℕ} {lines indicator : ℕ} {w₀ w wA : List ℕ} {r a : Reading} {at to fault count : ℕ}
@@ -64,11 +64,11 @@ module _ {ks s : Bytes} {scope : Scope} {book tb : List ℕ} {lines indicator : 
               inside = A .onward .inside;
               small = omega (arith, A .onward .small, h .below .long);
             };
-        read = λ ls ready k l.
-            let (m, b, f) = h .rest ls ready k l in
+        read = λ st ready k l.
+            let (m, b, f) = h .rest st ready k l in
             let e : m ≡ suc (m - 1) = omega arith in
             f wA a (A .onward .below) (A .onward .up)
-            (read-is (ap (λ i. arguments (expressionIn scope) i (drop at s)) e) (then-refused _ n (A .read ls (ready-on (h .below) (h .up) ready))));
+            (read-is (ap (λ i. arguments (expressionIn scope) i (drop at s)) e) (then-refused _ n (A .read st (ready-on (h .below) (h .up) ready))));
       }
 
   module _ (z : a .code ≡ 0) {comma : ℕ} (p : PastSymbol ks s (a .at) 7 comma) where
@@ -83,20 +83,20 @@ module _ {ks s : Bytes} {scope : Scope} {book tb : List ℕ} {lines indicator : 
           inside = i;
           small = omega (arith, A .onward .small, h .below .long);
           few = omega (arith, h .few, A .onward .from);
-          rest = λ ls ready k l.
-              let (m, b, f) = h .rest ls ready k l in
+          rest = λ st ready k l.
+              let (m, b, f) = h .rest st ready k l in
               let e : m ≡ suc (m - 1) = omega arith in (
                 m - 1,
                 omega (arith, A .onward .from),
                 λ w′ r′ below up rest.
                     f w′ r′ (below-then (A .onward .below) (A .onward .up) below) (omega (arith, A .onward .up))
                     (read-is (ap (λ i. arguments (expressionIn scope) i (drop at s)) e)
-                    (then-passed _ z (A .read ls (ready-on (h .below) (h .up) ready)) (λ x X.
+                    (then-passed _ z (A .read st (ready-on (h .below) (h .up) ready)) (λ x X.
                     then-done _ (comma-read (drop (a .at) s) (symbol-read 44 p (symbol-kinds .2) (omega arith) i (ready .table)))
                     (then-give (cons x) rest (λ xs Y.
                     record {
                       number = Y .number ∙ omega arith;
-                      written = argument-written ls (contextAt ls indicator) (boundNames s scope) below (A .onward .up) up X (Y .written);
+                      written = argument-written st (contextAt (st .earlier) indicator) (boundNames s scope) below (A .onward .up) up X (Y .written);
                     }))))),
               );
         }
@@ -109,12 +109,12 @@ module _ {ks s : Bytes} {scope : Scope} {book tb : List ℕ} {lines indicator : 
             onward =
                 onward-refused (below-then (h .below) (h .up) (A .onward .below)) g (omega (arith, h .up, A .onward .up)) (omega (arith, A .onward .small, h .below .long))
                 (omega (arith, h .from, A .onward .from)) (A .onward .inside);
-            read = λ ls ready k l.
-                let (m, b, f) = h .rest ls ready k l in
+            read = λ st ready k l.
+                let (m, b, f) = h .rest st ready k l in
                 let e : m ≡ suc (m - 1) = omega arith in
                 f wA r′ (A .onward .below) (omega (arith, A .onward .up, g .toIs))
                 (read-is (ap (λ i. arguments (expressionIn scope) i (drop at s)) e)
-                (then-passed _ z (A .read ls (ready-on (h .below) (h .up) ready)) (λ x X.
+                (then-passed _ z (A .read st (ready-on (h .below) (h .up) ready)) (λ x X.
                 then-stop _
                 (neither-read (drop (a .at) s) (symbol-missing 44 p (symbol-kinds .2) (omega arith) u (ready .table))
                 (symbol-missing 41 q (symbol-kinds .4) (omega arith) v (ready .table)))
@@ -135,12 +135,12 @@ module _ {ks s : Bytes} {scope : Scope} {book tb : List ℕ} {lines indicator : 
                   inside = v;
                   small = omega (arith, A .onward .small, h .below .long);
                 };
-            read = λ ls ready k l.
-                let (m, b, f) = h .rest ls ready k l in
+            read = λ st ready k l.
+                let (m, b, f) = h .rest st ready k l in
                 let e : m ≡ suc (m - 1) = omega arith in
                 f wA (record { code = 0; at = close; to = a .to; fault = a .fault; count = count + 1 }) (A .onward .below) (A .onward .up)
                 (read-is (ap (λ i. arguments (expressionIn scope) i (drop at s)) e)
-                (then-passed _ z (A .read ls (ready-on (h .below) (h .up) ready)) (λ x X.
+                (then-passed _ z (A .read st (ready-on (h .below) (h .up) ready)) (λ x X.
                 then-done _
                 (close-read (drop (a .at) s) (symbol-missing 44 p (symbol-kinds .2) (omega arith) u (ready .table))
                 (symbol-read 41 q (symbol-kinds .4) (omega arith) v (ready .table)))
@@ -148,7 +148,7 @@ module _ {ks s : Bytes} {scope : Scope} {book tb : List ℕ} {lines indicator : 
                 (record {
                   number = omega arith;
                   written =
-                      argument-written ls (contextAt ls indicator) (boundNames s scope) (below-same (a .to) wA) (A .onward .up) (omega arith) X
-                      (no-arguments-written ls (contextAt ls indicator) (boundNames s scope) wA (a .to) (nesting - scope .depth) (a .fault));
+                      argument-written st (contextAt (st .earlier) indicator) (boundNames s scope) (below-same (a .to) wA) (A .onward .up) (omega arith) X
+                      (no-arguments-written st (contextAt (st .earlier) indicator) (boundNames s scope) wA (a .to) (nesting - scope .depth) (a .fault));
                 })))));
           }

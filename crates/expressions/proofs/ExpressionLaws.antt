@@ -12,18 +12,18 @@ use Rattle.aut68.specs.Rules.Grammar.{inner}
 use Rattle.aut68.specs.Bytes.{Bytes, nameByte}
 use Rattle.aut68.specs.Source.{Src}
 use Rattle.aut68.specs.Expr.{Expr, cells, levels}
-use Rattle.aut68.specs.Lines.{Lines}
+use Rattle.aut68.specs.Paragraphs.{State}
 use Rattle.aut68.specs.Procedure.Answer.{done, stop, codeOf, malformed, tooLarge}
-use Rattle.aut68.specs.Procedure.Parse.{Read, spaces, symbol, named, application, abstraction, anExpression}
+use Rattle.aut68.specs.Procedure.Parse.{Read, spaces, symbol, anExpression}
 use Rattle.aut68.specs.Procedure.Resolve.{Naming, resolve, contextAt}
 use Rattle.aut68.specs.Sizes.{nesting}
 use Rattle.kinds.specs.Kinds.{KindsTable, kindOf, placeOr0, opensKind}
 use Rattle.symbols.specs.Symbols.{firstKind, PastSpaces, KindAt, PastSymbol}
 use Rattle.cells.specs.declared.scope.Scope.{Scope}
 use Rattle.cells.specs.Posts.{Nested, Bindable, Bound}
-use Rattle.names.specs.Hints.{slots}
-use Rattle.names.specs.HintLaws.{hinted-same}
 use Rattle.names.proofs.PartLaws.{part-whole}
+use Rattle.notes.specs.Note.{noteEnd}
+use Rattle.notes.specs.NoteLaws.{state-noted-same}
 use Rattle.meanings.specs.Bindings.{boundNames}
 use Rattle.meanings.specs.NotedContext.{context-noted-same}
 use Rattle.meanings.proofs.BindingLaws.{nested-names, bound-names}
@@ -35,14 +35,14 @@ use Rattle.expressions.proofs.ReadLaws.{read-is, read-stop, choose-appl
 
 -- ---- names are looked up further on, where nothing is written below
 
-pub ready-on : {ls : Lines} {ks s book tb : List ℕ} {lines indicator : ℕ} {scope : Scope} {w w′ : List ℕ} {to to′ : ℕ} → SameBelow to w w′ → to ≤ to′
-    → Ready ls ks s book tb lines indicator scope w to → Ready ls ks s book tb lines indicator scope w′ to′
+pub ready-on : {st : State} {ks s book tb : List ℕ} {lines indicator : ℕ} {scope : Scope} {w w′ : List ℕ} {to to′ : ℕ} → SameBelow to w w′ → to ≤ to′
+    → Ready st ks s book tb lines indicator scope w to → Ready st ks s book tb lines indicator scope w′ to′
 ready-on {to = to} b l h =
     record {
       table = h .table;
       known = h .known;
-      hinted = hinted-same to (h .below) (b .long) (b .is) (h .hinted);
-      below = omega (arith, h .below, ap slots (b .long));
+      noted = state-noted-same to (h .below) (b .long) (b .is) (h .noted);
+      below = omega (arith, h .below, ap noteEnd (b .long));
       context = context-noted-same to (h .above) (b .long) (b .is) (h .context);
       above = omega (arith, h .above, b .long);
       earlier = h .earlier;
@@ -60,13 +60,13 @@ some-level d l = omega arith
 
 -- ---- one level deeper
 
-pub ready-inner : {ls : Lines} {ks s book tb : List ℕ} {lines indicator : ℕ} {scope next : Scope} {w : List ℕ} {to : ℕ} → Sized next
-    → Ready ls ks s book tb lines indicator scope w to → Ready ls ks s book tb lines indicator next w to
+pub ready-inner : {st : State} {ks s book tb : List ℕ} {lines indicator : ℕ} {scope next : Scope} {w : List ℕ} {to : ℕ} → Sized next
+    → Ready st ks s book tb lines indicator scope w to → Ready st ks s book tb lines indicator next w to
 ready-inner z h =
     record {
       table = h .table;
       known = h .known;
-      hinted = h .hinted;
+      noted = h .noted;
       below = h .below;
       context = h .context;
       above = h .above;
@@ -94,38 +94,38 @@ sized-bound {scope} {next} {start} {len} b f z =
     }
 
 -- a name of the line can be bound
-bindable : {ls : Lines} {ks s book tb : List ℕ} {lines indicator : ℕ} {scope : Scope} {w : List ℕ} {to start len : ℕ}
-    → Ready ls ks s book tb lines indicator scope w to → scope .depth < nesting → start + len ≤ length s → Bindable scope start len
+bindable : {st : State} {ks s book tb : List ℕ} {lines indicator : ℕ} {scope : Scope} {w : List ℕ} {to start len : ℕ}
+    → Ready st ks s book tb lines indicator scope w to → scope .depth < nesting → start + len ≤ length s → Bindable scope start len
 bindable h l e = record { shallow = l; few = omega (arith, h .sized .few); startFits = omega (arith, h .short); lenFits = omega (arith, h .short) }
 
 module _ {ks s book tb : List ℕ} {lines indicator : ℕ} {next : Scope} {w w′ : List ℕ} {r r′ : Reading}
     (h : ExpressionRead (anExpression aut68 (nesting - next .depth) inner) ks s next book tb lines indicator w w′ r r′) where
   -- the part one level deeper than d, under the names that are bound there
-  deeper-read : (d : ℕ) → next .depth ≡ d + 1 → (ls : Lines) → Ready ls ks s book tb lines indicator next w (r .to) → (bs : List Bytes) → boundNames s next ≡ bs
-      → ReadTo s (Written cells levels (resolve ls (contextAt ls indicator) bs) w w′ (r .to) (r′ .to) (nesting - 1 - d) (r .fault) (r′ .fault)) (r′ .code) (r′ .at)
+  deeper-read : (d : ℕ) → next .depth ≡ d + 1 → (st : State) → Ready st ks s book tb lines indicator next w (r .to) → (bs : List Bytes) → boundNames s next ≡ bs
+      → ReadTo s (Written cells levels (resolve st (contextAt (st .earlier) indicator) bs) w w′ (r .to) (r′ .to) (nesting - 1 - d) (r .fault) (r′ .fault)) (r′ .code) (r′ .at)
       (anExpression aut68 (nesting - 1 - d) inner (drop (r .at) s))
-  deeper-read d q ls ready bs names =
+  deeper-read d q st ready bs names =
       let level : nesting - next .depth ≡ nesting - 1 - d = omega arith in
-      subst (λ n. ReadTo s (Written cells levels (resolve ls (contextAt ls indicator) bs) w w′ (r .to) (r′ .to) n (r .fault) (r′ .fault)) (r′ .code) (r′ .at)
+      subst (λ n. ReadTo s (Written cells levels (resolve st (contextAt (st .earlier) indicator) bs) w w′ (r .to) (r′ .to) n (r .fault) (r′ .fault)) (r′ .code) (r′ .at)
       (anExpression aut68 n inner (drop (r .at) s))) level
-      (subst (λ bs. ReadTo s (Written cells levels (resolve ls (contextAt ls indicator) bs) w w′ (r .to) (r′ .to) (nesting - next .depth) (r .fault) (r′ .fault)) (r′ .code) (r′ .at)
+      (subst (λ bs. ReadTo s (Written cells levels (resolve st (contextAt (st .earlier) indicator) bs) w w′ (r .to) (r′ .to) (nesting - next .depth) (r .fault) (r′ .fault)) (r′ .code) (r′ .at)
       (anExpression aut68 (nesting - next .depth) inner (drop (r .at) s))) names
-      (h .read ls ready))
+      (h .read st ready))
 
   -- a level that binds nothing
-  pub level-read : {scope : Scope} → Nested scope next → scope .depth < nesting → (ls : Lines) → Ready ls ks s book tb lines indicator scope w (r .to)
-      → ReadTo s (Written cells levels (resolve ls (contextAt ls indicator) (boundNames s scope)) w w′ (r .to) (r′ .to) (nesting - 1 - scope .depth) (r .fault) (r′ .fault)) (r′ .code) (r′ .at)
+  pub level-read : {scope : Scope} → Nested scope next → scope .depth < nesting → (st : State) → Ready st ks s book tb lines indicator scope w (r .to)
+      → ReadTo s (Written cells levels (resolve st (contextAt (st .earlier) indicator) (boundNames s scope)) w w′ (r .to) (r′ .to) (nesting - 1 - scope .depth) (r .fault) (r′ .fault)) (r′ .code) (r′ .at)
       (anExpression aut68 (nesting - 1 - scope .depth) inner (drop (r .at) s))
-  level-read {scope} b l ls ready = deeper-read (scope .depth) (b .deeper l) ls (ready-inner (sized-nested b l (ready .sized)) ready) (boundNames s scope) (nested-names s b)
+  level-read {scope} b l st ready = deeper-read (scope .depth) (b .deeper l) st (ready-inner (sized-nested b l (ready .sized)) ready) (boundNames s scope) (nested-names s b)
 
   -- a level that binds a name of the line
-  pub body-read : {scope : Scope} {start len : ℕ} → Bound scope start len next → scope .depth < nesting → start + len ≤ length s → (ls : Lines) → Ready ls ks s book tb lines indicator scope w (r .to)
+  pub body-read : {scope : Scope} {start len : ℕ} → Bound scope start len next → scope .depth < nesting → start + len ≤ length s → (st : State) → Ready st ks s book tb lines indicator scope w (r .to)
       → ReadTo s
-      (Written cells levels (resolve ls (contextAt ls indicator) (slice start (start + len) s ∷ boundNames s scope)) w w′ (r .to) (r′ .to) (nesting - 1 - scope .depth) (r .fault) (r′ .fault))
+      (Written cells levels (resolve st (contextAt (st .earlier) indicator) (slice start (start + len) s ∷ boundNames s scope)) w w′ (r .to) (r′ .to) (nesting - 1 - scope .depth) (r .fault) (r′ .fault))
       (r′ .code) (r′ .at) (anExpression aut68 (nesting - 1 - scope .depth) inner (drop (r .at) s))
-  body-read {scope} {start} {len} b l e ls ready =
+  body-read {scope} {start} {len} b l e st ready =
       let f : Bindable scope start len = bindable ready l e in
-      deeper-read (scope .depth) (b .deeper l) ls (ready-inner (sized-bound b f (ready .sized)) ready) (slice start (start + len) s ∷ boundNames s scope)
+      deeper-read (scope .depth) (b .deeper l) st (ready-inner (sized-bound b f (ready .sized)) ready) (slice start (start + len) s ∷ boundNames s scope)
       (bound-names s b f (ready .sized .starts) (ready .sized .lens) ∙ ap (λ x. x ∷ boundNames s scope) (part-whole s start len e))
 
 -- what is written of a whole, one level above its parts
@@ -175,7 +175,7 @@ module _ {ks s book tb : List ℕ} {lines indicator : ℕ} {scope : Scope} {w : 
     expression-too-deep e f h =
         record {
           onward = onward-refused (below-same (r .to) w) h (omega arith) small (p .from) (p .within inside);
-          read = λ ls ready.
+          read = λ st ready.
               read-is (ap (λ d. anExpression aut68 d inner (drop (r .at) s)) (no-level (scope .depth) deep))
               (read-stop (too-deep (drop (r .at) s) (ap opensKind (sym (kind-ahead p q (ready .table))) ∙ sym e ∙ f)) (h .codeIs ∙ sym code-tooLarge));
         }
@@ -185,7 +185,7 @@ module _ {ks s book tb : List ℕ} {lines indicator : ℕ} {scope : Scope} {w : 
     expression-malformed e f h =
         record {
           onward = onward-refused (below-same (r .to) w) h (omega arith) small (p .from) (p .within inside);
-          read = λ ls ready.
+          read = λ st ready.
               read-is (ap (λ d. anExpression aut68 d inner (drop (r .at) s)) (no-level (scope .depth) deep))
               (read-stop (opens-nothing (drop (r .at) s) (ap opensKind (sym (kind-ahead p q (ready .table))) ∙ sym e ∙ f)) (h .codeIs ∙ sym code-malformed));
         }
@@ -197,7 +197,7 @@ module _ {ks s book tb : List ℕ} {lines indicator : ℕ} {scope : Scope} {w : 
     chosen m e h =
         record {
           onward = h .onward;
-          read = λ ls ready. read-is (ap (λ d. anExpression aut68 d inner (drop (r .at) s)) (some-level (scope .depth) l) ∙ e (ready .table)) (h .read ls ready);
+          read = λ st ready. read-is (ap (λ d. anExpression aut68 d inner (drop (r .at) s)) (some-level (scope .depth) l) ∙ e (ready .table)) (h .read st ready);
         }
 
     pub expression-application : k ≡ 2 → ExpressionRead (applicationIn scope) ks s scope book tb lines indicator w w′ r r′

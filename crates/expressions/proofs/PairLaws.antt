@@ -10,7 +10,7 @@ use Rattle.aut68.specs.Language.{aut68}
 use Rattle.aut68.specs.Rules.Grammar.{inner}
 use Rattle.aut68.specs.Bytes.{Bytes}
 use Rattle.aut68.specs.Source as Source
-use Rattle.aut68.specs.Lines.{Lines}
+use Rattle.aut68.specs.Paragraphs.{State}
 use Rattle.aut68.specs.Procedure.Parse.{application, abstraction, anExpression}
 use Rattle.aut68.specs.Procedure.Resolve.{contextAt}
 use Rattle.aut68.specs.Sizes.{nesting}
@@ -48,12 +48,12 @@ onward-put put l m k =
     }
 
 -- names are looked up behind the cell of a pair, and behind its first part
-module _ {ls : Lines} {ks s book tb : List ℕ} {lines indicator : ℕ} {scope : Scope} {w w₁ : List ℕ} {to x next : ℕ} (put : CellPut w w₁ to x next) (small : to ≤ length w + 1) where
-  ready-first : Ready ls ks s book tb lines indicator scope w to → Ready ls ks s book tb lines indicator scope w₁ next
+module _ {st : State} {ks s book tb : List ℕ} {lines indicator : ℕ} {scope : Scope} {w w₁ : List ℕ} {to x next : ℕ} (put : CellPut w w₁ to x next) (small : to ≤ length w + 1) where
+  ready-first : Ready st ks s book tb lines indicator scope w to → Ready st ks s book tb lines indicator scope w₁ next
   ready-first h = ready-on (below-put put) (put-next put small .0) h
 
   ready-second : {wA : List ℕ} {o fault : ℕ} {a : Reading} → Onward s w₁ wA (goOn o next fault) a
-      → Ready ls ks s book tb lines indicator scope w to → Ready ls ks s book tb lines indicator scope wA (a .to)
+      → Ready st ks s book tb lines indicator scope w to → Ready st ks s book tb lines indicator scope wA (a .to)
   ready-second A h = ready-on (A .below) (A .up) (ready-first h)
 
 module _ {ks s book tb : List ℕ} {lines indicator : ℕ} {scope : Scope} {w : List ℕ} {r : Reading} {o : ℕ}
@@ -65,7 +65,7 @@ module _ {ks s book tb : List ℕ} {lines indicator : ℕ} {scope : Scope} {w : 
     application-unopened m h =
         record {
           onward = onward-refused (below-same (r .to) w) h (omega arith) small (omega arith) inside;
-          read = λ ls ready. then-stop _ (symbol-missing 60 p (symbol-kinds .0) (omega arith) m (ready .table)) (h .codeIs ∙ sym code-malformed);
+          read = λ st ready. then-stop _ (symbol-missing 60 p (symbol-kinds .0) (omega arith) m (ready .table)) (h .codeIs ∙ sym code-malformed);
         }
 
     module _ (i : o ≤ length s) {w₁ wA : List ℕ} {next : Scope} {a : Reading} {first : ℕ} (put : CellPut w w₁ (r .to) 4 first) (b : Nested scope next)
@@ -75,8 +75,8 @@ module _ {ks s book tb : List ℕ} {lines indicator : ℕ} {scope : Scope} {w : 
       application-first-refused n =
           record {
             onward = onward-put put (omega (arith, p .from inside)) (put-next put small .0) (A .onward);
-            read = λ ls ready.
-                then-done _ (symbol-read 60 p (symbol-kinds .0) (omega arith) i (ready .table)) (then-refused _ n (level-read A b l ls (ready-first put small ready)));
+            read = λ st ready.
+                then-done _ (symbol-read 60 p (symbol-kinds .0) (omega arith) i (ready .table)) (then-refused _ n (level-read A b l st (ready-first put small ready)));
           }
 
       module _ (z : a .code ≡ 0) {close : ℕ} (q : PastSymbol ks s (a .at) 10 close) where
@@ -88,9 +88,9 @@ module _ {ks s book tb : List ℕ} {lines indicator : ℕ} {scope : Scope} {w : 
               onward =
                   onward-refused (below-then (below-put put) (put-next put small .0) (A .onward .below)) h (omega arith) small
                   (omega (arith, p .from inside, A .onward .from)) (A .onward .inside);
-              read = λ ls ready.
+              read = λ st ready.
                   then-done _ (symbol-read 60 p (symbol-kinds .0) (omega arith) i (ready .table))
-                  (then-passed _ z (level-read A b l ls (ready-first put small ready)) (λ x X.
+                  (then-passed _ z (level-read A b l st (ready-first put small ready)) (λ x X.
                   then-stop _ (symbol-missing 62 q (symbol-kinds .5) (omega arith) m (ready .table)) (h .codeIs ∙ sym code-malformed)));
             }
 
@@ -103,13 +103,13 @@ module _ {ks s book tb : List ℕ} {lines indicator : ℕ} {scope : Scope} {w : 
               onward =
                   onward-then (onward-put put (omega (arith, p .from inside)) (put-next put small .0) (A .onward)) (omega (arith, q .from (A .onward .inside)))
                   (omega (arith, A .onward .up, put-next put small .0)) (B .onward);
-              read = λ ls ready.
+              read = λ st ready.
                   then-done _ (symbol-read 60 p (symbol-kinds .0) (omega arith) i (ready .table))
-                  (then-passed _ z (level-read A b l ls (ready-first put small ready)) (λ x X.
+                  (then-passed _ z (level-read A b l st (ready-first put small ready)) (λ x X.
                   then-done _ (symbol-read 62 q (symbol-kinds .5) (omega arith) c (ready .table))
-                  (then-give (Source.app x) (level-read B b l ls (ready-second put small (A .onward) ready)) (λ y Y.
+                  (then-give (Source.app x) (level-read B b l st (ready-second put small (A .onward) ready)) (λ y Y.
                   whole-written (scope .depth) l
-                  (application-written ls (contextAt ls indicator) (boundNames s scope) put (A .onward .below) (A .onward .up) (B .onward .below) (B .onward .up) X Y)))));
+                  (application-written st (contextAt (st .earlier) indicator) (boundNames s scope) put (A .onward .below) (A .onward .up) (B .onward .below) (B .onward .up) X Y)))));
             }
 
   module _ (p : PastSymbol ks s (r .at) 3 o) where
@@ -119,7 +119,7 @@ module _ {ks s book tb : List ℕ} {lines indicator : ℕ} {scope : Scope} {w : 
     abstraction-unopened m h =
         record {
           onward = onward-refused (below-same (r .to) w) h (omega arith) small (omega arith) inside;
-          read = λ ls ready. then-stop _ (symbol-missing 91 p (symbol-kinds .1) (omega arith) m (ready .table)) (h .codeIs ∙ sym code-malformed);
+          read = λ st ready. then-stop _ (symbol-missing 91 p (symbol-kinds .1) (omega arith) m (ready .table)) (h .codeIs ∙ sym code-malformed);
         }
 
     module _ (i : o ≤ length s) {start len : ℕ} (n : NameAt ks s o start len) where
@@ -129,7 +129,7 @@ module _ {ks s book tb : List ℕ} {lines indicator : ℕ} {scope : Scope} {w : 
       abstraction-unnamed e h =
           record {
             onward = onward-refused (below-same (r .to) w) h (omega arith) small (omega (arith, p .from inside)) i;
-            read = λ ls ready.
+            read = λ st ready.
                 then-done _ (symbol-read 91 p (symbol-kinds .1) (omega arith) i (ready .table))
                 (then-stop _ (n .missing (ready .table) i e) (h .codeIs ∙ sym code-malformed));
           }
@@ -141,7 +141,7 @@ module _ {ks s book tb : List ℕ} {lines indicator : ℕ} {scope : Scope} {w : 
         abstraction-no-comma m h =
             record {
               onward = onward-refused (below-same (r .to) w) h (omega arith) small (omega (arith, p .from inside)) i;
-              read = λ ls ready.
+              read = λ st ready.
                   then-done _ (symbol-read 91 p (symbol-kinds .1) (omega arith) i (ready .table))
                   (then-done _ (n .read (ready .table) i e)
                   (then-stop _ (symbol-missing 44 k (symbol-kinds .2) (omega arith) m (ready .table)) (h .codeIs ∙ sym code-malformed)));
@@ -154,11 +154,11 @@ module _ {ks s book tb : List ℕ} {lines indicator : ℕ} {scope : Scope} {w : 
           abstraction-first-refused x =
               record {
                 onward = onward-put put (omega (arith, p .from inside, n .from, k .from (n .within i))) (put-next put small .0) (A .onward);
-                read = λ ls ready.
+                read = λ st ready.
                     then-done _ (symbol-read 91 p (symbol-kinds .1) (omega arith) i (ready .table))
                     (then-done _ (n .read (ready .table) i e)
                     (then-done _ (symbol-read 44 k (symbol-kinds .2) (omega arith) j (ready .table))
-                    (then-refused _ x (level-read A b l ls (ready-first put small ready)))));
+                    (then-refused _ x (level-read A b l st (ready-first put small ready)))));
               }
 
           module _ (z : a .code ≡ 0) {close : ℕ} (q : PastSymbol ks s (a .at) 11 close) where
@@ -170,11 +170,11 @@ module _ {ks s book tb : List ℕ} {lines indicator : ℕ} {scope : Scope} {w : 
                   onward =
                       onward-refused (below-then (below-put put) (put-next put small .0) (A .onward .below)) h (omega arith) small
                       (omega (arith, p .from inside, n .from, k .from (n .within i), A .onward .from)) (A .onward .inside);
-                  read = λ ls ready.
+                  read = λ st ready.
                       then-done _ (symbol-read 91 p (symbol-kinds .1) (omega arith) i (ready .table))
                       (then-done _ (n .read (ready .table) i e)
                       (then-done _ (symbol-read 44 k (symbol-kinds .2) (omega arith) j (ready .table))
-                      (then-passed _ z (level-read A b l ls (ready-first put small ready)) (λ x X.
+                      (then-passed _ z (level-read A b l st (ready-first put small ready)) (λ x X.
                       then-stop _ (symbol-missing 93 q (symbol-kinds .6) (omega arith) m (ready .table)) (h .codeIs ∙ sym code-malformed)))));
                 }
 
@@ -187,13 +187,13 @@ module _ {ks s book tb : List ℕ} {lines indicator : ℕ} {scope : Scope} {w : 
                   onward =
                       onward-then (onward-put put (omega (arith, p .from inside, n .from, k .from (n .within i))) (put-next put small .0) (A .onward))
                       (omega (arith, q .from (A .onward .inside))) (omega (arith, A .onward .up, put-next put small .0)) (B .onward);
-                  read = λ ls ready.
+                  read = λ st ready.
                       then-done _ (symbol-read 91 p (symbol-kinds .1) (omega arith) i (ready .table))
                       (then-done _ (n .read (ready .table) i e)
                       (then-done _ (symbol-read 44 k (symbol-kinds .2) (omega arith) j (ready .table))
-                      (then-passed _ z (level-read A b l ls (ready-first put small ready)) (λ x X.
+                      (then-passed _ z (level-read A b l st (ready-first put small ready)) (λ x X.
                       then-done _ (symbol-read 93 q (symbol-kinds .6) (omega arith) c (ready .table))
-                      (then-give (Source.abs (slice start (start + len) s) x) (body-read B b′ l (n .within i) ls (ready-second put small (A .onward) ready)) (λ y Y.
+                      (then-give (Source.abs (slice start (start + len) s) x) (body-read B b′ l (n .within i) st (ready-second put small (A .onward) ready)) (λ y Y.
                       whole-written (scope .depth) l
-                      (abstraction-written ls (contextAt ls indicator) (boundNames s scope) put (A .onward .below) (A .onward .up) (B .onward .below) (B .onward .up) X Y)))))));
+                      (abstraction-written st (contextAt (st .earlier) indicator) (boundNames s scope) put (A .onward .below) (A .onward .up) (B .onward .below) (B .onward .up) X Y)))))));
                 }

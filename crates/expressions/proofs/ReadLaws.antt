@@ -1,23 +1,22 @@
 -- Reading one thing after the other.
 use mathlib.Core.Path.{_≡_, refl, sym, ap, _∙_, subst}
 use mathlib.Core.Logic.{_≢_}
-use mathlib.Core.Bool.{Bool, true, false}
+use mathlib.Core.Bool.{true, false}
 use mathlib.Core.List.{[], _∷_}
 use Prim.Native.Nat.{ℕ, suc, _≤_, _<_}
 use native.Mathlib.Omega.{arith}
-use lib.Dec.{eqb}
 use lib.ListN.{length, drop}
-use borrow.Author.Tests.{eqb-true, eqb-false, eq-eqb, ne-eqb, le-leb, lt-leb}
+use borrow.Author.Tests.{eq-eqb, ne-eqb, le-leb, lt-leb}
 use Rattle.aut68.specs.Language.{aut68}
 use Rattle.aut68.specs.Rules.Grammar.{inner, below}
 use Rattle.aut68.specs.Bytes.{Bytes, opensExpression, nameByte}
 use Rattle.aut68.specs.Procedure.Answer.{Answer, done, stop, andThen, Refusal, codeOf, malformed, tooLarge, give}
-use Rattle.aut68.specs.Procedure.Parse.{Read, spaces, byte, symbol, starts, commaOrClose, arguments, argumentsIfAny, named, application, abstraction, wordAt, anExpression}
+use Rattle.aut68.specs.Procedure.Parse.{Read, spaces, symbol, starts, commaOrClose, arguments, argumentsIfAny, named, application, abstraction, wordAt, anExpression}
 use Rattle.aut68.specs.Source.{Src, nil}
 use Rattle.lookup.specs.Answers.{code-nonzero}
-use Rattle.lookup.specs.Answers.{stop≢done}
-use Rattle.kinds.specs.Kinds.{kindOf, placeOr0, opensKind, opens-of-kind, test-of-kind}
+use Rattle.kinds.specs.Kinds.{kindOf, placeOr0, opensKind, opens-of-kind}
 use Rattle.symbols.specs.Symbols.{firstKind}
+use Rattle.symbols.proofs.NextLaws.{starts-kind, symbol-starts, symbol-starts-not}
 use Rattle.expressions.specs.Walk.{ReadTo, passed, refused}
 
 module _ {A B : Type 0} {s : Bytes} {R : A → Type 0} {Q : B → Type 0} {code at : ℕ} (f : A → Read B) where
@@ -70,55 +69,10 @@ read-stop e h = read-is e (refused h)
 
 -- ---- the first byte
 
-eqb-turned : (a b : ℕ) → eqb a b ≡ eqb b a
-eqb-turned a b = split (eqb b a) refl
-  where
-    split : (t : Bool) → eqb b a ≡ t → eqb a b ≡ t
-    split true e = eq-eqb a b (sym (eqb-true b a e))
-    split false e = ne-eqb a b (λ q. eqb-false b a e (sym q))
-
--- a line starts with a symbol where its first kind is the symbol's
-pub starts-kind : (c : ℕ) (bs : Bytes) → 2 ≤ kindOf c → starts (eqb c) bs ≡ eqb (firstKind bs) (kindOf c)
-unfolding starts firstKind
-starts-kind c [] l = sym (ne-eqb 0 (kindOf c) (λ e. omega arith))
-starts-kind c (b ∷ bs) l = eqb-turned c b ∙ sym (test-of-kind b c l)
-
 pub starts-opens : (bs : Bytes) → starts opensExpression bs ≡ opensKind (firstKind bs)
 unfolding starts firstKind opensKind
 starts-opens [] = refl
 starts-opens (b ∷ bs) = opens-of-kind b
-
-byte-split : (c b : ℕ) (bs : Bytes) (t : Bool) → eqb b c ≡ t → byte c (b ∷ bs) ≡ elim t as (λ _. Answer Bytes (Unit {0})) [ true ↦ done tt bs | false ↦ stop malformed (b ∷ bs) ]
-unfolding byte
-byte-split c b bs true e = rw (e, byte)
-byte-split c b bs false e = rw (e, byte)
-
-byte-starts : (c : ℕ) (bs : Bytes) {rest : Bytes} → byte c bs ≡ done tt rest → starts (eqb c) bs ≡ true
-unfolding byte starts
-byte-starts c [] e = absurd (stop≢done e)
-byte-starts c (b ∷ bs) {rest} e = split (eqb b c) refl
-  where
-    split : (t : Bool) → eqb b c ≡ t → eqb c b ≡ true
-    split true q = eqb-turned c b ∙ q
-    split false q = absurd (stop≢done (sym (byte-split c b bs false q) ∙ e))
-
-byte-starts-not : (c : ℕ) (bs : Bytes) {r : Refusal} {rest : Bytes} → byte c bs ≡ stop r rest → starts (eqb c) bs ≡ false
-unfolding byte starts
-byte-starts-not c [] e = refl
-byte-starts-not c (b ∷ bs) e = split (eqb b c) refl
-  where
-    split : (t : Bool) → eqb b c ≡ t → eqb c b ≡ false
-    split true q = absurd (stop≢done (sym e ∙ byte-split c b bs true q))
-    split false q = eqb-turned c b ∙ q
-
--- the symbol stands next, and it does not
-pub symbol-starts : (c : ℕ) (bs : Bytes) {rest : Bytes} → symbol c bs ≡ done tt rest → starts (eqb c) (spaces bs) ≡ true
-unfolding symbol
-symbol-starts c bs e = byte-starts c (spaces bs) e
-
-pub symbol-starts-not : (c : ℕ) (bs : Bytes) {r : Refusal} {rest : Bytes} → symbol c bs ≡ stop r rest → starts (eqb c) (spaces bs) ≡ false
-unfolding symbol
-symbol-starts-not c bs e = byte-starts-not c (spaces bs) e
 
 pub opens-low : (k : ℕ) → k ≡ 0 → opensKind k ≡ false
 unfolding opensKind

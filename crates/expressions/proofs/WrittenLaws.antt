@@ -5,13 +5,12 @@ use mathlib.Core.List.{List, [], _∷_, _++_}
 use Prim.Native.Nat.{ℕ, suc, _+_, _*_, _-_, _≤_, max}
 use native.Mathlib.Omega.{arith}
 use lib.ListN.{length}
-use lib.Seq.{slice}
 use Rattle.aut68.specs.Bytes.{Bytes}
 use Rattle.aut68.specs.Source.{Src, Srcs, name, nil, cons, countSrcs}
 use Rattle.aut68.specs.Source as Source
 use Rattle.aut68.specs.Expr.{Expr, Exprs, cells, cellss, levels, levelss, inFront}
 use Rattle.aut68.specs.Expr as Expr
-use Rattle.aut68.specs.Lines.{Lines}
+use Rattle.aut68.specs.Paragraphs.{State}
 use Rattle.aut68.specs.Procedure.Answer.{Answer, andThen, _>>=_, give, codeOf}
 use Rattle.aut68.specs.Procedure.Resolve.{Naming, found, Meaning, aBound, aVariable, aConstant, leftOut, resolve, resolves, wanted, build, contextAt}
 use Rattle.aut68.specs.Sizes.{cellFactor, nesting}
@@ -20,7 +19,9 @@ use Rattle.lookup.specs.Completing.{left-out-sound, no-context}
 use Rattle.lookup.specs.Answers.{code-nonzero}
 use Rattle.cells.specs.declared.scope.Scope.{Scope}
 use Rattle.names.specs.Known.{Known}
-use Rattle.names.specs.Hints.{Hinted}
+use Rattle.symbols.specs.declared.UsedName.{UsedName}
+use Rattle.kinds.specs.Kinds.{KindsTable}
+use Rattle.notes.specs.Note.{StateNoted}
 use Rattle.meanings.specs.Bindings.{boundNames}
 use Rattle.meanings.specs.NotedContext.{ContextNoted}
 use Rattle.meanings.specs.Posts.{BindingFound}
@@ -28,7 +29,7 @@ use Rattle.meanings.specs.Meanings.{cellOf, Meant, means, meansNothing}
 use Rattle.meanings.specs.declared.meanings.Meaning.{Meaning as NameMeaning}
 use Rattle.completion.specs.Posts.{variableCells}
 use Rattle.expressions.specs.declared.parts.Reading.{Reading}
-use Rattle.expressions.specs.Posts.{NameSought, Inserted, Filled, putIn, wrong, Completed}
+use Rattle.expressions.specs.Posts.{usedOf, NameSought, Inserted, Filled, putIn, wrong, Completed}
 use Rattle.expressions.specs.Walk.{SameBelow, CellPut, Laid, Faulted, whole, faulty, Written}
 use Rattle.expressions.proofs.StoreLaws.{below-then}
 use Rattle.expressions.proofs.LaidLaws.{nothing-laid, laid-append, laid-cell, laid-in-front}
@@ -63,22 +64,22 @@ module _ {w w₁ wA wB : List ℕ} {to x next toA toB d : ℕ} (put : CellPut w 
         names = λ z. subst (λ m. Faulted cells levels wB to toB (suc d) faultB m) (sym meaningIs) (pair-found (rb b) (A .names z) (B .kept) (B .names));
       }
 
-module _ (ls : Lines) (context : List ℕ) (bs : List Bytes) {w w₁ wA wB : List ℕ} {to next toA toB d fault faultA faultB : ℕ} {a b : Src} where
+module _ (st : State) (context : List ℕ) (bs : List Bytes) {w w₁ wA wB : List ℕ} {to next toA toB d fault faultA faultB : ℕ} {a b : Src} where
   pub application-written : CellPut w w₁ to 4 next → SameBelow next w₁ wA → next ≤ toA → SameBelow toA wA wB → toA ≤ toB
-      → Written cells levels (resolve ls context bs) w₁ wA next toA d fault faultA a
-      → Written cells levels (resolve ls context bs) wA wB toA toB d faultA faultB b
-      → Written cells levels (resolve ls context bs) w wB to toB (suc d) fault faultB (Source.app a b)
+      → Written cells levels (resolve st context bs) w₁ wA next toA d fault faultA a
+      → Written cells levels (resolve st context bs) wA wB toA toB d faultA faultB b
+      → Written cells levels (resolve st context bs) w wB to toB (suc d) fault faultB (Source.app a b)
   unfolding cells levels resolve
   application-written put sA lA sB lB A B =
-      pair-written put sA lA sB lB Expr.app (λ x y. refl) (λ x y. refl) {rc = resolve ls context bs} {e = Source.app a b} refl A B
+      pair-written put sA lA sB lB Expr.app (λ x y. refl) (λ x y. refl) {rc = resolve st context bs} {e = Source.app a b} refl A B
 
   pub abstraction-written : {x : Bytes} → CellPut w w₁ to 5 next → SameBelow next w₁ wA → next ≤ toA → SameBelow toA wA wB → toA ≤ toB
-      → Written cells levels (resolve ls context bs) w₁ wA next toA d fault faultA a
-      → Written cells levels (resolve ls context (x ∷ bs)) wA wB toA toB d faultA faultB b
-      → Written cells levels (resolve ls context bs) w wB to toB (suc d) fault faultB (Source.abs x a b)
+      → Written cells levels (resolve st context bs) w₁ wA next toA d fault faultA a
+      → Written cells levels (resolve st context (x ∷ bs)) wA wB toA toB d faultA faultB b
+      → Written cells levels (resolve st context bs) w wB to toB (suc d) fault faultB (Source.abs x a b)
   unfolding cells levels resolve
   abstraction-written {x} put sA lA sB lB A B =
-      pair-written put sA lA sB lB Expr.abs (λ x y. refl) (λ x y. refl) {rc = resolve ls context bs} {e = Source.abs x a b} refl A B
+      pair-written put sA lA sB lB Expr.abs (λ x y. refl) (λ x y. refl) {rc = resolve st context bs} {e = Source.abs x a b} refl A B
 
 -- ---- argument strings
 
@@ -93,20 +94,20 @@ cons-found {w} {w₁} {to} {toA} {toB} {d} {faultB = faultB} fb s l m (whole {a}
     second (faulty e) = faulty e
     second (whole {a = b} e B) = whole e (laid-append s l m A B)
 
-module _ (ls : Lines) (context : List ℕ) (bs : List Bytes) where
-  pub no-arguments-written : (w : List ℕ) (to d fault : ℕ) → Written cellss levelss (resolves ls context bs) w w to to d fault fault nil
+module _ (st : State) (context : List ℕ) (bs : List Bytes) where
+  pub no-arguments-written : (w : List ℕ) (to d fault : ℕ) → Written cellss levelss (resolves st context bs) w w to to d fault fault nil
   unfolding cellss levelss resolves
   no-arguments-written w to d fault = record { kept = λ n. refl; names = λ z. whole z nothing-laid }
 
   pub argument-written : {w w₁ w₂ : List ℕ} {to toA toB d fault faultA faultB : ℕ} {a : Src} {xs : Srcs} → SameBelow toA w₁ w₂ → to ≤ toA → toA ≤ toB
-      → Written cells levels (resolve ls context bs) w w₁ to toA d fault faultA a
-      → Written cellss levelss (resolves ls context bs) w₁ w₂ toA toB d faultA faultB xs
-      → Written cellss levelss (resolves ls context bs) w w₂ to toB d fault faultB (cons a xs)
+      → Written cells levels (resolve st context bs) w w₁ to toA d fault faultA a
+      → Written cellss levelss (resolves st context bs) w₁ w₂ toA toB d faultA faultB xs
+      → Written cellss levelss (resolves st context bs) w w₂ to toB d fault faultB (cons a xs)
   unfolding resolves
   argument-written {xs = xs} s l m A B =
       record {
         kept = λ n. B .kept (λ z. n (sym (A .kept n) ∙ z)) ∙ A .kept n;
-        names = λ z. cons-found (resolves ls context bs xs) s l m (A .names z) (B .kept) (B .names);
+        names = λ z. cons-found (resolves st context bs xs) s l m (A .names z) (B .kept) (B .names);
       }
 
 -- ---- a name with its arguments
@@ -116,14 +117,14 @@ unfolding inFront cells variableCells
 cells-in-front [] es = refl
 cells-in-front (u ∷ us) es = ap (λ xs. (cellFactor * u + 1) ∷ xs) (cells-in-front us es)
 
-module _ (ls : Lines) (context : List ℕ) (bs : List Bytes) where
-  resolves-none : (xs : Srcs) → countSrcs xs ≡ 0 → resolves ls context bs xs tt ≡ found Expr.nil
+module _ (st : State) (context : List ℕ) (bs : List Bytes) where
+  resolves-none : (xs : Srcs) → countSrcs xs ≡ 0 → resolves st context bs xs tt ≡ found Expr.nil
   unfolding resolves countSrcs
   resolves-none nil e = refl
   resolves-none (cons a xs) e = absurd (omega arith)
 
   -- what a name without a context means has no arguments
-  lone : (xs : Srcs) {us : List ℕ} {es : Exprs} → leftOut (countSrcs xs) [] context tt ≡ found us → resolves ls context bs xs tt ≡ found es → inFront us es ≡ Expr.nil
+  lone : (xs : Srcs) {us : List ℕ} {es : Exprs} → leftOut (countSrcs xs) [] context tt ≡ found us → resolves st context bs xs tt ≡ found es → inFront us es ≡ Expr.nil
   unfolding inFront
   lone xs {us} {es} h f =
       let (z, n) = no-context (left-out-sound (countSrcs xs) [] context h) in
@@ -131,10 +132,10 @@ module _ (ls : Lines) (context : List ℕ) (bs : List Bytes) where
 
   -- a name's cells: its own, then those of its arguments, one level deeper
   record Built (m : Meaning) (us : List ℕ) (es : Exprs) : Type 0 where
-    cellsAre : cells (build ls context m (inFront us es)) ≡ cellOf m ∷ variableCells us ++ cellss es
-    levelsAre : levels (build ls context m (inFront us es)) ≡ suc (levelss (inFront us es))
+    cellsAre : cells (build st context m (inFront us es)) ≡ cellOf m ∷ variableCells us ++ cellss es
+    levelsAre : levels (build st context m (inFront us es)) ≡ suc (levelss (inFront us es))
 
-  built : (m : Meaning) (xs : Srcs) (us : List ℕ) (es : Exprs) → leftOut (countSrcs xs) (wanted ls context m) context tt ≡ found us → resolves ls context bs xs tt ≡ found es → Built m us es
+  built : (m : Meaning) (xs : Srcs) (us : List ℕ) (es : Exprs) → leftOut (countSrcs xs) (wanted st context m) context tt ≡ found us → resolves st context bs xs tt ≡ found es → Built m us es
   unfolding wanted build cells levels cellOf
   built (aBound i) xs us es h f =
       let e = lone xs h f in
@@ -147,34 +148,34 @@ module _ (ls : Lines) (context : List ℕ) (bs : List Bytes) where
 
   module _ {w w₁ wA w′ : List ℕ} {to cell first toA end d fault faultA fault′ : ℕ} (xs : Srcs)
       (put : CellPut w w₁ to cell first) (sA : SameBelow first w₁ wA) (lA : first ≤ toA) (s : SameBelow first wA w′) (l : toA ≤ end)
-      (kept : fault ≢ 0 → faultA ≡ fault) (names : fault ≡ 0 → Faulted cellss levelss wA first toA d faultA (resolves ls context bs xs tt))
+      (kept : fault ≢ 0 → faultA ≡ fault) (names : fault ≡ 0 → Faulted cellss levelss wA first toA d faultA (resolves st context bs xs tt))
       (stays : fault ≢ 0 → fault′ ≡ faultA) where
     name-laid : (m : Meaning) → cell ≡ cellOf m → (us : List ℕ) (es : Exprs) → Built m us es → Laid wA first toA d (cellss es) (levelss es)
-        → Inserted wA w′ first toA end d us → Laid w′ to end (suc d) (cells (build ls context m (inFront us es))) (levels (build ls context m (inFront us es)))
+        → Inserted wA w′ first toA end d us → Laid w′ to end (suc d) (cells (build st context m (inFront us es))) (levels (build st context m (inFront us es)))
     name-laid m c us es b A h =
-        subst (λ n. Laid w′ to end (suc d) (cells (build ls context m (inFront us es))) n) (sym (b .levelsAre))
+        subst (λ n. Laid w′ to end (suc d) (cells (build st context m (inFront us es))) n) (sym (b .levelsAre))
         (subst (λ ys. Laid w′ to end (suc d) ys (suc (levelss (inFront us es)))) (ap (λ x. x ∷ variableCells us ++ cellss es) c ∙ sym (b .cellsAre))
         (laid-cell put (below-then sA (omega arith) s) (omega arith) (laid-in-front us es lA l (s .long) A h)))
 
     arguments-found : (m : Meaning) → cell ≡ cellOf m → (us : List ℕ) → fault′ ≡ faultA → Inserted wA w′ first toA end d us → {fes : Answer (Unit {0}) Exprs}
         → ((es : Exprs) → fes ≡ found es → Built m us es) → Faulted cellss levelss wA first toA d faultA fes
-        → Faulted cells levels w′ to end (suc d) fault′ (andThen (λ es. give (build ls context m (inFront us es))) fes)
+        → Faulted cells levels w′ to end (suc d) fault′ (andThen (λ es. give (build st context m (inFront us es))) fes)
     unfolding andThen
     arguments-found m c us f h b (faulty e) = faulty (f ∙ e)
     arguments-found m c us f h b (whole {a} e A) = whole (f ∙ e) (name-laid m c us a (b a refl) A h)
 
     filled-found : (m : Meaning) → fault ≡ 0 → cell ≡ cellOf m → {fus : Answer (Unit {0}) (List ℕ)}
-        → ((us : List ℕ) → fus ≡ found us → (es : Exprs) → resolves ls context bs xs tt ≡ found es → Built m us es)
+        → ((us : List ℕ) → fus ≡ found us → (es : Exprs) → resolves st context bs xs tt ≡ found es → Built m us es)
         → Filled wA w′ first toA end d faultA fault′ fus
-        → Faulted cells levels w′ to end (suc d) fault′ (andThen (λ us. resolves ls context bs xs >>= λ es. give (build ls context m (inFront us es))) fus)
+        → Faulted cells levels w′ to end (suc d) fault′ (andThen (λ us. resolves st context bs xs >>= λ es. give (build st context m (inFront us es))) fus)
     unfolding andThen codeOf
     filled-found m z c b (putIn {us} f h) = arguments-found m c us f h (b us refl) (names z)
     filled-found m z c b (wrong e) = faulty e
 
-    pub name-found : {count : ℕ} {fm : Answer (Unit {0}) Meaning} → Meant ls context fault cell count fm
-        → ((m : Meaning) → fault ≡ 0 → cell ≡ cellOf m → count ≡ length (wanted ls context m) → Filled wA w′ first toA end d faultA fault′ (leftOut (countSrcs xs) (wanted ls context m) context tt))
+    pub name-found : {count : ℕ} {fm : Answer (Unit {0}) Meaning} → Meant st context fault cell count fm
+        → ((m : Meaning) → fault ≡ 0 → cell ≡ cellOf m → count ≡ length (wanted st context m) → Filled wA w′ first toA end d faultA fault′ (leftOut (countSrcs xs) (wanted st context m) context tt))
         → Faulted cells levels w′ to end (suc d) fault′
-        (andThen (λ m. leftOut (countSrcs xs) (wanted ls context m) context >>= λ us. resolves ls context bs xs >>= λ es. give (build ls context m (inFront us es))) fm)
+        (andThen (λ m. leftOut (countSrcs xs) (wanted st context m) context >>= λ us. resolves st context bs xs >>= λ es. give (build st context m (inFront us es))) fm)
     unfolding andThen
     name-found (meansNothing {r} e) h =
         let n : fault ≢ 0 = λ z. code-nonzero r (sym e ∙ z) in
@@ -182,23 +183,25 @@ module _ (ls : Lines) (context : List ℕ) (bs : List Bytes) where
     name-found (means {m} z c q) h = filled-found m z c (λ us e es f. built m xs us es e f) (h m z c q)
 
 -- the name, its arguments xs and what was left out of them
-pub name-written : (ls : Lines) {s : Bytes} {b : ℕ} {scope : Scope} {book tb : List ℕ} {lines indicator : ℕ} {w w₁ wA w′ : List ℕ} {to first fault start len : ℕ} {m : NameMeaning}
-    → NameSought s b book tb lines indicator w fault start len m → CellPut w w₁ to (m .cell) first → Known ls book tb lines → Hinted book tb lines w
-    → ContextNoted ls indicator w → ContextNoted ls indicator wA → indicator ≤ lines → BindingFound s scope (slice start (start + len) s) b → scope .bound ≤ nesting
-    → 1 ≤ len → start + len ≤ length s → SameBelow first w₁ wA → {a r : Reading} (xs : Srcs) → Completed tb indicator wA w′ first (scope .depth) a m r → a .code ≡ 0
-    → first ≤ a .to → a .to ≤ length wA + 1 → a .count ≡ countSrcs xs
-    → Written cellss levelss (resolves ls (contextAt ls indicator) (boundNames s scope)) w₁ wA first (a .to) (nesting - 1 - scope .depth) (m .fault) (a .fault) xs
-    → Written cells levels (resolve ls (contextAt ls indicator) (boundNames s scope)) w w′ to (r .to) (suc (nesting - 1 - scope .depth)) fault (r .fault) (name (slice start (start + len) s) xs)
+pub name-written : (st : State) {ks s : Bytes} {b : ℕ} {scope : Scope} {book tb : List ℕ} {lines indicator : ℕ} {w w₁ wA w′ : List ℕ} {to first fault : ℕ} {u : UsedName} {m : NameMeaning}
+    → NameSought ks s b book tb lines indicator w fault u m → CellPut w w₁ to (m .cell) first → KindsTable ks → Known (st .earlier) book tb lines → StateNoted st book tb lines w
+    → ContextNoted (st .earlier) indicator w → ContextNoted (st .earlier) indicator wA → indicator ≤ lines → BindingFound s scope (usedOf s u) b
+    → scope .bound ≤ nesting → 1 ≤ u .len → u .start + u .len ≤ length s → u .title + u .size ≤ length s → SameBelow first w₁ wA → {a r : Reading} (xs : Srcs)
+    → Completed tb indicator wA w′ first (scope .depth) a m r → a .code ≡ 0 → first ≤ a .to → a .to ≤ length wA + 1 → a .count ≡ countSrcs xs
+    → Written cellss levelss (resolves st (contextAt (st .earlier) indicator) (boundNames s scope)) w₁ wA first (a .to) (nesting - 1 - scope .depth) (m .fault) (a .fault) xs
+    → Written cells levels (resolve st (contextAt (st .earlier) indicator) (boundNames s scope)) w w′ to (r .to) (suc (nesting - 1 - scope .depth)) fault (r .fault)
+    (name (usedOf s u) xs)
 unfolding resolve
-name-written ls {s} {scope = scope} {book} {lines = lines} {indicator} {wA = wA} {w′} {first = first} sought put k hinted context noted i h d l e sA {a} {r} xs C z up small number A =
+name-written st {s = s} {scope = scope} {book} {lines = lines} {indicator} {wA = wA} {w′} {first = first} sought put t k g context noted i h d l e f sA {a} {r} xs C z up small number A =
     record {
       kept = λ n.
           let f = sought .kept n in
           C .kept (λ q. n (sym f ∙ q)) ∙ A .kept (λ q. n (sym f ∙ q)) ∙ f;
-      names = λ f.
-          name-found ls (contextAt ls indicator) (boundNames s scope) xs put sA up (C .below) (C .up small) (A .kept) (A .names) (C .kept)
-          (sought .meant f l e ls k hinted context i scope h d)
+      names = λ q.
+          name-found st (contextAt (st .earlier) indicator) (boundNames s scope) xs put sA up (C .below) (C .up small) (A .kept) (A .names) (C .kept)
+          (sought .meant q l e f st t k g context i scope h d)
           (λ x q c n.
-          subst (λ j. Filled wA w′ first (a .to) (r .to) (nesting - 1 - scope .depth) (a .fault) (r .fault) (leftOut j (wanted ls (contextAt ls indicator) x) (contextAt ls indicator) tt)) number
-          (C .filled z q up small ls book lines k noted i x c n));
+          subst (λ j. Filled wA w′ first (a .to) (r .to) (nesting - 1 - scope .depth) (a .fault) (r .fault)
+          (leftOut j (wanted st (contextAt (st .earlier) indicator) x) (contextAt (st .earlier) indicator) tt)) number
+          (C .filled z q up small st book lines k noted i x c n));
     }

@@ -8,9 +8,9 @@ use lib.Seq.{slice}
 use Rattle.aut68.specs.Language.{aut68}
 use Rattle.aut68.specs.Rules.Grammar.{inner}
 use Rattle.aut68.specs.Bytes.{Bytes}
-use Rattle.aut68.specs.Source.{Src, Srcs, countSrcs}
+use Rattle.aut68.specs.Source.{Used, Src, Srcs, countSrcs}
 use Rattle.aut68.specs.Expr.{cells, cellss, levels, levelss}
-use Rattle.aut68.specs.Lines.{Lines}
+use Rattle.aut68.specs.Paragraphs.{State}
 use Rattle.aut68.specs.Procedure.Parse.{Read, anExpression, named, application, abstraction, arguments}
 use Rattle.aut68.specs.Procedure.Answer.{Answer, wrongArity}
 use Rattle.aut68.specs.Procedure.Resolve.{found, refused, Meaning, wanted, leftOut, resolve, resolves, meaning, contextAt}
@@ -19,7 +19,9 @@ use Rattle.cells.specs.Layout.{lineUnit, readerUnits}
 use Rattle.kinds.specs.Kinds.{KindsTable}
 use Rattle.cells.specs.declared.scope.Scope.{Scope}
 use Rattle.names.specs.Known.{Known}
-use Rattle.names.specs.Hints.{slots, Hinted}
+use Rattle.symbols.specs.Symbols.{usedIn}
+use Rattle.symbols.specs.declared.UsedName.{UsedName}
+use Rattle.notes.specs.Note.{noteEnd, StateNoted}
 use Rattle.meanings.specs.Bindings.{boundNames}
 use Rattle.meanings.specs.NotedContext.{ContextNoted}
 use Rattle.meanings.specs.Posts.{BindingFound}
@@ -27,7 +29,7 @@ use Rattle.meanings.specs.Meanings.{cellOf, Meant}
 use Rattle.meanings.specs.declared.meanings.Meaning.{Meaning as NameMeaning}
 use Rattle.completion.specs.Posts.{variableCells}
 use Rattle.expressions.specs.declared.parts.Reading.{Reading}
-use Rattle.expressions.specs.Walk.{ReadTo, SameBelow, CellPut, Written}
+use Rattle.expressions.specs.Walk.{ReadTo, SameBelow, Written}
 
 -- the readers of an expression in a scope, of a part of one, and of the three forms
 module _ (scope : Scope) where
@@ -57,14 +59,14 @@ pub record Sized (scope : Scope) : Type 0 where
   pub deep : scope .depth ≤ nesting
   pub few : scope .bound ≤ scope .depth
 
--- what the names of the line s are looked up in: the table of kinds, the earlier lines, their hints and the line's context, which are
--- noted below the cell `to`, the line's indicator, the bindings around
-pub record Ready (ls : Lines) (ks s book tb : List ℕ) (lines indicator : ℕ) (scope : Scope) (w : List ℕ) (to : ℕ) : Type 0 where
+-- what the names of the line s are looked up in: the table of kinds, the state, which is noted with the line's context below the cell
+-- `to`, the line's indicator, the bindings around
+pub record Ready (st : State) (ks s book tb : List ℕ) (lines indicator : ℕ) (scope : Scope) (w : List ℕ) (to : ℕ) : Type 0 where
   pub table : KindsTable ks
-  pub known : Known ls book tb lines
-  pub hinted : Hinted book tb lines w
-  pub below : slots (length w) < to
-  pub context : ContextNoted ls indicator w
+  pub known : Known (st .earlier) book tb lines
+  pub noted : StateNoted st book tb lines w
+  pub below : noteEnd (length w) ≤ to
+  pub context : ContextNoted (st .earlier) indicator w
   pub above : lineUnit * (length w / readerUnits) ≤ to
   pub earlier : indicator ≤ lines
   pub short : length s < 4294967296
@@ -85,40 +87,44 @@ pub record Onward (s : Bytes) (w w′ : List ℕ) (r r′ : Reading) : Type 0 wh
   pub inside : r′ .at ≤ length s
   pub small : r′ .to ≤ length w + 1
 
-module _ (ls : Lines) (s : Bytes) (indicator : ℕ) (scope : Scope) (w w′ : List ℕ) (to end fault fault′ : ℕ) where
+module _ (st : State) (s : Bytes) (indicator : ℕ) (scope : Scope) (w w′ : List ℕ) (to end fault fault′ : ℕ) where
   -- the cells of an expression, and of an argument string
   abbrev pub WrittenOne : Src → Type 0
-  WrittenOne = Written cells levels (resolve ls (contextAt ls indicator) (boundNames s scope)) w w′ to end (nesting - scope .depth) fault fault′
+  WrittenOne = Written cells levels (resolve st (contextAt (st .earlier) indicator) (boundNames s scope)) w w′ to end (nesting - scope .depth) fault fault′
 
   abbrev pub WrittenAll : Srcs → Type 0
-  WrittenAll = Written cellss levelss (resolves ls (contextAt ls indicator) (boundNames s scope)) w w′ to end (nesting - scope .depth) fault fault′
+  WrittenAll = Written cellss levelss (resolves st (contextAt (st .earlier) indicator) (boundNames s scope)) w w′ to end (nesting - scope .depth) fault fault′
 
 -- the reader m read an expression from r on, and came to r′
 pub record ExpressionRead (m : Read Src) (ks s : Bytes) (scope : Scope) (book tb : List ℕ) (lines indicator : ℕ) (w w′ : List ℕ) (r r′ : Reading) : Type 0 where
   pub onward : Onward s w w′ r r′
-  pub read : (ls : Lines) → Ready ls ks s book tb lines indicator scope w (r .to)
-      → ReadTo s (WrittenOne ls s indicator scope w w′ (r .to) (r′ .to) (r .fault) (r′ .fault)) (r′ .code) (r′ .at) (m (drop (r .at) s))
+  pub read : (st : State) → Ready st ks s book tb lines indicator scope w (r .to)
+      → ReadTo s (WrittenOne st s indicator scope w w′ (r .to) (r′ .to) (r .fault) (r′ .fault)) (r′ .code) (r′ .at) (m (drop (r .at) s))
 
 -- the arguments xs, counted from `count` on, with their cells
-pub record Counted (ls : Lines) (s : Bytes) (indicator : ℕ) (scope : Scope) (w w′ : List ℕ) (to fault count : ℕ) (r′ : Reading) (xs : Srcs) : Type 0 where
+pub record Counted (st : State) (s : Bytes) (indicator : ℕ) (scope : Scope) (w w′ : List ℕ) (to fault count : ℕ) (r′ : Reading) (xs : Srcs) : Type 0 where
   pub number : r′ .count ≡ count + countSrcs xs
-  pub written : WrittenAll ls s indicator scope w w′ to (r′ .to) fault (r′ .fault) xs
+  pub written : WrittenAll st s indicator scope w w′ to (r′ .to) fault (r′ .fault) xs
 
 -- the argument string behind `(` was read from r on, up to its `)`; n bounds how many arguments there can be
 pub record ArgumentsRead (ks s : Bytes) (scope : Scope) (book tb : List ℕ) (lines indicator : ℕ) (w w′ : List ℕ) (r r′ : Reading) : Type 0 where
   pub onward : Onward s w w′ r r′
-  pub read : (ls : Lines) → Ready ls ks s book tb lines indicator scope w (r .to) → (n : ℕ) → length s - r .at < n
-      → ReadTo s (Counted ls s indicator scope w w′ (r .to) (r .fault) 0 r′) (r′ .code) (r′ .at)
+  pub read : (st : State) → Ready st ks s book tb lines indicator scope w (r .to) → (n : ℕ) → length s - r .at < n
+      → ReadTo s (Counted st s indicator scope w w′ (r .to) (r .fault) 0 r′) (r′ .code) (r′ .at)
       (arguments (expressionIn scope) n (drop (r .at) s))
 
+-- the used name at the place u of s
+abbrev pub usedOf : Bytes → UsedName → Used
+usedOf s u = usedIn s (u .title) (u .size) (u .start) (u .len)
+
 -- what a name means, wherever b is its binding; the fault from before, if there was one
-pub record NameSought (s : Bytes) (b : ℕ) (book tb : List ℕ) (lines indicator : ℕ) (w : List ℕ) (fault start len : ℕ) (m : NameMeaning) : Type 0 where
+pub record NameSought (ks s : Bytes) (b : ℕ) (book tb : List ℕ) (lines indicator : ℕ) (w : List ℕ) (fault : ℕ) (u : UsedName) (m : NameMeaning) : Type 0 where
   pub kept : fault ≢ 0 → m .fault ≡ fault
-  pub meant : fault ≡ 0 → 1 ≤ len → start + len ≤ length s
-      → (ls : Lines) → Known ls book tb lines → Hinted book tb lines w → ContextNoted ls indicator w → indicator ≤ lines
-      → (scope : Scope) → BindingFound s scope (slice start (start + len) s) b → scope .bound ≤ nesting
-      → Meant ls (contextAt ls indicator) (m .fault) (m .cell) (m .wanted)
-      (meaning ls (contextAt ls indicator) (slice start (start + len) s) (boundNames s scope) tt)
+  pub meant : fault ≡ 0 → 1 ≤ u .len → u .start + u .len ≤ length s → u .title + u .size ≤ length s
+      → (st : State) → KindsTable ks → Known (st .earlier) book tb lines → StateNoted st book tb lines w → ContextNoted (st .earlier) indicator w → indicator ≤ lines
+      → (scope : Scope) → BindingFound s scope (usedOf s u) b → scope .bound ≤ nesting
+      → Meant st (contextAt (st .earlier) indicator) (m .fault) (m .cell) (m .wanted)
+      (meaning st (contextAt (st .earlier) indicator) (usedOf s u) (boundNames s scope) tt)
 
 -- The variables us stand in front of the cells from `first` up to `end` of w, all of them in w′ up to end′; d nesting levels are left
 -- for them. Where they have no room, or there is no level, end′ is past the store's end.
@@ -140,6 +146,6 @@ pub record Completed (tb : List ℕ) (indicator : ℕ) (w w′ : List ℕ) (firs
   pub at : r .at ≡ a .at
   pub kept : m .fault ≢ 0 → r .fault ≡ a .fault
   pub filled : a .code ≡ 0 → m .fault ≡ 0 → first ≤ a .to → a .to ≤ length w + 1
-      → (ls : Lines) (book : Bytes) (lines : ℕ) → Known ls book tb lines → ContextNoted ls indicator w → indicator ≤ lines
-      → (x : Meaning) → m .cell ≡ cellOf x → m .wanted ≡ length (wanted ls (contextAt ls indicator) x)
-      → Filled w w′ first (a .to) (r .to) (nesting - 1 - depth) (a .fault) (r .fault) (leftOut (a .count) (wanted ls (contextAt ls indicator) x) (contextAt ls indicator) tt)
+      → (st : State) (book : Bytes) (lines : ℕ) → Known (st .earlier) book tb lines → ContextNoted (st .earlier) indicator w → indicator ≤ lines
+      → (x : Meaning) → m .cell ≡ cellOf x → m .wanted ≡ length (wanted st (contextAt (st .earlier) indicator) x)
+      → Filled w w′ first (a .to) (r .to) (nesting - 1 - depth) (a .fault) (r .fault) (leftOut (a .count) (wanted st (contextAt (st .earlier) indicator) x) (contextAt (st .earlier) indicator) tt)

@@ -7,6 +7,7 @@ use constants::Cell;
 use constants::NESTING;
 use meanings::Meaning;
 use meanings::meaning_of;
+use symbols::UsedName;
 ghost use mathlib.Core.Path.{_≡_};
 ghost use Prim.Native.Nat.{_+_, _≤_, _<_};
 ghost use lib.ListN.{length};
@@ -62,10 +63,11 @@ pub fn put(w: &mut [Cell], to: usize, x: Cell) -> usize
     w.len() + 1
 }
 
-// The meaning of the name of `len` bytes at `start` whose binding is b, by the hints and the context noted in w. It is not looked up
-// where a fault came before, since it is not asked for then.
+// The meaning of the used name u whose binding is b, by what w notes of lines, paragraphs and the context. It is not looked up where a
+// fault came before, since it is not asked for then.
 pub fn name_meaning(
     line: &[u8],
+    kinds: &[u8; 256],
     book: &[u8],
     table: &[u32],
     lines: usize,
@@ -73,11 +75,10 @@ pub fn name_meaning(
     w: &[Cell],
     fault: u32,
     b: usize,
-    start: usize,
-    len: usize,
+    u: UsedName,
 ) -> Meaning
-    requires { ⌜ start + len ≤ length (now line) ⌝ }
-    ensures { λ m. ⌜ NameSought (now (line .entry)) b (now (book .entry)) (now (table .entry)) lines indicator (now (w .entry)) fault start len m ⌝ }
+    requires { ⌜ (u .start + u .len ≤ length (now line)) × (u .title + u .size ≤ length (now line)) ⌝ }
+    ensures { λ m. ⌜ NameSought (now (kinds .entry)) (now (line .entry)) b (now (book .entry)) (now (table .entry)) lines indicator (now (w .entry)) fault u m ⌝ }
 {
     if fault != 0 {
         return Meaning {
@@ -86,8 +87,21 @@ pub fn name_meaning(
             wanted: 0,
         };
     }
-    let end = start + len;
-    meaning_of(b, book, table, lines, indicator, w, &line[start..end])
+    let title = u.title;
+    let point = title + u.size;
+    let start = u.start;
+    let end = start + u.len;
+    meaning_of(
+        b,
+        book,
+        kinds,
+        table,
+        lines,
+        indicator,
+        w,
+        &line[title..point],
+        &line[start..end],
+    )
 }
 
 // The arguments a with this fault and this next cell.

@@ -15,6 +15,7 @@ use symbols::kind_at;
 use symbols::name_at;
 use symbols::spaces;
 use symbols::symbol;
+use symbols::used_at;
 ghost use Prim.Native.Nat.{_+_, _-_, _≤_, _<_};
 ghost use lib.ListN.{length};
 ghost use Rattle.aut68.specs.Sizes.{nesting};
@@ -109,19 +110,21 @@ fn named(
     ensures { λ r′. ⌜ ExpressionRead (namedIn scope) (now (kinds .entry)) (now (line .entry)) scope
         (now (book .entry)) (now (table .entry)) lines indicator (now (w .entry)) (now (w .exit)) (goOn from to fault) r′ ⌝ }
 {
-    let n = name_at(line, kinds, from);
+    let n = used_at(line, kinds, from);
     let start = n.start;
     let len = n.len;
     if len == 0 {
         return refused(constants::MALFORMED, from, to);
     }
     let next = start + len;
-    // Only where a name is bound: each call copies the scope.
+    // Only where a name is bound: each call copies the scope. A name behind a point never is.
     let mut b = NESTING;
     if scope.bound > 0 {
-        b = binding(line, scope, &line[start..next]);
+        if n.size == 0 {
+            b = binding(line, scope, &line[start..next]);
+        }
     }
-    let m = name_meaning(line, book, table, lines, indicator, w, fault, b, start, len);
+    let m = name_meaning(line, kinds, book, table, lines, indicator, w, fault, b, n);
     let found = m.fault;
     let cell = put(w, to, m.cell);
     let open = symbol(line, kinds, next, kinds::OPEN);

@@ -11,25 +11,28 @@ use lib.Seq.{slice}
 use borrow.Author.Tests.{eq-eqb, ne-eqb}
 use Rattle.aut68.specs.Language.{aut68}
 use Rattle.aut68.specs.Bytes.{Bytes, nameByte}
-use Rattle.aut68.specs.Procedure.Answer.{Answer, done, stop, andThen, malformed}
-use Rattle.aut68.specs.Procedure.Parse.{Read, spaces, starts, byte, aName, anIndicator, aLine, bytesLeft}
+use Rattle.aut68.specs.Source.{Used}
+use Rattle.aut68.specs.Procedure.Answer.{done, stop, andThen, malformed}
+use Rattle.aut68.specs.Procedure.Parse.{spaces, starts, byte, aUsed, anIndicator, aLine, bytesLeft}
 use Rattle.kinds.specs.Kinds.{KindsTable, kindOf, placeOr0, kind-of-name, name-of-kind, one-of-kind}
-use Rattle.symbols.specs.Symbols.{firstKind, PastSpaces, KindAt, PastSymbol, NameAt}
+use Rattle.symbols.specs.Symbols.{firstKind, PastSpaces, KindAt, PastSymbol, NameAt, usedIn, UsedAt}
 use Rattle.symbols.proofs.SymbolLaws.{step, byte-here, byte-missing, byte-end}
+use Rattle.symbols.proofs.NextLaws.{after-stop, after-done}
 use Rattle.headings.specs.declared.before_middle.Prefix.{Prefix}
 use Rattle.headings.specs.declared.before_middle.Head.{Head}
-use Rattle.headings.specs.ReadLine.{afterHeading, nameOr}
+use Rattle.headings.specs.ReadLine.{afterHeading, usedOr}
 use Rattle.headings.specs.Posts.{PrefixRead, HeadRead}
 
--- ---- names that may be missing
+-- ---- a name that may be missing
 
-pub name-none : (s : Bytes) (start len : ℕ) → len ≡ 0 → nameOr s start len ≡ none
-unfolding nameOr
-name-none s start len e = rw (eq-eqb len 0 e, nameOr)
+module _ (s : Bytes) (title size start len : ℕ) where
+  pub used-none : len ≡ 0 → usedOr s title size start len ≡ none
+  unfolding usedOr
+  used-none e = rw (eq-eqb len 0 e, usedOr)
 
-pub name-some : (s : Bytes) (start len : ℕ) → len ≢ 0 → nameOr s start len ≡ some (slice start (start + len) s)
-unfolding nameOr
-name-some s start len n = rw (ne-eqb len 0 n, nameOr)
+  pub used-some : len ≢ 0 → usedOr s title size start len ≡ some (usedIn s title size start len)
+  unfolding usedOr
+  used-some n = rw (ne-eqb len 0 n, usedOr)
 
 -- ---- the indicator
 
@@ -51,11 +54,11 @@ no-indicator : (bs : Bytes) → firstKind (spaces bs) ≢ 1 → anIndicator aut6
 unfolding anIndicator
 no-indicator bs n = rw (starts-no-name (spaces bs) n, anIndicator)
 
-indicator-read : (bs : Bytes) {w rest : Bytes} → firstKind (spaces bs) ≡ 1 → aName aut68 bs ≡ done w rest → anIndicator aut68 bs ≡ done (some w) rest
+indicator-read : (bs : Bytes) {u : Used} {rest : Bytes} → firstKind (spaces bs) ≡ 1 → aUsed aut68 bs ≡ done u rest → anIndicator aut68 bs ≡ done (some u) rest
 unfolding anIndicator andThen
 indicator-read bs e f = rw (starts-name (spaces bs) e, anIndicator, f) refl
 
-indicator-missing : (bs : Bytes) {rest : Bytes} → firstKind (spaces bs) ≡ 1 → aName aut68 bs ≡ stop malformed rest → anIndicator aut68 bs ≡ stop malformed rest
+indicator-missing : (bs : Bytes) {rest : Bytes} → firstKind (spaces bs) ≡ 1 → aUsed aut68 bs ≡ stop malformed rest → anIndicator aut68 bs ≡ stop malformed rest
 unfolding anIndicator andThen
 indicator-missing bs e f = rw (starts-name (spaces bs) e, anIndicator, f) refl
 
@@ -63,44 +66,40 @@ module _ {ks s : Bytes} {start k : ℕ} (p : PastSpaces s 0 start) (q : KindAt k
   first-kind : KindsTable ks → k ≡ firstKind (spaces s)
   first-kind t = q .kind t ∙ ap firstKind (p .rest)
 
-  pub prefix-empty : k ≢ 1 → PrefixRead ks s (record { code = 0; at = 0; start = 0; len = 0 })
+  pub prefix-empty : k ≢ 1 → PrefixRead ks s (record { code = 0; at = 0; title = 0; span = 0; start = 0; len = 0 })
   prefix-empty n =
       record {
         inside = omega arith;
+        titled = omega arith;
         named = omega arith;
-        read = λ t z. no-indicator s (λ e. n (first-kind t ∙ e)) ∙ ap (λ o. done o s) (sym (name-none s 0 0 refl));
+        read = λ t z. no-indicator s (λ e. n (first-kind t ∙ e)) ∙ ap (λ o. done o s) (sym (used-none s 0 0 0 0 refl));
         missing = λ t z. absurd (z refl);
       }
 
-  module _ (e : k ≡ 1) {first len : ℕ} (n : NameAt ks s 0 first len) where
-    pub prefix-malformed : len ≡ 0 → PrefixRead ks s (record { code = 3; at = 0; start = 0; len = 0 })
+  module _ (e : k ≡ 1) {title size first len : ℕ} (n : UsedAt ks s 0 title size first len) where
+    pub prefix-malformed : len ≡ 0 → PrefixRead ks s (record { code = 3; at = 0; title = 0; span = 0; start = 0; len = 0 })
     prefix-malformed z =
         record {
           inside = omega arith;
+          titled = omega arith;
           named = omega arith;
           read = λ t z. absurd (omega arith);
-          missing = λ t x. indicator-missing s (sym (first-kind t) ∙ e) (n .missing t (omega arith) z);
+          missing = λ t x. let (rest, m) = n .missing t (omega arith) z in (rest, indicator-missing s (sym (first-kind t) ∙ e) m);
         }
 
-    pub prefix-named : len ≢ 0 → PrefixRead ks s (record { code = 0; at = first + len; start = first; len = len })
+    pub prefix-named : len ≢ 0 → PrefixRead ks s (record { code = 0; at = first + len; title = title; span = size; start = first; len = len })
     prefix-named z =
         record {
           inside = n .within (omega arith);
+          titled = n .titled (omega arith);
           named = n .within (omega arith);
           read = λ t x.
-              indicator-read s (sym (first-kind t) ∙ e) (n .read t (omega arith) z) ∙ ap (λ o. done o (drop (first + len) s)) (sym (name-some s first len z));
+              indicator-read s (sym (first-kind t) ∙ e) (n .read t (omega arith) z)
+              ∙ ap (λ o. done o (drop (first + len) s)) (sym (used-some s title size first len z));
           missing = λ t x. absurd (x refl);
         }
 
 -- ---- the whole heading
-
-after-stop : {A B : Type 0} (f : A → Read B) {m : Answer Bytes A} {rest : Bytes} → m ≡ stop malformed rest → andThen f m ≡ stop malformed rest
-unfolding andThen
-after-stop f e = ap (andThen f) e
-
-after-done : {A B : Type 0} (f : A → Read B) {m : Answer Bytes A} {a : A} {rest : Bytes} → m ≡ done a rest → andThen f m ≡ f a rest
-unfolding andThen
-after-done f e = ap (andThen f) e
 
 heading-kinds : (kindOf 42 ≡ 4) × (kindOf 58 ≡ 5) × (kindOf 61 ≡ 6)
 unfolding kindOf placeOr0 nameByte
@@ -124,13 +123,16 @@ byte-of-other {s = s} {at} c q t n = split _ refl
         no-byte c = byte-end [] c 0 (omega arith)
     split (b ∷ bs) e = ap (byte c) e ∙ byte-missing (b ∷ bs) c 0 (omega arith) (λ z. n (sym (q .kind t ∙ ap firstKind e ∙ ap kindOf z))) ∙ ap (stop malformed) (sym e)
 
-bad-heading : {ks s : Bytes} {h : Head} → (h .code ≡ 3) × (h .at ≡ 0) × (h .start + h .len ≡ 0) × (h .first + h .size ≡ 0)
-    → (KindsTable ks → (rest : Bytes) × (aLine aut68 (length s) s ≡ stop malformed rest)) → HeadRead ks s h
+abbrev BadHead : Head → Type 0
+BadHead h = (h .code ≡ 3) × (h .at ≡ 0) × (h .title + h .span ≡ 0) × (h .start + h .len ≡ 0) × (h .first + h .size ≡ 0)
+
+bad-heading : {ks s : Bytes} {h : Head} → BadHead h → (KindsTable ks → (rest : Bytes) × (aLine aut68 (length s) s ≡ stop malformed rest)) → HeadRead ks s h
 bad-heading b m =
     record {
       inside = omega (arith, b .1);
-      indicated = omega (arith, b .2);
-      named = omega (arith, b .3);
+      titled = omega (arith, b .2);
+      indicated = omega (arith, b .3);
+      named = omega (arith, b .4);
       sized = λ z. absurd (omega (arith, b .0));
       read = λ t z. absurd (omega (arith, b .0));
       missing = λ t n. let (rest, e) = m t in (rest, b .0, e);
@@ -140,13 +142,10 @@ bytes-left : (bs : Bytes) → bytesLeft bs ≡ done (length (spaces bs)) bs
 unfolding bytesLeft
 bytes-left bs = refl
 
-abbrev BadHead : Head → Type 0
-BadHead h = (h .code ≡ 3) × (h .at ≡ 0) × (h .start + h .len ≡ 0) × (h .first + h .size ≡ 0)
-
 module _ {ks s : Bytes} {p : Prefix} (P : PrefixRead ks s p) where
   pub heading-no-indicator : {h : Head} → p .code ≢ 0 → BadHead h → HeadRead ks s h
   unfolding aLine
-  heading-no-indicator n b = bad-heading b (λ t. (s, after-stop _ (P .missing t n)))
+  heading-no-indicator n b = bad-heading b (λ t. let (rest, e) = P .missing t n in (rest, after-stop _ e))
 
   module _ (z : p .code ≡ 0) {star : ℕ} (q : PastSymbol ks s (p .at) 4 star) where
     pub heading-no-star : {h : Head} → length s < star → BadHead h → HeadRead ks s h
@@ -185,11 +184,12 @@ module _ {ks s : Bytes} {p : Prefix} (P : PrefixRead ks s p) where
                     ∙ after-stop _ (byte-of-other 61 d t (λ x. m (sym x ∙ heading-kinds .2))),
               ))
 
-          pub heading-read : k ≡ 6 → HeadRead ks s (record { code = 0; at = colon + 1; start = p .start; len = p .len; first = first; size = size })
+          pub heading-read : k ≡ 6 → HeadRead ks s (record { code = 0; at = colon + 1; title = p .title; span = p .span; start = p .start; len = p .len; first = first; size = size })
           unfolding aLine afterHeading
           heading-read x =
               record {
                 inside = omega (arith, d .inside (λ y. omega arith));
+                titled = P .titled;
                 indicated = P .named;
                 named = n .within i;
                 sized = λ y. e;
@@ -199,6 +199,6 @@ module _ {ks s : Bytes} {p : Prefix} (P : PrefixRead ks s p) where
                     after-done _ (P .read t z) ∙ after-done _ (q .read t 42 (heading-kinds .0) (omega arith) i) ∙ after-done _ (bytes-left (drop star s))
                     ∙ after-done _ (n .read t i e) ∙ after-done _ (c .read t 58 (heading-kinds .1) (omega arith) j)
                     ∙ after-done _ (byte-of-kind 61 d t (heading-kinds .2 ∙ sym x) (omega arith))
-                    ∙ ap (λ b. afterHeading aut68 (nameOr s (p .start) (p .len)) b (slice first (first + size) s) (drop (colon + 1) s)) before;
+                    ∙ ap (λ b. afterHeading aut68 (usedOr s (p .title) (p .span) (p .start) (p .len)) b (slice first (first + size) s) (drop (colon + 1) s)) before;
                 missing = λ t y. absurd (y refl);
               }

@@ -8,6 +8,8 @@ use lib.ListN.{length, getD, drop, take, length-drop, length-take}
 use lib.Seq.{take-suc, take-add, getD-take, getD-drop, drop-drop}
 use borrow.Author.Tests.{ne-eqb}
 use Rattle.aut68.specs.Bytes.{Bytes, onto, lines}
+use Rattle.aut68.specs.Procedure.Answer.{done, stop, malformed}
+use Rattle.aut68.specs.Procedure.Parse.{lineEnd}
 use Rattle.symbols.proofs.SymbolLaws.{step, ended}
 use Rattle.headings.specs.Posts.{NoEnd, LineEnd, stride}
 
@@ -134,3 +136,14 @@ no-end-many {book} {at} {i} (suc n) h l f =
 pub no-end-part : {book : Bytes} {at i : ℕ} → NoEndSoFar book at i → i + stride ≤ length book → NoEnd (take (i + stride - i) (drop i book)) stride → NoEndSoFar book at (i + stride)
 no-end-part {book} {at} {i} h l f =
     no-end-many stride h l (λ j m e. f j m (getD-take (i + stride - i) (drop i book) j 0 (omega arith) ∙ getD-drop i book j 0 ∙ e))
+
+-- ---- a line that is read
+
+pub line-ends : (s : Bytes) (at : ℕ) → length s ≤ at → lineEnd (drop at s) ≡ done tt (drop at s)
+unfolding lineEnd
+line-ends s at l = let e = ended s at l in ap lineEnd e ∙ ap (done tt) (sym e)
+
+pub line-goes-on : (bs : Bytes) → length bs ≢ 0 → lineEnd bs ≡ stop malformed bs
+unfolding lineEnd
+line-goes-on [] n = absurd (n refl)
+line-goes-on (b ∷ bs) n = refl

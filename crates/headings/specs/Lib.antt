@@ -1,3 +1,3 @@
--- Where a line ends, and its heading.
+-- Where a line ends, its heading, and paragraph lines.
 pub mod ReadLine
 pub mod Posts

@@ -1,18 +1,19 @@
--- The parts of a line: what stands behind its heading, and its names.
+-- The parts of a line: what stands behind its heading, and its indicator.
 use mathlib.Core.Option.{Option, none, some}
 use mathlib.Core.Bool.{true, false}
-use Prim.Native.Nat.{ℕ, _+_}
+use Prim.Native.Nat.{ℕ}
 use lib.Dec.{eqb}
-use lib.Seq.{slice}
 use Rattle.aut68.specs.Language.{Language}
 use Rattle.aut68.specs.Rules.Grammar.{ending}
 use Rattle.aut68.specs.Bytes.{Bytes}
+use Rattle.aut68.specs.Source.{Used}
 use Rattle.aut68.specs.Procedure.Answer.{_>>=_, give}
 use Rattle.aut68.specs.Procedure.Parse.{Read, Placed, aMiddle, anExpression, symbol, lineEnd}
 use Rattle.aut68.specs.Sizes.{nesting}
+use Rattle.symbols.specs.Symbols.{usedIn}
 
 -- the part of a line behind `:=`, with what stands before it
-unfoldable pub afterHeading : Language → Option Bytes → ℕ → Bytes → Read Placed
+unfoldable pub afterHeading : Language → Option Used → ℕ → Bytes → Read Placed
 afterHeading language i before w = do
   m ← aMiddle language
   _ ← symbol 58
@@ -21,6 +22,6 @@ afterHeading language i before w = do
   _ ← lineEnd
   give (record { before = before; line = record { indicator = i; identifier = w; middle = m; category = c } })
 
--- the name of len bytes from `start` on; none where len is 0
-unfoldable pub nameOr : Bytes → ℕ → ℕ → Option Bytes
-nameOr s start len = elim (eqb len 0) [ true ↦ none | false ↦ some (slice start (start + len) s) ]
+-- the name that is used; none where len is 0
+unfoldable pub usedOr : Bytes → ℕ → ℕ → ℕ → ℕ → Option Used
+usedOr s title size start len = elim (eqb len 0) [ true ↦ none | false ↦ some (usedIn s title size start len) ]

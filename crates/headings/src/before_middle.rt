@@ -3,14 +3,18 @@ use symbols::kind_at;
 use symbols::name_at;
 use symbols::spaces;
 use symbols::symbol;
+use symbols::used_at;
 ghost use mathlib.Core.Path.{_≡_};
 ghost use Prim.Native.Nat.{_+_};
 ghost use Rattle.headings.specs.Posts.{PrefixRead, HeadRead};
 
-// The indicator: code 0 or 3, the byte behind it, its name (length 0 if empty).
+// The indicator: code 0 or 3, the byte behind it, its name (start, len; length 0 if empty), and the paragraph's name before its point
+// (title, span; length 0 if there is no point).
 pub struct Prefix {
     pub code: u32,
     pub at: usize,
+    pub title: usize,
+    pub span: usize,
     pub start: usize,
     pub len: usize,
 }
@@ -25,17 +29,21 @@ fn prefix_of(line: &[u8], kinds: &[u8; 256]) -> Prefix
         return Prefix {
             code: 0,
             at: 0,
+            title: 0,
+            span: 0,
             start: 0,
             len: 0,
         };
     }
-    let n = name_at(line, kinds, 0);
+    let n = used_at(line, kinds, 0);
     let first = n.start;
     let len = n.len;
     if len == 0 {
         return Prefix {
             code: constants::MALFORMED,
             at: 0,
+            title: 0,
+            span: 0,
             start: 0,
             len: 0,
         };
@@ -43,15 +51,19 @@ fn prefix_of(line: &[u8], kinds: &[u8; 256]) -> Prefix
     Prefix {
         code: 0,
         at: first + len,
+        title: n.title,
+        span: n.size,
         start: first,
         len: len,
     }
 }
 
-// The words before the middle. code: 0 or 3. at: the byte behind `:=`. The indicator (length 0 if empty), the identifier.
+// The words before the middle. code: 0 or 3. at: the byte behind `:=`. The indicator, as in Prefix. The identifier (first, size).
 pub struct Head {
     pub code: u32,
     pub at: usize,
+    pub title: usize,
+    pub span: usize,
     pub start: usize,
     pub len: usize,
     pub first: usize,
@@ -59,11 +71,13 @@ pub struct Head {
 }
 
 fn bad_head() -> Head
-    ensures { λ h. ⌜ (h .code ≡ 3) × (h .at ≡ 0) × (h .start + h .len ≡ 0) × (h .first + h .size ≡ 0) ⌝ }
+    ensures { λ h. ⌜ (h .code ≡ 3) × (h .at ≡ 0) × (h .title + h .span ≡ 0) × (h .start + h .len ≡ 0) × (h .first + h .size ≡ 0) ⌝ }
 {
     Head {
         code: constants::MALFORMED,
         at: 0,
+        title: 0,
+        span: 0,
         start: 0,
         len: 0,
         first: 0,
@@ -100,6 +114,8 @@ pub fn heading(line: &[u8], kinds: &[u8; 256]) -> Head
     Head {
         code: 0,
         at: colon + 1,
+        title: p.title,
+        span: p.span,
         start: p.start,
         len: p.len,
         first: first,

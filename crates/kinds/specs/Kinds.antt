@@ -10,9 +10,9 @@ use lib.ListN.{getD}
 use borrow.Author.Tests.{eqb-true, eqb-false, eq-eqb, ne-eqb, le-leb, lt-leb}
 use Rattle.aut68.specs.Bytes.{nameByte, opensExpression}
 
--- the bytes of kind 2, 3, ..: `<` `[` `*` `:` `=` `,` `(` `)` `>` `]`, the space and byte 10
+-- the bytes of kind 2, 3, ..: `<` `[` `*` `:` `=` `,` `(` `)` `>` `]`, the space, byte 10, `.` `+` `-`
 abbrev pub symbols : List ℕ
-symbols = 60 ∷ 91 ∷ 42 ∷ 58 ∷ 61 ∷ 44 ∷ 40 ∷ 41 ∷ 62 ∷ 93 ∷ 32 ∷ 10 ∷ []
+symbols = 60 ∷ 91 ∷ 42 ∷ 58 ∷ 61 ∷ 44 ∷ 40 ∷ 41 ∷ 62 ∷ 93 ∷ 32 ∷ 10 ∷ 46 ∷ 43 ∷ 45 ∷ []
 
 -- the place of b in the list, counted from k; 0 where it is not there
 unfoldable pub placeOr0 : ℕ → List ℕ → ℕ → ℕ
@@ -106,7 +106,7 @@ one-of-kind b c h e =
     place-one 2 symbols b c (omega arith) (omega arith) (sym q ∙ e ∙ r)
 
 -- and these are the bytes of the kinds 2, 3, ..
-pub kinds-of-symbols : map kindOf symbols ≡ 2 ∷ 3 ∷ 4 ∷ 5 ∷ 6 ∷ 7 ∷ 8 ∷ 9 ∷ 10 ∷ 11 ∷ 12 ∷ 13 ∷ []
+pub kinds-of-symbols : map kindOf symbols ≡ 2 ∷ 3 ∷ 4 ∷ 5 ∷ 6 ∷ 7 ∷ 8 ∷ 9 ∷ 10 ∷ 11 ∷ 12 ∷ 13 ∷ 14 ∷ 15 ∷ 16 ∷ []
 unfolding kindOf placeOr0 nameByte
 kinds-of-symbols = refl
 
@@ -128,7 +128,7 @@ closed-kind k h l = rw (le-leb 1 k (omega arith), lt-leb k 3 l)
 
 -- the symbols from kind 4 on
 abbrev laterSymbols : List ℕ
-laterSymbols = 42 ∷ 58 ∷ 61 ∷ 44 ∷ 40 ∷ 41 ∷ 62 ∷ 93 ∷ 32 ∷ 10 ∷ []
+laterSymbols = 42 ∷ 58 ∷ 61 ∷ 44 ∷ 40 ∷ 41 ∷ 62 ∷ 93 ∷ 32 ∷ 10 ∷ 46 ∷ 43 ∷ 45 ∷ []
 
 later-closed : (b m : ℕ) → placeOr0 4 laterSymbols b ≡ m → opensKind m ≡ false
 unfolding opensKind

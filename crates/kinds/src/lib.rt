@@ -34,6 +34,12 @@ pub const SPACE: u8 = 12;
 
 pub const NEWLINE: u8 = 13;
 
+pub const POINT: u8 = 14;
+
+pub const PLUS: u8 = 15;
+
+pub const MINUS: u8 = 16;
+
 // The kind of the byte b, by the table that is handed down.
 pub fn kind_of(kinds: &[u8; 256], b: u8) -> u8
     ensures { λ r. ⌜ (KindsTable (now (kinds .entry)) → r ≡ kindOf b) ⌝ }

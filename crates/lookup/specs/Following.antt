@@ -10,10 +10,11 @@ use lib.ListN.{length}
 use Rattle.aut68.specs.Language.{Language}
 use Rattle.aut68.specs.Bytes.{Bytes}
 use Rattle.aut68.specs.Lines.{Line, Lines, Kind}
-use Rattle.aut68.specs.Source.{Middle}
+use Rattle.aut68.specs.Paragraphs.{State, start}
+use Rattle.aut68.specs.Source.{Used, Middle}
 use Rattle.aut68.specs.Index.{mentionedBy}
 use Rattle.aut68.specs.Rules.Names.{IsLine, Context, Indicates, nothing, named, MiddleMeans, isEB, isPN, isMeaning}
-use Rattle.aut68.specs.Rules.Derivation.{Derivation, Derived, noMore, line}
+use Rattle.aut68.specs.Rules.Derivation.{Derivation, line, opened, closed, Derived, noMore, piece}
 use Rattle.aut68.specs.Rules.Following.{NamesLine, Reaches, itself, onward}
 use Rattle.lookup.specs.Lists.{Each, members-each, member-with?}
 use Rattle.lookup.specs.LineNumbers.{no-line, line-positive, line-within, line-unique, line-at, line-snoc}
@@ -42,27 +43,28 @@ line? ls v = at (decLt 0 v) (decLe v (length ls))
 context-lines : {ls : Lines} {v : ℕ} {vs : List ℕ} → Context ls v vs → Each (HasLine ls) vs
 context-lines {ls} {vs = vs} c = members-each (HasLine ls) vs (λ u m. let (l, i, k) = context-line c m in (l, i))
 
-indicator-line : {ls : Lines} {o : Option Bytes} {v : ℕ} → Indicates ls o v → IndicatorMentions (HasLine ls) v
+indicator-line : {st : State} {o : Option Used} {v : ℕ} → Indicates st o v → IndicatorMentions (HasLine (st .earlier)) v
 unfolding IndicatorMentions
 indicator-line nothing = tt
-indicator-line {ls} (named {l = l} d i) = indicator-mentions (HasLine ls) i (l, i)
+indicator-line {st} (named {l = l} d i) = indicator-mentions (HasLine (st .earlier)) i (l, i)
 
-middle-lines : {ls : Lines} {vs : List ℕ} {m : Middle} {k : Kind} → Each (HasLine ls) vs → MiddleMeans ls vs m k → KindMentions (HasLine ls) k
+middle-lines : {st : State} {vs : List ℕ} {m : Middle} {k : Kind} → Each (HasLine (st .earlier)) vs → MiddleMeans st vs m k → KindMentions (HasLine (st .earlier)) k
 unfolding KindMentions
 middle-lines h isEB = tt
 middle-lines h isPN = tt
-middle-lines {ls} h (isMeaning n) = means-mentions (HasLine ls) h n (λ w v l o i d. (l, i))
+middle-lines {st} h (isMeaning n) = means-mentions (HasLine (st .earlier)) h n (λ w v l o i d. (l, i))
 
 -- a line with a derivation names lines before it
-derivation-names : {language : Language} {ls : Lines} {bytes : Bytes} {l : Line} {u : ℕ} → Derivation language ls bytes l → NamesLine l u → HasLine ls u
-derivation-names {ls = ls} {l = l} d m =
+derivation-names : {language : Language} {st : State} {bytes : Bytes} {l : Line} {u : ℕ} → Derivation language st bytes l → NamesLine l u → HasLine (st .earlier) u
+derivation-names {st} {l = l} d m =
     let own = context-lines (d .contextIs) in
-    mentions-named (HasLine ls) l (indicator-line (d .indicatorIs)) (middle-lines own (d .middleIs)) (means-mentions (HasLine ls) own (d .categoryIs) (λ w v k o i e. (k, i))) m
+    mentions-named (HasLine (st .earlier)) l (indicator-line (d .indicatorIs)) (middle-lines own (d .middleIs))
+    (means-mentions (HasLine (st .earlier)) own (d .categoryIs) (λ w v k o i e. (k, i))) m
 
-before-snoc : {language : Language} {ls : Lines} {bytes : Bytes} {l : Line} → NamesBefore ls → Derivation language ls bytes l → NamesBefore (ls ++ (l ∷ []))
-before-snoc {ls = ls} {l = l} h d v k u i m = at (line-snoc ls i)
+before-snoc : {language : Language} {st : State} {bytes : Bytes} {l : Line} → NamesBefore (st .earlier) → Derivation language st bytes l → NamesBefore (st .earlier ++ (l ∷ []))
+before-snoc {st} {l = l} h d v k u i m = at (line-snoc (st .earlier) i)
   where
-    at : IsLine ls v k ⊎ ((k ≡ l) × (v ≡ suc (length ls))) → (1 ≤ u) × (u < v)
+    at : IsLine (st .earlier) v k ⊎ ((k ≡ l) × (v ≡ suc (length (st .earlier)))) → (1 ≤ u) × (u < v)
     at (inl j) = h v k u j m
     at (inr (e, q)) =
         let (n, j) = derivation-names d (subst (λ x. NamesLine x u) e m) in
@@ -70,12 +72,18 @@ before-snoc {ls = ls} {l = l} h d v k u i m = at (line-snoc ls i)
         let r = line-within j in
         (omega arith, omega arith)
 
-derived-before : {language : Language} {ls all : Lines} {pieces : List Bytes} → Derived language ls pieces all → NamesBefore ls → NamesBefore all
+derived-before : {language : Language} {st all : State} {pieces : List Bytes} → Derived language st pieces all → NamesBefore (st .earlier) → NamesBefore (all .earlier)
 derived-before noMore h = h
-derived-before (line d r) h = derived-before r (before-snoc h d)
+derived-before (piece (line d) r) h = derived-before r (before-snoc h d)
+derived-before (piece (opened f u) r) h = derived-before r h
+derived-before (piece (closed f e) r) h = derived-before r h
 
-pub named-before : {language : Language} {pieces : List Bytes} {ls : Lines} → Derived language [] pieces ls → NamesBefore ls
-named-before d = derived-before d (λ v l u i m. absurd (no-line i))
+before-start : NamesBefore (start .earlier)
+unfolding start
+before-start v l u i m = absurd (no-line i)
+
+pub named-before : {language : Language} {pieces : List Bytes} {st : State} → Derived language start pieces st → NamesBefore (st .earlier)
+named-before d = derived-before d before-start
 
 -- ---- the lines reached
 

@@ -1,7 +1,7 @@
 -- The names that a scope binds, and the innermost binding of a word.
 use mathlib.Core.Path.{_≡_, refl, sym, ap, _∙_}
 use mathlib.Core.Bool.{true, false}
-use mathlib.Core.Option.{some}
+use mathlib.Core.Option.{none, some}
 use mathlib.Core.List.{List, [], _∷_}
 use Prim.Native.Nat.{ℕ, zero, suc, _-_, _≤_, _<_}
 use native.Mathlib.Omega.{arith}
@@ -9,11 +9,12 @@ use lib.ListN.{length, getD, set}
 use lib.Seq.{getD-set-same, getD-set-other}
 use Rattle.aut68.specs.Lines.{partOf}
 use Rattle.aut68.specs.Bytes.{Bytes, sameBytes}
-use Rattle.aut68.specs.Procedure.Resolve.{placeFrom}
+use Rattle.aut68.specs.Source.{Used, plain, inside}
+use Rattle.aut68.specs.Procedure.Resolve.{isPlain, placeFrom}
 use Rattle.aut68.specs.Sizes.{nesting}
 use Rattle.cells.specs.declared.scope.Scope.{Scope}
 use Rattle.cells.specs.Posts.{Nested, Bindable, Bound}
-use Rattle.meanings.specs.Bindings.{namesFrom, boundNames}
+use Rattle.meanings.specs.Bindings.{namesFrom, boundNames, wordIn}
 use Rattle.meanings.specs.Posts.{BindingFound}
 
 -- ---- bound names
@@ -53,25 +54,25 @@ no-names s scope e = ap (namesFrom s (scope .starts) (scope .lens)) e
 
 -- ---- the loop of binding
 
-place-here : (k : ℕ) (w x : Bytes) (xs : List Bytes) → sameBytes w x ≡ true → placeFrom k w (x ∷ xs) ≡ some k
-unfolding placeFrom
+place-here : (k : ℕ) (w x : Bytes) (xs : List Bytes) → sameBytes w x ≡ true → placeFrom k (plain w) (x ∷ xs) ≡ some k
+unfolding placeFrom isPlain
 place-here k w x xs e = rw (e, placeFrom)
 
-place-later : (k : ℕ) (w x : Bytes) (xs : List Bytes) → sameBytes w x ≡ false → placeFrom k w (x ∷ xs) ≡ placeFrom (suc k) w xs
-unfolding placeFrom
+place-later : (k : ℕ) (w x : Bytes) (xs : List Bytes) → sameBytes w x ≡ false → placeFrom k (plain w) (x ∷ xs) ≡ placeFrom (suc k) (plain w) xs
+unfolding placeFrom isPlain
 place-later k w x xs e = rw (e, placeFrom)
 
 -- the word is none of the bound names of the bindings from i on
 pub record BoundSoFar (s : Bytes) (scope : Scope) (word : Bytes) (i : ℕ) : Type 0 where
   pub few : scope .bound ≤ nesting
   pub within : i ≤ scope .bound
-  pub rest : 1 ≤ length word → placeFrom 0 word (boundNames s scope) ≡ placeFrom (scope .bound - i) word (namesFrom s (scope .starts) (scope .lens) i)
+  pub rest : 1 ≤ length word → placeFrom 0 (plain word) (boundNames s scope) ≡ placeFrom (scope .bound - i) (plain word) (namesFrom s (scope .starts) (scope .lens) i)
 
 pub bound-start : {s : Bytes} {scope : Scope} {word : Bytes} → scope .bound ≤ nesting → BoundSoFar s scope word (scope .bound)
 unfolding boundNames
 bound-start {s} {scope} {word} l =
     let e : 0 ≡ scope .bound - scope .bound = omega arith in
-    record { few = l; within = omega arith; rest = λ p. ap (λ k. placeFrom k word (namesFrom s (scope .starts) (scope .lens) (scope .bound))) e }
+    record { few = l; within = omega arith; rest = λ p. ap (λ k. placeFrom k (plain word) (namesFrom s (scope .starts) (scope .lens) (scope .bound))) e }
 
 -- binding i - 1 is n bytes from `first` on
 module _ {s : Bytes} {scope : Scope} {word : Bytes} {i n first : ℕ} (h : BoundSoFar s scope word i) (l : 0 < i)
@@ -91,32 +92,47 @@ module _ {s : Bytes} {scope : Scope} {word : Bytes} {i n first : ℕ} (h : Bound
         within = omega (arith, h .within);
         rest = λ p.
             h .rest p
-            ∙ ap (placeFrom (scope .bound - i) word) entry
+            ∙ ap (placeFrom (scope .bound - i) (plain word)) entry
             ∙ place-later (scope .bound - i) word (partOf s first n) _ (e p)
-            ∙ ap (λ k. placeFrom k word (namesFrom s (scope .starts) (scope .lens) (i - 1))) q;
+            ∙ ap (λ k. placeFrom k (plain word) (namesFrom s (scope .starts) (scope .lens) (i - 1))) q;
       }
 
-  pub bound-found : {r : ℕ} → r ≡ scope .bound - i → (1 ≤ length word → sameBytes word (partOf s first n) ≡ true) → BindingFound s scope word r
+  pub bound-found : {r : ℕ} → r ≡ scope .bound - i → (1 ≤ length word → sameBytes word (partOf s first n) ≡ true) → BindingFound s scope (plain word) r
+  unfolding wordIn
   bound-found {r} er e =
       record {
         within = omega (arith, h .few);
         bound = λ d p q.
             h .rest p
-            ∙ ap (placeFrom (scope .bound - i) word) entry
+            ∙ ap (placeFrom (scope .bound - i) (plain word)) entry
             ∙ place-here (scope .bound - i) word (partOf s first n) _ (e p)
             ∙ ap some (sym er);
         free = λ d p q. absurd (omega (arith, h .within, h .few));
       }
 
-pub bound-nowhere : {s : Bytes} {scope : Scope} {word : Bytes} {i : ℕ} → BoundSoFar s scope word i → i ≤ 0 → BindingFound s scope word nesting
-unfolding namesFrom placeFrom
+pub bound-nowhere : {s : Bytes} {scope : Scope} {word : Bytes} {i : ℕ} → BoundSoFar s scope word i → i ≤ 0 → BindingFound s scope (plain word) nesting
+unfolding namesFrom placeFrom wordIn
 bound-nowhere {s} {scope} {word} {i} h l =
     let e : i ≡ 0 = omega arith in
     record {
       within = omega arith;
       bound = λ d p q. absurd (omega arith);
-      free = λ d p q. h .rest p ∙ ap (λ k. placeFrom (scope .bound - i) word (namesFrom s (scope .starts) (scope .lens) k)) e;
+      free = λ d p q. h .rest p ∙ ap (λ k. placeFrom (scope .bound - i) (plain word) (namesFrom s (scope .starts) (scope .lens) k)) e;
     }
 
-pub bound-too-many : {s : Bytes} {scope : Scope} {word : Bytes} → nesting < scope .bound → BindingFound s scope word nesting
+pub bound-too-many : {s : Bytes} {scope : Scope} {word : Bytes} → nesting < scope .bound → BindingFound s scope (plain word) nesting
 bound-too-many l = record { within = omega arith; bound = λ d p q. absurd (omega arith); free = λ d p q. absurd (omega arith) }
+
+-- a name behind a point is never bound
+place-inside : (k : ℕ) (p a : Bytes) (xs : List Bytes) → placeFrom k (inside p a) xs ≡ none
+unfolding placeFrom isPlain
+place-inside k p a [] = refl
+place-inside k p a (x ∷ xs) = place-inside (suc k) p a xs
+
+pub bound-inside : {s : Bytes} {scope : Scope} {p a : Bytes} → BindingFound s scope (inside p a) nesting
+bound-inside {s} {scope} {p} {a} = record { within = omega arith; bound = λ d l q. absurd (omega arith); free = λ d l q. place-inside 0 p a (boundNames s scope) }
+
+-- nothing is, where no name is bound
+pub bound-none : {s : Bytes} {scope : Scope} {u : Used} → scope .bound ≡ 0 → BindingFound s scope u nesting
+unfolding placeFrom
+bound-none {s} {scope} {u} e = record { within = omega arith; bound = λ d l q. absurd (omega arith); free = λ d l q. ap (placeFrom 0 u) (no-names s scope e) }

@@ -1,14 +1,17 @@
--- What stands for a word, and what it means.
+-- What stands for a used name, and what it means.
 use mathlib.Core.Path.{_≡_, refl, sym, ap, _∙_, subst}
 use mathlib.Core.Logic.{_≢_}
 use mathlib.Core.Bool.{Bool, true, false}
 use mathlib.Core.Option.{Option, none, some}
-use mathlib.Core.List.{List}
+use mathlib.Core.List.{List, [], _∷_}
 use Prim.Native.Nat.{ℕ, zero, suc, _+_, _-_, _*_, _≤_, _<_}
 use native.Mathlib.Omega.{arith}
 use lib.ListN.{length}
 use Rattle.aut68.specs.Bytes.{Bytes}
-use Rattle.aut68.specs.Lines.{Line, Lines, Kind, variable, primitive, abbreviation, lineOf, numberOf, kindNumber, rowCell}
+use Rattle.aut68.specs.Lines.{Line, Lines, Kind, variable, primitive, abbreviation, lineOf, kindNumber, rowCell}
+use Rattle.aut68.specs.Paragraphs.{State}
+use Rattle.aut68.specs.Source.{Used}
+use Rattle.aut68.specs.Procedure.Lookup.{numberOf}
 use Rattle.aut68.specs.Procedure.Answer.{Refusal, codeOf}
 use Rattle.aut68.specs.Procedure.Resolve.{refused, member, answered, lookUp, sought, wanted, contextAt}
 use Rattle.aut68.specs.Procedure.Resolve as Resolve
@@ -16,9 +19,13 @@ use Rattle.aut68.specs.Sizes.{cellFactor, lineLimit, nesting, atContext, atKind
 use Rattle.lookup.specs.LineNumbers.{line-lineOf, line-positive}
 use Rattle.lookup.specs.Identifiers.{number-sound}
 use Rattle.names.specs.Known.{Known}
-use Rattle.names.specs.Hints.{Hinted}
-use Rattle.names.specs.Posts.{numberOr, LineFound}
+use Rattle.names.specs.Posts.{numberOr}
 use Rattle.names.proofs.FindLaws.{lineAt}
+use Rattle.symbols.specs.Symbols.{usedBy}
+use Rattle.kinds.specs.Kinds.{KindsTable}
+use Rattle.notes.specs.Note.{StateNoted}
+use Rattle.paragraphs.specs.Posts.{UsedFound}
+use Rattle.meanings.specs.Bindings.{wordIn}
 use Rattle.meanings.specs.Posts.{InContext}
 use Rattle.meanings.specs.Meanings.{told, SoughtFound, cellOf, Meant, means, meansNothing, MeaningFound}
 use Rattle.meanings.specs.declared.meanings.Sought.{Sought}
@@ -37,16 +44,16 @@ option-some n (some v) e d = ap some (sym e)
 
 -- ---- what stands for a name
 
-module _ (ls : Lines) (context : List ℕ) (v : ℕ) where
-  kind-variable : lineOf ls v .kind ≡ variable → member v context ≡ true → lookUp ls context (some v) ≡ told (Sought.Line v 0)
+module _ (st : State) (context : List ℕ) (v : ℕ) where
+  kind-variable : lineOf (st .earlier) v .kind ≡ variable → member v context ≡ true → lookUp st context (some v) ≡ told (Sought.Line v 0)
   unfolding lookUp told
   kind-variable e m = rw (e, m, lookUp)
 
-  kind-outside : lineOf ls v .kind ≡ variable → member v context ≡ false → lookUp ls context (some v) ≡ told (Sought.NotInForce v)
+  kind-outside : lineOf (st .earlier) v .kind ≡ variable → member v context ≡ false → lookUp st context (some v) ≡ told (Sought.NotInForce v)
   unfolding lookUp told
   kind-outside e m = rw (e, m, lookUp)
 
-  kind-constant : (k : Kind) → lineOf ls v .kind ≡ k → kindNumber k ≢ 0 → lookUp ls context (some v) ≡ told (Sought.Line v (kindNumber k))
+  kind-constant : (k : Kind) → lineOf (st .earlier) v .kind ≡ k → kindNumber k ≢ 0 → lookUp st context (some v) ≡ told (Sought.Line v (kindNumber k))
   unfolding lookUp told kindNumber
   kind-constant variable e n = absurd (n refl)
   kind-constant primitive e n = rw (e, lookUp)
@@ -59,8 +66,8 @@ is-variable primitive e = absurd (omega arith)
 is-variable (abbreviation m) e = absurd (omega arith)
 
 -- a name's line is never 0
-pub number-positive : (ls : Lines) (w : Bytes) (v : ℕ) → numberOf w ls ≡ some v → v ≢ 0
-number-positive ls w v e z = let (l, i, q) = number-sound e in absurd (omega (arith, line-positive i))
+pub number-positive : (st : State) (u : Used) (v : ℕ) → numberOf st u ≡ some v → v ≢ 0
+number-positive st u v e z = let (l, i, q) = number-sound e in absurd (omega (arith, line-positive i))
 
 variable-line : {ls : Lines} {book tb : List ℕ} {lines v kind : ℕ} → Known ls book tb lines → v ≢ 0 → v ≤ lines → kind ≡ rowCell tb v atKind → kind ≡ 0
     → lineOf ls v .kind ≡ variable
@@ -69,55 +76,60 @@ variable-line {v = v} k n l ek z =
     ap (λ (y : Line). y .kind) (line-lineOf h) ∙ is-variable (x .kind) (sym (k .rows .row h .kindIs) ∙ sym ek ∙ z)
 
 -- the line that was found is looked at
-line-is : {book tb : List ℕ} {lines : ℕ} {w : List ℕ} {word : Bytes} {v : ℕ} (ls : Lines) (context : List ℕ) → LineFound book tb lines w word v → v ≢ 0
-    → Known ls book tb lines → Hinted book tb lines w → 1 ≤ length word → lookUp ls context (numberOf word ls) ≡ lookUp ls context (some v)
-line-is {word = word} ls context hv n k g p = ap (lookUp ls context) (option-some 0 (numberOf word ls) (hv .is ls k g p) n)
+line-is : {ks book tb : List ℕ} {lines : ℕ} {w : List ℕ} {title word : Bytes} {v : ℕ} (st : State) (context : List ℕ) → UsedFound ks book tb lines w title word v → v ≢ 0
+    → KindsTable ks → Known (st .earlier) book tb lines → StateNoted st book tb lines w → 1 ≤ length word → lookUp st context (numberOf st (usedBy title word)) ≡ lookUp st context (some v)
+line-is {title = title} {word} st context hv n t k g p = ap (lookUp st context) (option-some 0 (numberOf st (usedBy title word)) (hv .is st t k g p) n)
 
-module _ {book tb : List ℕ} {lines indicator : ℕ} {w : List ℕ} {word : Bytes} {v : ℕ} (hv : LineFound book tb lines w word v) where
-  pub sought-nothing : v ≡ 0 → SoughtFound book tb lines indicator w word Sought.NoLine
+module _ {ks book tb : List ℕ} {lines indicator : ℕ} {w : List ℕ} {title word : Bytes} {v : ℕ} (hv : UsedFound ks book tb lines w title word v) where
+  pub sought-nothing : v ≡ 0 → SoughtFound ks book tb lines indicator w title word Sought.NoLine
   unfolding lookUp told
   sought-nothing e =
       record {
         small = omega arith;
-        is = λ ls k g o i p. ap (lookUp ls (contextAt ls indicator)) (option-none (numberOf word ls) (number-positive ls word) (sym e ∙ hv .is ls k g p));
+        is = λ st t k g o i p. ap (lookUp st (contextAt (st .earlier) indicator)) (option-none (numberOf st (usedBy title word)) (number-positive st _) (sym e ∙ hv .is st t k g p));
       }
 
-  pub sought-too-many : lineLimit ≤ v → SoughtFound book tb lines indicator w word Sought.NoLine
-  sought-too-many m = record { small = omega arith; is = λ ls k g o i p. absurd (omega (arith, k .few, hv .within)) }
+  pub sought-too-many : lineLimit ≤ v → SoughtFound ks book tb lines indicator w title word Sought.NoLine
+  sought-too-many m = record { small = omega arith; is = λ st t k g o i p. absurd (omega (arith, k .few, hv .within)) }
 
   module _ (n : v ≢ 0) (m : v < lineLimit) {kind : ℕ} (ek : kind ≡ rowCell tb v atKind) where
-    pub sought-constant : kind ≢ 0 → SoughtFound book tb lines indicator w word (Sought.Line v kind)
+    pub sought-constant : kind ≢ 0 → SoughtFound ks book tb lines indicator w title word (Sought.Line v kind)
     sought-constant z =
         record {
           small = m;
-          is = λ ls k g o i p.
+          is = λ st t k g o i p.
               let (x, h) = lineAt k v (omega arith) (hv .within) in
               let e : kind ≡ kindNumber (x .kind) = ek ∙ k .rows .row h .kindIs in
-              line-is ls (contextAt ls indicator) hv n k g p
-              ∙ kind-constant ls (contextAt ls indicator) v (x .kind) (ap (λ (y : Line). y .kind) (line-lineOf h)) (λ y. z (e ∙ y))
+              line-is st (contextAt (st .earlier) indicator) hv n t k g p
+              ∙ kind-constant st (contextAt (st .earlier) indicator) v (x .kind) (ap (λ (y : Line). y .kind) (line-lineOf h)) (λ y. z (e ∙ y))
               ∙ ap (λ j. told (Sought.Line v j)) (sym e);
         }
 
-    module _ (z : kind ≡ 0) {t : Bool} (c : InContext tb w indicator v t) where
-      pub sought-variable : t ≡ true → SoughtFound book tb lines indicator w word (Sought.Line v 0)
+    module _ (z : kind ≡ 0) {r : Bool} (c : InContext tb w indicator v r) where
+      pub sought-variable : r ≡ true → SoughtFound ks book tb lines indicator w title word (Sought.Line v 0)
       sought-variable f =
           record {
             small = m;
-            is = λ ls k g o i p.
-                line-is ls (contextAt ls indicator) hv n k g p
-                ∙ kind-variable ls (contextAt ls indicator) v (variable-line k n (hv .within) ek z) (sym (c .is ls book lines k o i (omega arith)) ∙ f);
+            is = λ st t k g o i p.
+                line-is st (contextAt (st .earlier) indicator) hv n t k g p
+                ∙ kind-variable st (contextAt (st .earlier) indicator) v (variable-line k n (hv .within) ek z) (sym (c .is (st .earlier) book lines k o i (omega arith)) ∙ f);
           }
 
-      pub sought-outside : t ≡ false → SoughtFound book tb lines indicator w word (Sought.NotInForce v)
+      pub sought-outside : r ≡ false → SoughtFound ks book tb lines indicator w title word (Sought.NotInForce v)
       sought-outside f =
           record {
             small = m;
-            is = λ ls k g o i p.
-                line-is ls (contextAt ls indicator) hv n k g p
-                ∙ kind-outside ls (contextAt ls indicator) v (variable-line k n (hv .within) ek z) (sym (c .is ls book lines k o i (omega arith)) ∙ f);
+            is = λ st t k g o i p.
+                line-is st (contextAt (st .earlier) indicator) hv n t k g p
+                ∙ kind-outside st (contextAt (st .earlier) indicator) v (variable-line k n (hv .within) ek z) (sym (c .is (st .earlier) book lines k o i (omega arith)) ∙ f);
           }
 
 -- ---- what it means
+
+used-word : (title word : Bytes) → 1 ≤ length word → 1 ≤ length (wordIn (usedBy title word))
+unfolding usedBy wordIn
+used-word [] word p = p
+used-word (c ∷ cs) word p = p
 
 -- the number of the line that is told of
 numberTold : Resolve.Sought → Option ℕ
@@ -132,10 +144,10 @@ unfolding numberTold told
 number-told v zero = refl
 number-told v (suc k) = refl
 
-number-sought : (ls : Lines) (context : List ℕ) (o : Option ℕ) → numberTold (lookUp ls context o) ≡ o
+number-sought : (st : State) (context : List ℕ) (o : Option ℕ) → numberTold (lookUp st context o) ≡ o
 unfolding numberTold lookUp
-number-sought ls context none = refl
-number-sought ls context (some v) = split (lineOf ls v .kind) (member v context)
+number-sought st context none = refl
+number-sought st context (some v) = split (lineOf (st .earlier) v .kind) (member v context)
   where
     split : (k : Kind) (t : Bool)
         → numberTold (elim k as (λ _. Resolve.Sought) [
@@ -150,45 +162,45 @@ number-sought ls context (some v) = split (lineOf ls v .kind) (member v context)
     split (abbreviation m) t = refl
 
 -- the line that is told of has the name
-line-of : (ls : Lines) (context : List ℕ) (o : Option ℕ) {v : ℕ} (k : ℕ) → lookUp ls context o ≡ told (Sought.Line v k) → o ≡ some v
-line-of ls context o {v} k e = sym (number-sought ls context o) ∙ ap numberTold e ∙ number-told v k
+line-of : (st : State) (context : List ℕ) (o : Option ℕ) {v : ℕ} (k : ℕ) → lookUp st context o ≡ told (Sought.Line v k) → o ≡ some v
+line-of st context o {v} k e = sym (number-sought st context o) ∙ ap numberTold e ∙ number-told v k
 
-module _ {b : ℕ} {book tb : List ℕ} {lines indicator : ℕ} {w : List ℕ} {word : Bytes} where
-  pub means-bound : b < nesting → MeaningFound b book tb lines indicator w word 0 (cellFactor * b + 2) 0
+module _ {b : ℕ} {ks book tb : List ℕ} {lines indicator : ℕ} {w : List ℕ} {title word : Bytes} where
+  pub means-bound : b < nesting → MeaningFound b ks book tb lines indicator w title word 0 (cellFactor * b + 2) 0
   unfolding cellOf wanted sought answered
   means-bound l =
       record {
-        is = λ ls k g o i s scope hb d p. rw (hb .bound d p l, sought) (means refl refl refl);
+        is = λ st t k g o i s scope hb d p. rw (hb .bound d (used-word title word p) l, sought) (means refl refl refl);
       }
 
-  module _ (l : nesting ≤ b) {r : Sought} (h : SoughtFound book tb lines indicator w word r) where
+  module _ (l : nesting ≤ b) {r : Sought} (h : SoughtFound ks book tb lines indicator w title word r) where
     means-sought : {fault cell count : ℕ}
-        → ((ls : Lines) → Known ls book tb lines → lookUp ls (contextAt ls indicator) (numberOf word ls) ≡ told r
-        → Meant ls (contextAt ls indicator) fault cell count (answered (told r) tt))
-        → MeaningFound b book tb lines indicator w word fault cell count
+        → ((st : State) → Known (st .earlier) book tb lines → lookUp st (contextAt (st .earlier) indicator) (numberOf st (usedBy title word)) ≡ told r
+        → Meant st (contextAt (st .earlier) indicator) fault cell count (answered (told r) tt))
+        → MeaningFound b ks book tb lines indicator w title word fault cell count
     unfolding sought
     means-sought {fault} {cell} {count} f =
         record {
-          is = λ ls k g o i s scope hb d p.
-              let e = h .is ls k g o i p in
-              rw (hb .free d p l, sought) (subst (λ x. Meant ls (contextAt ls indicator) fault cell count (answered x tt)) (sym e) (f ls k e));
+          is = λ st t k g o i s scope hb d p.
+              let e = h .is st t k g o i p in
+              rw (hb .free d (used-word title word p) l, sought) (subst (λ x. Meant st (contextAt (st .earlier) indicator) fault cell count (answered x tt)) (sym e) (f st k e));
         }
 
-    pub means-nothing : {x : Refusal} {fault : ℕ} → fault ≡ codeOf x → answered (told r) tt ≡ refused x → MeaningFound b book tb lines indicator w word fault 0 0
-    means-nothing {fault = fault} c e = means-sought (λ ls k q. subst (λ m. Meant ls (contextAt ls indicator) fault 0 0 m) (sym e) (meansNothing c))
+    pub means-nothing : {x : Refusal} {fault : ℕ} → fault ≡ codeOf x → answered (told r) tt ≡ refused x → MeaningFound b ks book tb lines indicator w title word fault 0 0
+    means-nothing {fault = fault} c e = means-sought (λ st k q. subst (λ m. Meant st (contextAt (st .earlier) indicator) fault 0 0 m) (sym e) (meansNothing c))
 
-  module _ (l : nesting ≤ b) {v k : ℕ} (h : SoughtFound book tb lines indicator w word (Sought.Line v k)) where
-    pub means-variable : k ≡ 0 → MeaningFound b book tb lines indicator w word 0 (cellFactor * v + 1) 0
+  module _ (l : nesting ≤ b) {v k : ℕ} (h : SoughtFound ks book tb lines indicator w title word (Sought.Line v k)) where
+    pub means-variable : k ≡ 0 → MeaningFound b ks book tb lines indicator w title word 0 (cellFactor * v + 1) 0
     unfolding cellOf wanted told answered
     means-variable z =
-        means-sought l h λ ls y q.
-        subst (λ n. Meant ls (contextAt ls indicator) 0 (cellFactor * v + 1) 0 (answered (told (Sought.Line v n)) tt)) (sym z) (means refl refl refl)
+        means-sought l h λ st y q.
+        subst (λ n. Meant st (contextAt (st .earlier) indicator) 0 (cellFactor * v + 1) 0 (answered (told (Sought.Line v n)) tt)) (sym z) (means refl refl refl)
 
-    pub means-constant : k ≢ 0 → {count : ℕ} → count ≡ rowCell tb v atContext → MeaningFound b book tb lines indicator w word 0 (cellFactor * v + 3) count
+    pub means-constant : k ≢ 0 → {count : ℕ} → count ≡ rowCell tb v atContext → MeaningFound b ks book tb lines indicator w title word 0 (cellFactor * v + 3) count
     unfolding cellOf wanted told answered
     means-constant n {count} ec =
-        means-sought l h λ ls y q.
-        let (x, i, u) = number-sound (line-of ls (contextAt ls indicator) (numberOf word ls) k q) in
+        means-sought l h λ st y q.
+        let (x, i, u) = number-sound (line-of st (contextAt (st .earlier) indicator) (numberOf st (usedBy title word)) k q) in
         let e : suc (k - 1) ≡ k = omega arith in
-        subst (λ j. Meant ls (contextAt ls indicator) 0 (cellFactor * v + 3) count (answered (told (Sought.Line v j)) tt)) e
+        subst (λ j. Meant st (contextAt (st .earlier) indicator) 0 (cellFactor * v + 3) count (answered (told (Sought.Line v j)) tt)) e
         (means refl refl (ec ∙ y .rows .row i .contextIs ∙ ap (λ (z : Line). length (z .context)) (sym (line-lineOf i))))

@@ -4,14 +4,17 @@ use mathlib.Core.List.{List}
 use Prim.Native.Nat.{ℕ, zero, suc, _+_, _*_, _≤_, _<_}
 use lib.ListN.{length}
 use Rattle.aut68.specs.Bytes.{Bytes}
-use Rattle.aut68.specs.Lines.{Lines, numberOf}
+use Rattle.aut68.specs.Paragraphs.{State}
+use Rattle.aut68.specs.Procedure.Lookup.{numberOf}
 use Rattle.aut68.specs.Procedure.Answer.{Answer, Refusal, codeOf}
 use Rattle.aut68.specs.Procedure.Resolve.{found, refused, Meaning, aBound, aVariable, aConstant, lookUp, meaning, wanted, contextAt}
 use Rattle.aut68.specs.Procedure.Resolve as Resolve
 use Rattle.aut68.specs.Sizes.{cellFactor, lineLimit, nesting}
 use Rattle.cells.specs.declared.scope.Scope.{Scope}
+use Rattle.kinds.specs.Kinds.{KindsTable}
+use Rattle.symbols.specs.Symbols.{usedBy}
 use Rattle.names.specs.Known.{Known}
-use Rattle.names.specs.Hints.{Hinted}
+use Rattle.notes.specs.Note.{StateNoted}
 use Rattle.meanings.specs.Bindings.{boundNames}
 use Rattle.meanings.specs.NotedContext.{ContextNoted}
 use Rattle.meanings.specs.Posts.{BindingFound}
@@ -30,11 +33,11 @@ numberIn (Sought.Line v k) = v
 numberIn Sought.NoLine = 0
 numberIn (Sought.NotInForce v) = v
 
--- r is what stands for a word that is not bound, with the indicator of its line
-pub record SoughtFound (book tb : List ℕ) (lines indicator : ℕ) (w : List ℕ) (word : Bytes) (r : Sought) : Type 0 where
+-- r is what stands for a used name that is not bound, with the indicator of its line
+pub record SoughtFound (ks book tb : List ℕ) (lines indicator : ℕ) (w : List ℕ) (title word : Bytes) (r : Sought) : Type 0 where
   pub small : numberIn r < lineLimit
-  pub is : (ls : Lines) → Known ls book tb lines → Hinted book tb lines w → ContextNoted ls indicator w → indicator ≤ lines → 1 ≤ length word
-      → lookUp ls (contextAt ls indicator) (numberOf word ls) ≡ told r
+  pub is : (st : State) → KindsTable ks → Known (st .earlier) book tb lines → StateNoted st book tb lines w → ContextNoted (st .earlier) indicator w → indicator ≤ lines → 1 ≤ length word
+      → lookUp st (contextAt (st .earlier) indicator) (numberOf st (usedBy title word)) ≡ told r
 
 -- the cell of a name: what it means, without its arguments
 unfoldable pub cellOf : Meaning → ℕ
@@ -43,12 +46,12 @@ cellOf (aVariable v) = cellFactor * v + 1
 cellOf (aConstant v) = cellFactor * v + 3
 
 -- a name's cell and how many arguments it takes; or the refusal's code as fault
-pub data Meant (ls : Lines) (context : List ℕ) (fault cell count : ℕ) : Answer (Unit {0}) Meaning → Type 0 where
-  means : {m : Meaning} → fault ≡ 0 → cell ≡ cellOf m → count ≡ length (wanted ls context m) → Meant ls context fault cell count (found m)
-  meansNothing : {r : Refusal} → fault ≡ codeOf r → Meant ls context fault cell count (refused r)
+pub data Meant (st : State) (context : List ℕ) (fault cell count : ℕ) : Answer (Unit {0}) Meaning → Type 0 where
+  means : {m : Meaning} → fault ≡ 0 → cell ≡ cellOf m → count ≡ length (wanted st context m) → Meant st context fault cell count (found m)
+  meansNothing : {r : Refusal} → fault ≡ codeOf r → Meant st context fault cell count (refused r)
 
--- the meaning of a word, with the indicator of its line, wherever b is its binding
-pub record MeaningFound (b : ℕ) (book tb : List ℕ) (lines indicator : ℕ) (w : List ℕ) (word : Bytes) (fault cell count : ℕ) : Type 0 where
-  pub is : (ls : Lines) → Known ls book tb lines → Hinted book tb lines w → ContextNoted ls indicator w → indicator ≤ lines
-      → (s : Bytes) (scope : Scope) → BindingFound s scope word b → scope .bound ≤ nesting → 1 ≤ length word
-      → Meant ls (contextAt ls indicator) fault cell count (meaning ls (contextAt ls indicator) word (boundNames s scope) tt)
+-- the meaning of a used name, with the indicator of its line, wherever b is its binding
+pub record MeaningFound (b : ℕ) (ks book tb : List ℕ) (lines indicator : ℕ) (w : List ℕ) (title word : Bytes) (fault cell count : ℕ) : Type 0 where
+  pub is : (st : State) → KindsTable ks → Known (st .earlier) book tb lines → StateNoted st book tb lines w → ContextNoted (st .earlier) indicator w → indicator ≤ lines
+      → (s : Bytes) (scope : Scope) → BindingFound s scope (usedBy title word) b → scope .bound ≤ nesting → 1 ≤ length word
+      → Meant st (contextAt (st .earlier) indicator) fault cell count (meaning st (contextAt (st .earlier) indicator) (usedBy title word) (boundNames s scope) tt)

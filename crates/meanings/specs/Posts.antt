@@ -7,6 +7,7 @@ use mathlib.Core.List.{List}
 use Prim.Native.Nat.{ℕ, _*_, _/_, _≤_, _<_}
 use lib.ListN.{length, getD}
 use Rattle.aut68.specs.Bytes.{Bytes}
+use Rattle.aut68.specs.Source.{Used}
 use Rattle.aut68.specs.Lines.{Lines}
 use Rattle.aut68.specs.Procedure.Resolve.{member, placeFrom, contextAt}
 use Rattle.aut68.specs.Sizes.{cellValues, nesting}
@@ -14,14 +15,14 @@ use Rattle.cells.specs.Cells.{Outside}
 use Rattle.cells.specs.declared.scope.Scope.{Scope}
 use Rattle.cells.specs.Layout.{contextUnit, lineUnit, readerUnits}
 use Rattle.names.specs.Known.{Known}
-use Rattle.meanings.specs.Bindings.{boundNames}
+use Rattle.meanings.specs.Bindings.{boundNames, wordIn}
 use Rattle.meanings.specs.NotedContext.{variableAt, ContextNoted}
 
--- r is the number of bindings between a name and its innermost binding; `nesting`: it is not bound
-pub record BindingFound (s : Bytes) (scope : Scope) (word : Bytes) (r : ℕ) : Type 0 where
+-- r is the number of bindings between a used name, which is not empty, and its innermost binding; `nesting`: it is not bound
+pub record BindingFound (s : Bytes) (scope : Scope) (u : Used) (r : ℕ) : Type 0 where
   pub within : r ≤ nesting
-  pub bound : scope .bound ≤ nesting → 1 ≤ length word → r < nesting → placeFrom 0 word (boundNames s scope) ≡ some r
-  pub free : scope .bound ≤ nesting → 1 ≤ length word → nesting ≤ r → placeFrom 0 word (boundNames s scope) ≡ none
+  pub bound : scope .bound ≤ nesting → 1 ≤ length (wordIn u) → r < nesting → placeFrom 0 u (boundNames s scope) ≡ some r
+  pub free : scope .bound ≤ nesting → 1 ≤ length (wordIn u) → nesting ≤ r → placeFrom 0 u (boundNames s scope) ≡ none
 
 -- is line v in the context that ends with line `last`? By the chain of indicators
 pub record OnChain (tb : List ℕ) (last v : ℕ) (r : Bool) : Type 0 where

@@ -10,9 +10,10 @@ use constants::LINE_LIMIT;
 use constants::NESTING;
 use constants::NOT_IN_CONTEXT;
 use constants::UNKNOWN_NAME;
-use names::find;
 use names::part_is;
+use paragraphs::find_used;
 ghost use mathlib.Core.Path.{_≡_};
+ghost use Rattle.aut68.specs.Source.{plain};
 ghost use Rattle.meanings.specs.Posts.{BindingFound};
 ghost use Rattle.meanings.specs.Meanings.{SoughtFound, MeaningFound};
 
@@ -22,9 +23,9 @@ fn wide(x: u32) -> usize
     x as usize
 }
 
-// The number of bindings between a name and its innermost binding (placeFrom); NESTING: it is not bound.
+// The number of bindings between a plain name and its innermost binding (placeFrom); NESTING: it is not bound.
 pub fn binding(line: &[u8], scope: Scope, word: &[u8]) -> usize
-    ensures { λ r. ⌜ BindingFound (now (line .entry)) scope (now (word .entry)) r ⌝ }
+    ensures { λ r. ⌜ BindingFound (now (line .entry)) scope (plain (now (word .entry))) r ⌝ }
 {
     let bindings = scope.bound;
     if bindings > NESTING {
@@ -52,18 +53,21 @@ pub enum Sought {
     NotInForce { number: usize },
 }
 
-// What a word that is not bound stands for (lookUp), by the hints and the context noted in w.
+// What a used name that is not bound stands for (lookUp), by what w notes of lines, paragraphs and the context. The title is empty for
+// a plain name.
 pub fn look_up(
     book: &[u8],
+    kinds: &[u8; 256],
     table: &[u32],
     lines: usize,
     indicator: usize,
     w: &[Cell],
+    title: &[u8],
     word: &[u8],
 ) -> Sought
-    ensures { λ r. ⌜ SoughtFound (now (book .entry)) (now (table .entry)) lines indicator (now (w .entry)) (now (word .entry)) r ⌝ }
+    ensures { λ r. ⌜ SoughtFound (now (kinds .entry)) (now (book .entry)) (now (table .entry)) lines indicator (now (w .entry)) (now (title .entry)) (now (word .entry)) r ⌝ }
 {
-    let v = find(book, table, lines, w, word);
+    let v = find_used(book, kinds, table, lines, w, title, word);
     if v == 0 {
         return Sought::NoLine;
     }
@@ -90,17 +94,19 @@ pub struct Meaning {
     pub wanted: usize,
 }
 
-// The meaning of a word (meaning) with b as its binding: that, else what stands for it.
+// The meaning of a used name (meaning) with b as its binding: that, else what stands for it.
 pub fn meaning_of(
     b: usize,
     book: &[u8],
+    kinds: &[u8; 256],
     table: &[u32],
     lines: usize,
     indicator: usize,
     w: &[Cell],
+    title: &[u8],
     word: &[u8],
 ) -> Meaning
-    ensures { λ r. ⌜ MeaningFound b (now (book .entry)) (now (table .entry)) lines indicator (now (w .entry)) (now (word .entry)) (r .fault) (r .cell) (r .wanted) ⌝ }
+    ensures { λ r. ⌜ MeaningFound b (now (kinds .entry)) (now (book .entry)) (now (table .entry)) lines indicator (now (w .entry)) (now (title .entry)) (now (word .entry)) (r .fault) (r .cell) (r .wanted) ⌝ }
 {
     if b < NESTING {
         return Meaning {
@@ -109,7 +115,7 @@ pub fn meaning_of(
             wanted: 0,
         };
     }
-    match look_up(book, table, lines, indicator, w, word) {
+    match look_up(book, kinds, table, lines, indicator, w, title, word) {
         Sought::Line { number, kind } => {
             let cell = CELL_FACTOR * (number as Cell);
             if kind == 0 {

@@ -1,14 +1,14 @@
--- The slot of a word, four bytes at once.
-use mathlib.Core.Path.{_≡_, refl, ap, _∙_}
+-- The hash of a word, four bytes at once, and the slot of a hash.
+use mathlib.Core.Path.{_≡_, refl, sym, ap, _∙_}
 use Prim.Native.Nat.{ℕ, suc, _+_, _-_, _*_, _/_, _%_, _≤_, _<_}
 use native.Mathlib.Omega.{arith}
-use native.Mathlib.Nat.{mul-le-mul}
+use native.Mathlib.Nat.{mul-le-mul, add-mul-mod-self-left}
 use lib.ListN.{length}
 use borrow.Author.Tests.{le-leb, lt-leb}
 use Rattle.aut68.specs.Bytes.{Bytes}
 use Rattle.symbols.specs.Symbols.{fourAt}
-use Rattle.names.specs.Hints.{mixed, hashOf, slots, slotOf, mostSlots}
-use Rattle.names.specs.HintLaws.{hash-below, slots-most}
+use Rattle.names.specs.Hints.{mixed, hashOf, keyAt, slots, slotAt, mostSlots}
+use Rattle.names.specs.HintLaws.{slots-most}
 
 -- the bytes before i are mixed
 pub record HashSoFar (word : Bytes) (h i : ℕ) : Type 0 where
@@ -45,18 +45,25 @@ module _ {word : Bytes} {h i : ℕ} (s : HashSoFar word h i) where
 
 -- ---- slots
 
-pub slots-many : (n : ℕ) → mostSlots < n - n / 4 → mostSlots ≡ slots n
+pub slots-many : (n : ℕ) → mostSlots < n / 2 → mostSlots ≡ slots n
 unfolding slots
-slots-many n l = rw (lt-leb (n - n / 4) mostSlots l, slots)
+slots-many n l = rw (lt-leb (n / 2) mostSlots l, slots)
 
-pub slots-few : (n : ℕ) → n - n / 4 ≤ mostSlots → n - n / 4 ≡ slots n
+pub slots-few : (n : ℕ) → n / 2 ≤ mostSlots → n / 2 ≡ slots n
 unfolding slots
-slots-few n l = rw (le-leb (n - n / 4) mostSlots l, slots)
+slots-few n l = rw (le-leb (n / 2) mostSlots l, slots)
 
--- a hash times a number of slots
-pub product-below : (word : Bytes) (n : ℕ) {h m : ℕ} → h ≡ hashOf word → m ≡ slots n → h * m ≤ 4294967296 * mostSlots
-product-below word n {h} {m} eh em = mul-le-mul {n₁ = h} {m₁ = m} {n₂ = 4294967296} {m₂ = mostSlots} (omega (arith, hash-below word)) (omega (arith, slots-most n))
+-- the key times a number of slots
+pub product-below : (n : ℕ) {k m : ℕ} → k < 4294967296 → m ≡ slots n → k * m ≤ 4294967296 * mostSlots
+product-below n {k} {m} l em = mul-le-mul {n₁ = k} {m₁ = m} {n₂ = 4294967296} {m₂ = mostSlots} (omega arith) (omega (arith, slots-most n))
 
-pub slot-is : (word : Bytes) (n : ℕ) {h m : ℕ} → h ≡ hashOf word → m ≡ slots n → h * m / 4294967296 ≡ slotOf n word
-unfolding slotOf
-slot-is word n eh em = λ j. eh j * em j / 4294967296
+pub key-is : (h q : ℕ) → (h % 4294967296 + 2654435761 * (q % 4294967296)) % 4294967296 ≡ keyAt h q
+key-is h q =
+    let k : ℕ = h % 4294967296 + 2654435761 * (q % 4294967296) in
+    let z : ℕ = h / 4294967296 + 2654435761 * (q / 4294967296) in
+    let e : k + 4294967296 * z ≡ h + 2654435761 * q = omega arith in
+    sym (add-mul-mod-self-left k 4294967296 z) ∙ ap (λ (x : ℕ). x % 4294967296) e
+
+pub slot-is : (n h q : ℕ) {k m : ℕ} → k ≡ keyAt h q → m ≡ slots n → k * m / 4294967296 ≡ slotAt n h q
+unfolding slotAt
+slot-is n h q ek em = λ j. ek j * em j / 4294967296

@@ -2,14 +2,12 @@
 use mathlib.Core.Path.{_≡_, refl, sym, ap, _∙_}
 use mathlib.Core.List.{List}
 use Prim.Native.Nat.{ℕ, suc, _+_, _*_, _/_, _%_, _≤_, _<_}
-use native.Mathlib.Omega.{arith}
 use native.Mathlib.Numerals.{add-one}
 use lib.ListN.{length, getD, set, length-set, List·getD-eq-default}
-use Rattle.aut68.specs.Bytes.{Bytes}
 use Rattle.aut68.specs.Lines.{rowCell}
 use Rattle.aut68.specs.Sizes.{cellValues, lineLimit, rowWidth, atNameLength}
 use Rattle.cells.specs.Links.{linkFactor, linkOf, linkAt, linkRow, unlinkRow, unlinked}
-use Rattle.names.specs.Hints.{slotOf}
+use Rattle.names.specs.Hints.{slotAt}
 use Rattle.names.specs.Posts.{HeadPost, LinkPost}
 
 pub link-is : (tb : List ℕ) (v : ℕ) {size : ℕ} → size ≡ rowCell tb v atNameLength → size / linkFactor ≡ linkOf tb v
@@ -18,20 +16,20 @@ link-is tb v e = ap (λ (x : ℕ). x / linkFactor) e
 
 -- ---- heads
 
-pub head-is : (w : List ℕ) (word : Bytes) {at r : ℕ} → at ≡ slotOf (length w) word → r ≡ getD w at 0 → r ≡ getD w (slotOf (length w) word) 0
-head-is w word e q = q ∙ ap (λ (k : ℕ). getD w k 0) e
+pub head-is : (w : List ℕ) (h q : ℕ) {at r : ℕ} → at ≡ slotAt (length w) h q → r ≡ getD w at 0 → r ≡ getD w (slotAt (length w) h q) 0
+head-is w h q e s = s ∙ ap (λ (k : ℕ). getD w k 0) e
 
-pub head-past : (w : List ℕ) (word : Bytes) {at : ℕ} → at ≡ slotOf (length w) word → length w ≤ at → 0 ≡ getD w (slotOf (length w) word) 0
-head-past w word {at} e l = head-is w word e (sym (List·getD-eq-default w 0 l))
+pub head-past : (w : List ℕ) (h q : ℕ) {at : ℕ} → at ≡ slotAt (length w) h q → length w ≤ at → 0 ≡ getD w (slotAt (length w) h q) 0
+head-past w h q {at} e l = head-is w h q e (sym (List·getD-eq-default w 0 l))
 
-pub no-head : {w : List ℕ} {word : Bytes} {v r : ℕ} → (slotOf (length w) word < length w → v < cellValues → ⊥) → HeadPost w w word v r
+pub no-head : {w : List ℕ} {h q v r : ℕ} → (slotAt (length w) h q < length w → v < cellValues → ⊥) → HeadPost w w h q v r
 no-head f = record { long = refl; was = λ i l. absurd (f i l); is = λ i l. absurd (f i l) }
 
-pub head-put : {w w′ : List ℕ} {word : Bytes} {v r at : ℕ} → at ≡ slotOf (length w) word → r ≡ getD w at 0 → w′ ≡ set w at v → HeadPost w w′ word v r
-head-put {w} {v = v} {at = at} e q s =
+pub head-put : {w w′ : List ℕ} {h q v r at : ℕ} → at ≡ slotAt (length w) h q → r ≡ getD w at 0 → w′ ≡ set w at v → HeadPost w w′ h q v r
+head-put {w} {v = v} {at = at} e z s =
     record {
       long = ap length s ∙ length-set w at v;
-      was = λ i l. q ∙ ap (λ (k : ℕ). getD w k 0) e;
+      was = λ i l. z ∙ ap (λ (k : ℕ). getD w k 0) e;
       is = λ i l. s ∙ ap (λ (k : ℕ). set w k v) e;
     }
 

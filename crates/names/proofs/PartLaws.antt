@@ -43,9 +43,13 @@ pub part-not-whole : (s word : Bytes) (start len : ℕ) → 1 ≤ length word �
 part-not-whole s word start len p l =
     lengths-differ word (partOf s start len) (λ q. let z = q ∙ ap length (part-outside s start len l) in omega arith)
 
+-- the part that is lent, `s[start..start + len]`
+pub part-lent : (s : Bytes) (start len : ℕ) → start + len ≤ length s → take (start + len - start) (drop start s) ≡ partOf s start len
+part-lent s start len l = part s start (start + len) (omega arith) ∙ sym (part-whole s start len l)
+
 pub part-compared : (s word : Bytes) (start len : ℕ) → start + len ≤ length s
     → sameBytes word (take (start + len - start) (drop start s)) ≡ sameBytes word (partOf s start len)
-part-compared s word start len l = ap (sameBytes word) (part s start (start + len) (omega arith) ∙ sym (part-whole s start len l))
+part-compared s word start len l = ap (sameBytes word) (part-lent s start len l)
 
 -- ---- identifiers
 

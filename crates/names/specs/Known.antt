@@ -11,7 +11,7 @@ use Rattle.aut68.specs.Bytes.{Bytes}
 use Rattle.aut68.specs.Lines.{identifierPart, Line, Lines, rowCell}
 use Rattle.aut68.specs.Rules.Names.{IsLine, Context}
 use Rattle.aut68.specs.Sizes.{lineLimit, rowWidth, atNameStart, atNameLength}
-use Rattle.lookup.specs.Identifiers.{Distinct}
+use Rattle.lookup.specs.Identifiers.{DistinctNames}
 use Rattle.cells.specs.Rows.{Rows, Named}
 use Rattle.cells.specs.Links.{unlinked}
 
@@ -22,7 +22,7 @@ pub record Known (ls : Lines) (book tb : List ℕ) (lines : ℕ) : Type 0 where
   pub count : length ls ≡ lines
   pub few : lines < lineLimit
   pub contexts : {v : ℕ} {l : Line} → IsLine ls v l → Context ls (l .indicator) (l .context)
-  pub distinct : Distinct ls
+  pub distinct : DistinctNames ls
   pub behind : {v : ℕ} {l : Line} → IsLine ls v l → l .indicator < v
 
 -- the part r of what s lends: the same memory, from index `start` on, with these bytes

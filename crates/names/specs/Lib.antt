@@ -1,5 +1,6 @@
--- Lines by their identifiers, by rows and by hints.
+-- Lines by their identifiers and paragraphs, by rows and by hints.
 pub mod Known
+pub mod Chains
 pub mod Hints
 pub mod HintLaws
 pub mod Posts

@@ -5,27 +5,27 @@ use mathlib.Core.List.{List}
 use Prim.Native.Nat.{ℕ, suc, _*_, _≤_, _<_}
 use lib.ListN.{length, getD, set}
 use Rattle.aut68.specs.Bytes.{Bytes}
-use Rattle.aut68.specs.Lines.{Lines, numberOf}
+use Rattle.aut68.specs.Lines.{Lines, numberIn}
 use Rattle.aut68.specs.Sizes.{cellValues, lineLimit, rowWidth}
 use Rattle.cells.specs.Links.{linkFactor, linkAt, linkRow}
 use Rattle.names.specs.Known.{Known}
-use Rattle.names.specs.Hints.{slotOf, Hinted}
+use Rattle.names.specs.Hints.{hashOf, slotAt, Hinted}
 
 -- the number, or the given one where there is none
 unfoldable pub numberOr : ℕ → Option ℕ → ℕ
 numberOr n none = n
 numberOr n (some v) = v
 
--- r is the line whose identifier is the word; 0: none
-pub record LineFound (book tb : List ℕ) (lines : ℕ) (w : List ℕ) (word : Bytes) (r : ℕ) : Type 0 where
+-- r is the line of the paragraph q whose identifier is the word, of the hash h; 0: none
+pub record LineFound (book tb : List ℕ) (lines : ℕ) (w : List ℕ) (word : Bytes) (h q r : ℕ) : Type 0 where
   pub within : r ≤ lines
-  pub is : (ls : Lines) → Known ls book tb lines → Hinted book tb lines w → 1 ≤ length word → r ≡ numberOr 0 (numberOf word ls)
+  pub is : (ls : Lines) → Known ls book tb lines → Hinted book tb lines w → 1 ≤ length word → h ≡ hashOf word → r ≡ numberOr 0 (numberIn ls word q)
 
--- v is at the head of the word's chain; r was
-pub record HeadPost (w w′ : List ℕ) (word : Bytes) (v r : ℕ) : Type 0 where
+-- v is at the head of the chain of the hash h in the paragraph q; r was
+pub record HeadPost (w w′ : List ℕ) (h q v r : ℕ) : Type 0 where
   pub long : length w′ ≡ length w
-  pub was : slotOf (length w) word < length w → v < cellValues → r ≡ getD w (slotOf (length w) word) 0
-  pub is : slotOf (length w) word < length w → v < cellValues → w′ ≡ set w (slotOf (length w) word) v
+  pub was : slotAt (length w) h q < length w → v < cellValues → r ≡ getD w (slotAt (length w) h q) 0
+  pub is : slotAt (length w) h q < length w → v < cellValues → w′ ≡ set w (slotAt (length w) h q) v
 
 -- the row behind the first n rows is linked to line h
 pub record LinkPost (tb tb′ : List ℕ) (n h : ℕ) : Type 0 where

@@ -10,7 +10,7 @@ ghost use Prim.Native.Nat.{_*_, _≤_, _<_};
 ghost use lib.ListN.{length, getD};
 ghost use Rattle.aut68.specs.Sizes.{rowWidth};
 ghost use Rattle.cells.specs.Links.{unlinked};
-ghost use Rattle.names.specs.Hints.{mostSlots, hashOf, slots, slotOf};
+ghost use Rattle.names.specs.Hints.{mostSlots, hashOf, keyAt, slots, slotAt};
 ghost use Rattle.names.specs.Posts.{HeadPost, LinkPost};
 
 // A line's number stands so far above the length of an identifier.
@@ -20,8 +20,8 @@ pub const LINK_FACTOR: usize = 65536;
 const MOST_SLOTS: usize = 131072;
 
 // The bytes of the word, mixed.
-fn hash(word: &[u8]) -> usize
-    ensures { λ r. ⌜ (r ≡ hashOf (now (word .entry))) × (r < 4294967296) ⌝ }
+pub fn hash(word: &[u8]) -> usize
+    ensures { λ r. ⌜ r ≡ hashOf (now (word .entry)) ⌝ }
 {
     let mut h = 0;
     let mut i = 0;
@@ -39,36 +39,43 @@ fn hash(word: &[u8]) -> usize
 fn slots(n: usize) -> usize
     ensures { λ r. ⌜ r ≡ slots n ⌝ }
 {
-    let m = n - n / 4;
+    let m = n / 2;
     if m > MOST_SLOTS {
         return MOST_SLOTS;
     }
     m
 }
 
-// The slot of the word, in a store of n cells.
-fn slot_of(word: &[u8], n: usize) -> usize
-    ensures { λ r. ⌜ (r ≡ slotOf n (now (word .entry))) × (r ≤ mostSlots) ⌝ }
+// The key of the hash h in the paragraph q.
+pub fn key(h: usize, q: usize) -> usize
+    ensures { λ r. ⌜ (r ≡ keyAt h q) × (r < 4294967296) ⌝ }
 {
-    hash(word) * slots(n) / 4294967296
+    (h % 4294967296 + 2654435761 * (q % 4294967296)) % 4294967296
 }
 
-// The line at the head of the word's chain; 0: none.
-pub fn head(w: &[Cell], word: &[u8]) -> usize
-    ensures { λ r. ⌜ r ≡ getD (now (w .entry)) (slotOf (length (now (w .entry))) (now (word .entry))) 0 ⌝ }
+// The slot of the hash h in the paragraph q, in a store of n cells.
+fn slot_at(n: usize, h: usize, q: usize) -> usize
+    ensures { λ r. ⌜ (r ≡ slotAt n h q) × (r ≤ mostSlots) ⌝ }
 {
-    let at = slot_of(word, w.len());
+    key(h, q) * slots(n) / 4294967296
+}
+
+// The line at the head of the chain of the hash h in the paragraph q; 0: none.
+pub fn head(w: &[Cell], h: usize, q: usize) -> usize
+    ensures { λ r. ⌜ r ≡ getD (now (w .entry)) (slotAt (length (now (w .entry))) h q) 0 ⌝ }
+{
+    let at = slot_at(w.len(), h, q);
     if at >= w.len() {
         return 0;
     }
     w[at] as usize
 }
 
-// Puts line v at the head of the word's chain; the line that was there.
-pub fn put_head(w: &mut [Cell], word: &[u8], v: usize) -> usize
-    ensures { λ r. ⌜ HeadPost (now (w .entry)) (now (w .exit)) (now (word .entry)) v r ⌝ }
+// Puts line v at the head of that chain; the line that was there.
+pub fn put_head(w: &mut [Cell], h: usize, q: usize, v: usize) -> usize
+    ensures { λ r. ⌜ HeadPost (now (w .entry)) (now (w .exit)) h q v r ⌝ }
 {
-    let at = slot_of(word, w.len());
+    let at = slot_at(w.len(), h, q);
     if at >= w.len() {
         return 0;
     }

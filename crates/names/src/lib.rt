@@ -1,7 +1,9 @@
-// Lines by their identifiers, and the identifiers of recorded lines.
+// Lines by their identifiers and paragraphs, and the identifiers of recorded lines.
 mod hints;
 mod names;
 
+pub use hints::hash;
+pub use hints::key;
 pub use hints::link;
 pub use hints::put_head;
 pub use hints::unlink;

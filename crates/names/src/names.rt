@@ -1,10 +1,11 @@
-// Lines by their identifiers, and identifiers by their lines. specs/Posts has the contracts.
+// Lines by their identifiers and paragraphs, and identifiers by their lines. specs/Posts has the contracts.
 use crate::hints::LINK_FACTOR;
 use crate::hints::head;
 use cells::field;
 use constants::Cell;
 use constants::NAME_LENGTH;
 use constants::NAME_START;
+use constants::PARAGRAPH;
 use constants::ROW_WIDTH;
 use symbols::same_bytes;
 ghost use mathlib.Core.Path.{_≡_};
@@ -13,6 +14,7 @@ ghost use lib.ListN.{length};
 ghost use Rattle.aut68.specs.Lines.{identifierPart, partOf};
 ghost use Rattle.aut68.specs.Bytes.{sameBytes};
 ghost use Rattle.names.specs.Known.{PartLent, identifierStart, IdentifierPlaced};
+ghost use Rattle.names.specs.Hints.{lineIs};
 ghost use Rattle.names.specs.Posts.{LineFound};
 
 // Is the word the n bytes of s from `first` on? No, where they are not whole in s.
@@ -32,21 +34,41 @@ pub fn part_is(s: &[u8], first: usize, n: usize, word: &[u8]) -> bool
     same_bytes(word, &s[first..end])
 }
 
-// The line, of the first `lines` of the table, whose identifier is the word (numberOf), by the hints in w; 0: none.
-pub fn find(book: &[u8], table: &[u32], lines: usize, w: &[Cell], word: &[u8]) -> usize
-    ensures { λ r. ⌜ LineFound (now (book .entry)) (now (table .entry)) lines (now (w .entry)) (now (word .entry)) r ⌝ }
+// Is the word the identifier of line v, and q its paragraph?
+fn line_is(book: &[u8], table: &[u32], v: usize, word: &[u8], q: usize) -> bool
+    ensures { λ r. ⌜ (1 ≤ length (now (word .entry)) → r ≡ lineIs (now (book .entry)) (now (table .entry)) (now (word .entry)) q v) ⌝ }
 {
-    let mut v = head(w, word);
+    let paragraph = field(table, v, PARAGRAPH);
+    if paragraph != q {
+        return false;
+    }
+    let start = field(table, v, NAME_START);
+    let size = field(table, v, NAME_LENGTH);
+    part_is(book, start, size % LINK_FACTOR, word)
+}
+
+// The line, of the first `lines` of the table, whose identifier is the word, of the hash h, and whose paragraph is q (numberIn), by
+// the hints in w; 0: none.
+pub fn find(
+    book: &[u8],
+    table: &[u32],
+    lines: usize,
+    w: &[Cell],
+    word: &[u8],
+    h: usize,
+    q: usize,
+) -> usize
+    ensures { λ r. ⌜ LineFound (now (book .entry)) (now (table .entry)) lines (now (w .entry)) (now (word .entry)) h q r ⌝ }
+{
+    let mut v = head(w, h, q);
     while v != 0 {
         if v > lines {
             return 0;
         }
-        let start = field(table, v, NAME_START);
-        let size = field(table, v, NAME_LENGTH);
-        if part_is(book, start, size % LINK_FACTOR, word) {
+        if line_is(book, table, v, word, q) {
             return v;
         }
-        let next = size / LINK_FACTOR;
+        let next = field(table, v, NAME_LENGTH) / LINK_FACTOR;
         if next >= v {
             return 0;
         }

@@ -1,5 +1,5 @@
 -- The line limit as a parameter: what is said before line n is said under every larger line limit.
-use mathlib.Core.Path.{_≡_, refl}
+use mathlib.Core.Path.{_≡_, refl, ap}
 use mathlib.Core.Logic.{inl, inr}
 use mathlib.Core.Bool.{Bool, true, false, _&&_}
 use mathlib.Core.List.{List, [], _∷_}
@@ -13,11 +13,14 @@ use Rattle.aut68.specs.Sizes.{smallestLimit, largestLimit, workUnits, bookLimit
 use Rattle.aut68.specs.Stores.{Limits, beforeLine}
 use Rattle.aut68.specs.Bytes.{Bytes, lines}
 use Rattle.aut68.specs.Lines.{Line, Lines}
-use Rattle.aut68.specs.Procedure.Answer.{Answer, done, stop, _>>=_, give, ensure, aside, outOfSpace}
-use Rattle.aut68.specs.Procedure.CheckLine.{Passed, readLine, room, store, checkCategories, checkLine}
-use Rattle.aut68.specs.Procedure.Run.{Recorded, Ending, refusedAt, oneMore, checkLines, nothing, run}
+use Rattle.aut68.specs.Paragraphs.{Opened, State}
+use Rattle.aut68.specs.Procedure.Answer.{Answer, done, stop, andThen, _>>=_, give, ensure, aside, outOfSpace}
+use Rattle.aut68.specs.Procedure.CheckLine.{readLine, room, store, checkCategories, checkLine}
+use Rattle.aut68.specs.Procedure.CheckPiece.{PassedPiece, passedLine, movedTo, checkPiece}
+use Rattle.aut68.specs.Procedure.Run.{Recorded, stateOf, Ending, refusedAt, oneMore, elsewhere, afterPiece, atEnd, checkLines, nothing, run}
 use Rattle.aut68.specs.Demands.{Verdict, FormerEndings}
 use Rattle.lookup.specs.Runs.{verdict-admitted}
+use Rattle.reading.specs.PieceKinds.{PieceKind, anOpening, aClosing, ordinary, kind-of, opening-checked, closing-checked, ordinary-checked}
 use Rattle.orders.specs.Limits.{same-ending}
 
 module _ (n : ℕ) (m : Limits) (le : n ≤ m .lines) where
@@ -30,32 +33,51 @@ module _ (n : ℕ) (m : Limits) (le : n ≤ m .lines) where
       rw (lt-ltb (suc (length ls)) n h, lt-ltb (suc (length ls)) (m .lines) k)
 
   module _ (language : Language) where
-    line-same : (ls : Lines) (bytes : Bytes) (b : ℕ) → suc (length ls) < n → checkLine language ls m bytes b ≡ checkLine language ls (beforeLine n m) bytes b
+    line-same : (st : State) (bytes : Bytes) (b : ℕ) → suc (length (st .earlier)) < n → checkLine language st m bytes b ≡ checkLine language st (beforeLine n m) bytes b
     unfolding checkLine store
-    line-same ls bytes b h = λ i.
-        (aside (readLine language ls (m .limit) bytes tt) >>= λ p.
-        ensure (room-same ls (p .line) h i) outOfSpace >>= λ _.
-        checkCategories language ls (m .limit) (p .line) >>= λ _.
+    line-same st bytes b h = λ i.
+        (aside (readLine language st (m .limit) bytes tt) >>= λ p.
+        ensure (room-same (st .earlier) (p .line) h i) outOfSpace >>= λ _.
+        checkCategories language (st .earlier) (m .limit) (p .line) >>= λ _.
         give p) b
+
+    piece-same : (st : State) (bytes : Bytes) (b : ℕ) → suc (length (st .earlier)) < n → checkPiece language st m bytes b ≡ checkPiece language st (beforeLine n m) bytes b
+    piece-same st bytes b h = at (kind-of bytes)
+      where
+        at : PieceKind bytes → checkPiece language st m bytes b ≡ checkPiece language st (beforeLine n m) bytes b
+        at (anOpening e) = rw (opening-checked language st m bytes e, opening-checked language st (beforeLine n m) bytes e)
+        at (aClosing e f) = rw (closing-checked language st m bytes e f, closing-checked language st (beforeLine n m) bytes e f)
+        at (ordinary o) = rw (ordinary-checked language st m bytes o, ordinary-checked language st (beforeLine n m) bytes o) (ap (andThen (λ p. give (passedLine p))) (line-same st bytes b h))
+
+    end-same : (k : Recorded) (b : ℕ) (os : List Opened) → atEnd language m k b os ≡ atEnd language (beforeLine n m) k b os
+    unfolding atEnd
+    end-same k b [] = refl
+    end-same k b (o ∷ os) = refl
+
+    -- behind a piece, of those that are left, no more lines than pieces
+    after-within : (k : Recorded) (at : ℕ) (p : PassedPiece) (more : ℕ) → length (k .recorded) + suc more < n → length (afterPiece k at p .recorded) + more < n
+    unfolding afterPiece oneMore elsewhere
+    after-within k at (passedLine p) more h = omega (arith, length-append (k .recorded) (p .line ∷ []))
+    after-within k at (movedTo place) more h = omega arith
 
     lines-same : (pieces : List Bytes) (k : Recorded) (at b : ℕ) → length (k .recorded) + length pieces < n
         → checkLines language m k at b pieces ≡ checkLines language (beforeLine n m) k at b pieces
-    unfolding checkLines oneMore
-    lines-same [] k at b h = refl
+    unfolding checkLines
+    lines-same [] k at b h = end-same k b (k .place .opened)
     lines-same (bytes ∷ more) k at b h =
-        rw (line-same (k .recorded) bytes b (omega arith), checkLines) (go (lines-same more) (checkLine language (k .recorded) (beforeLine n m) bytes b))
+        rw (piece-same (stateOf k) bytes b (omega arith), checkLines) (go (lines-same more) (checkPiece language (stateOf k) (beforeLine n m) bytes b))
       where
         go : ((k : Recorded) (at b : ℕ) → length (k .recorded) + length more < n → checkLines language m k at b more ≡ checkLines language (beforeLine n m) k at b more)
-            → (x : Answer ℕ Passed)
+            → (x : Answer ℕ PassedPiece)
             → _≡_ {A = Ending} (elim x as (λ _. Ending) [
-              | done p b′ ↦ checkLines language m (oneMore k at p) (at + length bytes) b′ more
+              | done p b′ ↦ checkLines language m (afterPiece k at p) (at + length bytes) b′ more
               | stop r b′ ↦ refusedAt r (suc (length (k .recorded))) (m .budget - b′) k
             ])
             (elim x as (λ _. Ending) [
-              | done p b′ ↦ checkLines language (beforeLine n m) (oneMore k at p) (at + length bytes) b′ more
+              | done p b′ ↦ checkLines language (beforeLine n m) (afterPiece k at p) (at + length bytes) b′ more
               | stop r b′ ↦ refusedAt r (suc (length (k .recorded))) (m .budget - b′) k
             ])
-        go f (done p b′) = f (oneMore k at p) (at + length bytes) b′ (omega (arith, length-append (k .recorded) (p .line ∷ [])))
+        go f (done p b′) = f (afterPiece k at p) (at + length bytes) b′ (after-within k at p (length more) h)
         go f (stop r b′) = refl
 
     few-same : (book : Bytes) → length (lines book) < n → run language book m ≡ run language book (beforeLine n m)

@@ -3,7 +3,6 @@ use mathlib.Core.Path.{_≡_, refl, sym, ap, ap₂, subst, _∙_}
 use mathlib.Core.List.{[], _++_, append-nil}
 use Prim.Native.Nat.{ℕ, suc, _+_, _-_, _≤_, _<_}
 use native.Mathlib.Omega.{arith}
-use native.Mathlib.Numerals.{add-one}
 use lib.ListN.{length, take, drop, length-drop, drop-of-length-le}
 use lib.Seq.{take-all}
 use Rattle.aut68.specs.Sizes.{textColumns, pageRow}
@@ -13,9 +12,9 @@ use Rattle.aut68.specs.Pages.{textOf, digit, numbered, blank, row, rows, rowCou
 use Rattle.headings.specs.Posts.{LineEnd}
 use Rattle.page_rows.specs.Posts.{TextLeft, RowPut}
 use Rattle.page_rows.proofs.PutLaws.{PutSoFar, put-start, put-more, put-all, put-fits}
-use Rattle.page_rows.proofs.TextLaws.{no-text}
+use Rattle.page_rows.proofs.TextLaws.{no-text, some-left}
 use Rattle.page_rows.proofs.RowLaws.{row-long, numbered-long}
-use Rattle.page_rows.proofs.CountLaws.{no-lines}
+use Rattle.page_rows.proofs.CountLaws.{Counted, no-lines}
 
 -- the rows of a line with this number
 abbrev lineRows : ℕ → Bytes → Bytes
@@ -62,11 +61,11 @@ module _ {line : Bytes} {number : ℕ} {old : Bytes} {at n to : ℕ} {page : Byt
 
   -- behind the next row less text is left
   pub less-left : {r : ℕ} {part : Bytes} → at < length line → RowPut line at n r part → length (textOf (drop r line)) < length (textOf (drop at line))
-  less-left l p = omega (arith, h .begins .some l, ap length (p .left .is), length-drop textColumns (textOf (drop at line)))
+  less-left l p = omega (arith, some-left (h .begins) l, ap length (p .left .is), length-drop textColumns (textOf (drop at line)))
 
   module _ (l : at < length line) (m : length (lineRows number line) ≤ length old) where
     left : PutSoFar (lineRows number line) old to page (firstRow n (textOf (drop at line)) ++ furtherRows (textOf (drop at line)))
-    left = rw (first-row (numbered n) (textOf (drop at line)) (h .begins .some l)) at (h .sofar)
+    left = rw (first-row (numbered n) (textOf (drop at line)) (some-left (h .begins) l)) at (h .sofar)
 
     first-long : length (firstRow n (textOf (drop at line))) ≡ pageRow
     first-long = row-long (numbered n) (textOf (drop at line)) (numbered-long n)
@@ -104,30 +103,29 @@ module _ {book old : Bytes} {at n to : ℕ} {page : Bytes} (h : PagesSoFar book 
   unfolding pagesFrom
   pages-end l = put-all (rw (no-lines book at l) at (h .sofar)) .1
 
-  module _ {r : ℕ} (l : at < length book) (e : LineEnd book at r) (m : length (pages book) ≤ length old) where
-    left-lines : PutSoFar (pages book) old to page (lineRows n (take (r - at) (drop at book)) ++ pagesFrom (n + 1) (lines (drop r book)))
-    unfolding pagesFrom
-    left-lines =
-        subst (PutSoFar (pages book) old to page)
-        (ap (pagesFrom n) (e .is l) ∙ ap (λ j. lineRows n (take (r - at) (drop at book)) ++ pagesFrom j (lines (drop r book))) (sym (add-one n))) (h .sofar)
+  module _ {r number next : ℕ} (l : at < length book) (e : LineEnd book at r) (m : length (pages book) ≤ length old)
+      (d : Counted (take (r - at) (drop at book)) n number next) where
+    left-lines : PutSoFar (pages book) old to page (lineRows number (take (r - at) (drop at book)) ++ pagesFrom next (lines (drop r book)))
+    left-lines = subst (PutSoFar (pages book) old to page) (ap (pagesFrom n) (e .is l) ∙ d .is (lines (drop r book))) (h .sofar)
 
     -- there is room for the next line
-    pub line-fits : to + length (lineRows n (take (r - at) (drop at book))) ≤ length page
-    line-fits = put-fits (lineRows n (take (r - at) (drop at book))) (pagesFrom (n + 1) (lines (drop r book))) left-lines m
+    pub line-fits : to + length (lineRows number (take (r - at) (drop at book))) ≤ length page
+    line-fits = put-fits (lineRows number (take (r - at) (drop at book))) (pagesFrom next (lines (drop r book))) left-lines m
 
     -- the next line is put
     pub pages-line : {more : ℕ} {part : Bytes}
-        → (more ≡ length (lineRows n (take (r - at) (drop at book)))) × (part ≡ over (lineRows n (take (r - at) (drop at book))) (take (length page - to) (drop to page)))
-        → PagesSoFar book old r (n + 1) (to + more) (take to page ++ (part ++ drop (length page - to) (drop to page)))
+        → (more ≡ length (lineRows number (take (r - at) (drop at book))))
+        × (part ≡ over (lineRows number (take (r - at) (drop at book))) (take (length page - to) (drop to page)))
+        → PagesSoFar book old r next (to + more) (take to page ++ (part ++ drop (length page - to) (drop to page)))
     pages-line {more} {part} p =
-        let first = lineRows n (take (r - at) (drop at book)) in
+        let first = lineRows number (take (r - at) (drop at book)) in
         let k = length page - to in
         let w : length (drop to page) ≤ k = omega (arith, length-drop to page) in
         record {
           within = e .within (h .within);
-          few = omega (arith, h .few, e .from l);
+          few = omega (arith, h .few, d .few, e .from l);
           sofar =
-              put-more first (pagesFrom (n + 1) (lines (drop r book))) left-lines (omega (arith, p .0)) (omega (arith, line-fits, h .sofar .long, p .0))
+              put-more first (pagesFrom next (lines (drop r book))) left-lines (omega (arith, p .0)) (omega (arith, line-fits, h .sofar .long, p .0))
               (ap (λ x. take to page ++ x)
               (ap₂ (λ x y. x ++ y) (p .1 ∙ ap (over first) (take-all k (drop to page) w)) (drop-of-length-le (drop to page) w) ∙ append-nil (over first (drop to page))));
         }

@@ -1,6 +1,6 @@
 -- Which bytes of a line are printed, one byte after the other.
 use mathlib.Core.Path.{_≡_, refl, sym, ap, _∙_}
-use mathlib.Core.Bool.{Bool, true, false, _&&_, not}
+use mathlib.Core.Bool.{Bool, true, false, _&&_, _||_, not}
 use mathlib.Core.List.{[], _∷_}
 use Prim.Native.Nat.{ℕ, _+_, _≤_, _<_}
 use native.Mathlib.Omega.{arith}
@@ -9,7 +9,7 @@ use lib.ListN.{length, getD, take, drop, set, drop-of-length-le}
 use lib.Seq.{take-all}
 use Rattle.aut68.specs.Bytes.{Bytes}
 use Rattle.aut68.specs.Procedure.Run.{over}
-use Rattle.aut68.specs.Pages.{without, textOf}
+use Rattle.aut68.specs.Pages.{without, textOf, beginsSigned}
 use Rattle.symbols.proofs.SymbolLaws.{step, ended}
 use Rattle.page_rows.specs.Posts.{textByte, TextLeft, TextPut}
 use Rattle.page_rows.proofs.PutLaws.{PutSoFar, put-start, put-byte, put-all}
@@ -50,11 +50,28 @@ no-text line i l = ap textOf (ended line i l)
 
 -- what is left begins at a byte that is printed
 pub left-at : {line text : Bytes} {i : ℕ} → i < length line → textByte (getD line i 0) ≡ true → textOf (drop i line) ≡ text → TextLeft line text i
-left-at {line} {text} {i} l t e = record { within = omega arith; is = e; some = λ _. omega (arith, ap length (sym e ∙ printed-at line i l t)) }
+left-at {line} {text} {i} l t e = record { within = omega arith; is = e; some = λ _. t }
 
 -- nothing is left
 pub left-none : {line text : Bytes} {i : ℕ} → i ≡ length line → textOf (drop i line) ≡ text → TextLeft line text i
 left-none e f = record { within = omega arith; is = f; some = λ l. absurd (omega arith) }
+
+module _ {line text : Bytes} {i : ℕ} (h : TextLeft line text i) (l : i < length line) where
+  -- the first byte that is left
+  first-left : text ≡ getD line i 0 ∷ textOf (drop (i + 1) line)
+  first-left = sym (h .is) ∙ printed-at line i l (h .some l)
+
+  pub some-left : 0 < length text
+  some-left = omega (arith, ap length first-left)
+
+  pub signed-left : beginsSigned text ≡ eqb (getD line i 0) 43 || eqb (getD line i 0) 45
+  unfolding beginsSigned
+  signed-left = ap beginsSigned first-left
+
+-- no sign is left at the end of a line
+pub none-left : {line text : Bytes} {i : ℕ} → TextLeft line text i → length line ≤ i → beginsSigned text ≡ false
+unfolding beginsSigned
+none-left {line} {text} {i} h l = ap beginsSigned (sym (h .is) ∙ no-text line i l)
 
 -- n bytes of the text of a line from `at` on are put in a part; what is left of it begins at i
 pub record TextSoFar (line : Bytes) (at : ℕ) (old : Bytes) (n i : ℕ) (new : Bytes) : Type 0 where

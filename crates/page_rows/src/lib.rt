@@ -8,7 +8,7 @@ ghost use Prim.Native.Nat.{_*_, _≤_, _<_};
 ghost use lib.ListN.{length, replicate};
 ghost use Rattle.aut68.specs.Sizes.{numberColumns, pageRow};
 ghost use Rattle.aut68.specs.Procedure.Run.{over};
-ghost use Rattle.aut68.specs.Pages.{textOf, digit, numbered, rowCount, textRows, pages};
+ghost use Rattle.aut68.specs.Pages.{textOf, digit, numbered, rowCount, textRows, beginsSigned, pages};
 ghost use Rattle.page_rows.specs.Posts.{textByte, TextLeft, TextPut, RowPut};
 
 // Columns 7 to 72 of a row begin here.
@@ -165,6 +165,21 @@ fn put_line(line: &[u8], number: usize, page: &mut [u8]) -> usize
     to
 }
 
+// Does the text of a line begin with `+` or `-`, as that of a paragraph line does (beginsSigned)?
+fn is_signed(line: &[u8]) -> bool
+    ensures { λ r. ⌜ r ≡ beginsSigned (textOf (now (line .entry))) ⌝ }
+{
+    let i = first_text(line);
+    if i >= line.len() {
+        return false;
+    }
+    let b = line[i];
+    if b == 43 {
+        return true;
+    }
+    b == 45
+}
+
 // The pages of a book, at the front of a store that has room for them.
 pub fn put_pages(book: &[u8], page: &mut [u8])
     requires { ⌜ length (pages (now book)) ≤ length (now page) ⌝ }
@@ -175,9 +190,15 @@ pub fn put_pages(book: &[u8], page: &mut [u8])
     let mut to = 0;
     while at < book.len() {
         let end = line_end(book, at);
-        let more = put_line(&book[at..end], n, &mut page[to..]);
+        // A paragraph line has no number, and is not counted.
+        let mut number = n;
+        if is_signed(&book[at..end]) {
+            number = 0;
+        } else {
+            n = n + 1;
+        }
+        let more = put_line(&book[at..end], number, &mut page[to..]);
         to = to + more;
         at = end;
-        n = n + 1;
     }
 }

@@ -1,4 +1,4 @@
--- Spaces dropped from a well-formed line never join two symbols.
+-- Spaces dropped from a well-formed line, ordinary or paragraph line, never join two symbols.
 use mathlib.Core.Path.{_≡_, refl, ap, ap₂, sym, _∙_}
 use mathlib.Core.Logic.{_≢_}
 use Prim.Native.Nat.{ℕ, _≤_}
@@ -11,16 +11,17 @@ use lib.ListN.{length}
 use borrow.Author.Tests.{eqb-true, eqb-false, ne-eqb}
 use Rattle.aut68.specs.Language.{Language}
 use Rattle.aut68.specs.Bytes.{Bytes, nameByte, onto, wordType, wordProp, wordPN, wordEB}
-use Rattle.aut68.specs.Source.{Src, Srcs, Middle, SourceLine}
+use Rattle.aut68.specs.Source.{Used, Src, Srcs, Middle, SourceLine}
 use Rattle.aut68.specs.Procedure.Parse.{starts, wordOf}
-use Rattle.aut68.specs.Rules.Grammar.{Spaces, noSpace, space, Symbol, NameBytes, noByte, oneMore, IsName, Expression, lone, call, Arguments, last, another}
-use Rattle.aut68.specs.Rules.Grammar.{IndicatorForm, MiddleForm, isEB, isPN, isMeaning, Place, WellFormed, line}
+use Rattle.aut68.specs.Rules.Grammar.{Spaces, noSpace, space, Symbol, NameBytes, noByte, oneMore, IsName, UsedForm, aPlain, aPointed, Expression, lone, call, Arguments, last, another}
+use Rattle.aut68.specs.Rules.Grammar.{IndicatorForm, MiddleForm, isEB, isPN, isMeaning, Position, WellFormed, line, SignLine, signLine, IsSign, plus, minus}
 use Rattle.aut68.specs.Rules.Grammar as G
 use Rattle.aut68.specs.Pages.{without}
 use Rattle.aut68.specs.Symbols.{together, symbolsIn}
 use Rattle.aut68.specs.Printing.{NeverJoined}
 use Rattle.reading.specs.Symbols.{run-name}
-use Rattle.reading.specs.Complete.{Mark, mark-60, mark-62, mark-91, mark-93, mark-44, mark-40, mark-41, mark-42, mark-58, mark-10, not-space}
+use Rattle.reading.specs.Complete.{Mark, mark-60, mark-62, mark-91, mark-93, mark-44, mark-40, mark-41, mark-42, mark-46, mark-58, mark-10, not-space}
+use Rattle.reading.specs.Signs.{sign-mark}
 use Rattle.paging.specs.Without.{without-same, without-other}
 
 -- ---- bytes
@@ -163,10 +164,14 @@ module _ (language : Language) where
   unfolding wordProp wordOf nameByte
   prop-apart s f p = word-apart (run-name wordProp) s f p
 
+  used-apart : {u : Used} {a b : Bytes} → UsedForm language u a b → NoName b → Apart b → Apart a
+  used-apart (aPlain n s) f p = name-apart n s f p
+  used-apart (aPointed n s t m r) f p = name-apart n s (mark-no-name mark-46 t) (mark-apart mark-46 refl t (name-apart m r f p))
+
   mutual
-    expression-apart : {place : Place} {x : Src} {a b : Bytes} → Expression language place x a b → NoName b → Apart b → Apart a
-    expression-apart (lone n s) f p = name-apart n s f p
-    expression-apart (call n s t r) f p = name-apart n s (mark-no-name mark-40 t) (mark-apart mark-40 refl t (arguments-apart r p))
+    expression-apart : {place : Position} {x : Src} {a b : Bytes} → Expression language place x a b → NoName b → Apart b → Apart a
+    expression-apart (lone n) f p = used-apart n f p
+    expression-apart (call n t r) f p = used-apart n (mark-no-name mark-40 t) (mark-apart mark-40 refl t (arguments-apart r p))
     expression-apart (G.application s e t g) f p =
         mark-apart mark-60 refl s (expression-apart e (mark-no-name mark-62 t) (mark-apart mark-62 refl t (expression-apart g f p)))
     expression-apart (G.abstraction s n t u e v g) f p =
@@ -179,9 +184,9 @@ module _ (language : Language) where
     arguments-apart (last e s) p = expression-apart e (mark-no-name mark-41 s) (mark-apart mark-41 refl s p)
     arguments-apart (another e s r) p = expression-apart e (mark-no-name mark-44 s) (mark-apart mark-44 refl s (arguments-apart r p))
 
-  indicator-apart : {o : Option Bytes} {a b : Bytes} → IndicatorForm language o a b → NoName b → Apart b → Apart a
+  indicator-apart : {o : Option Used} {a b : Bytes} → IndicatorForm language o a b → NoName b → Apart b → Apart a
   indicator-apart G.empty f p = p
-  indicator-apart (G.indicator n s) f p = name-apart n s f p
+  indicator-apart (G.indicator n) f p = used-apart n f p
 
   middle-apart : {m : Middle} {a b : Bytes} → MiddleForm language m a b → NoName b → Apart b → Apart a
   unfolding wordEB wordPN wordOf nameByte
@@ -195,28 +200,39 @@ module _ (language : Language) where
   word-no-equals noByte l s = absurd (omega arith)
   word-no-equals (oneMore {b = c} h n) l s = symbol-not-next (not-space h) (ne-eqb c 61 (λ e. false≢true (sym (ap nameByte e) ∙ h))) s
 
-  expression-no-equals : {place : Place} {x : Src} {a b : Bytes} → Expression language place x a b → NoEquals a
+  used-no-equals : {u : Used} {a b : Bytes} → UsedForm language u a b → NoEquals a
+  used-no-equals (aPlain n s) = word-no-equals (n .bytes) (n .atLeast) s
+  used-no-equals (aPointed n s t m r) = word-no-equals (n .bytes) (n .atLeast) s
+
+  expression-no-equals : {place : Position} {x : Src} {a b : Bytes} → Expression language place x a b → NoEquals a
   unfolding wordType wordProp
-  expression-no-equals (lone n s) = word-no-equals (n .bytes) (n .atLeast) s
-  expression-no-equals (call n s t r) = word-no-equals (n .bytes) (n .atLeast) s
+  expression-no-equals (lone n) = used-no-equals n
+  expression-no-equals (call n t r) = used-no-equals n
   expression-no-equals (G.application s e t g) = symbol-not-next (mark-60 .notSpace) refl s
   expression-no-equals (G.abstraction s n t u e v g) = symbol-not-next (mark-91 .notSpace) refl s
   expression-no-equals (G.isType s) = symbol-not-next (λ e. omega arith) refl s
   expression-no-equals (G.isProp x s) = symbol-not-next (λ e. omega arith) refl s
 
-  line-apart : {s : SourceLine} {bytes : Bytes} → WellFormed language s bytes → Apart bytes
+  end-apart : {a : Bytes} → Symbol (10 ∷ []) a [] → Apart a
   unfolding without
+  end-apart w = mark-apart mark-10 refl w (record { same = refl })
+
+  line-apart : {s : SourceLine} {bytes : Bytes} → WellFormed language s bytes → Apart bytes
   line-apart (line i t n u v x y z w) =
       indicator-apart i (mark-no-name mark-42 t) (mark-apart mark-42 refl t (name-apart n u (mark-no-name mark-58 v) (assign-apart v
-      (middle-apart x (mark-no-name mark-58 y) (colon y (expression-no-equals z) (expression-apart z (mark-no-name mark-10 w) (mark-apart mark-10 refl w nothing)))))))
+      (middle-apart x (mark-no-name mark-58 y) (colon y (expression-no-equals z) (expression-apart z (mark-no-name mark-10 w) (end-apart w)))))))
     where
-      nothing : Apart []
-      nothing = record { same = refl }
-
       colon : {a b : Bytes} → Symbol (58 ∷ []) a b → NoEquals b → Apart b → Apart a
       colon (G.symbol s) e p = spaces-apart s (colon-byte e p)
+
+  sign-line-apart : {sign : ℕ} {p bytes : Bytes} → IsSign sign → SignLine language sign p bytes → Apart bytes
+  sign-line-apart i (signLine s n t w) = mark-apart (sign-mark i) (not-colon i) s (name-apart n t (mark-no-name mark-10 w) (end-apart w))
+    where
+      not-colon : {sign : ℕ} → IsSign sign → eqb sign 58 ≡ false
+      not-colon plus = refl
+      not-colon minus = refl
 
 -- the symbols of a well-formed line are those that it has without spaces
 pub never-joined : NeverJoined
 unfolding NeverJoined
-never-joined language source bytes w = line-apart language w .same
+never-joined language bytes = (λ source w. line-apart language w .same, λ sign p i f. sign-line-apart language i f .same)

@@ -1,7 +1,7 @@
 -- Pages are cut into their rows, whatever lines they have.
 use mathlib.Core.Path.{_≡_, refl, ap, sym, _∙_}
 use mathlib.Core.Logic.{_≢_}
-use Prim.Native.Nat.{ℕ, zero, suc, _+_, _-_, _/_, _%_}
+use Prim.Native.Nat.{ℕ, zero, suc, _+_, _-_, _/_, _%_, _≤_}
 use native.Mathlib.Omega.{arith}
 use mathlib.Core.Bool.{Bool, true, false}
 use mathlib.Core.List.{List, [], _∷_, _++_, append-assoc}
@@ -10,8 +10,10 @@ use lib.ListN.{length, take, drop, replicate}
 use borrow.Author.Tests.{eqb-false}
 use Rattle.aut68.specs.Sizes.{numberColumns, textColumns}
 use Rattle.aut68.specs.Bytes.{Bytes, lines, joined}
-use Rattle.aut68.specs.Pages.{without, textOf, digit, numbered, blank, row, rows, rowCount, textRows, pagesFrom}
-use Rattle.reading.specs.Pieces.{Closed, end, byte, NoEnd, no-end-closed, Pieces, nothing, next, lines-of-pieces}
+use Rattle.aut68.specs.Pages.{without, textOf, digit, numbered, blank, row, rows, rowCount, textRows, beginsSigned, pagesFrom}
+use Rattle.lookup.specs.Lists.{Each}
+use Rattle.reading.specs.Symbols.{if-true, if-false}
+use Rattle.reading.specs.Pieces.{end, byte, Closed, NoEnd, each-ended, Pieces, nothing, next, lines-of-pieces}
 
 -- ---- bytes but 10
 
@@ -28,15 +30,23 @@ text-no-end : (l : Bytes) → NoEnd (textOf l)
 unfolding textOf
 text-no-end l = without-no-end (without 32 l)
 
-take-no-end : (n : ℕ) (w : Bytes) → NoEnd w → NoEnd (take n w)
-take-no-end zero w h = tt
-take-no-end (suc n) [] h = tt
-take-no-end (suc n) (x ∷ w) h = (h .0, take-no-end n w (h .1))
+module _ (P : ℕ → Type 0) where
+  pub take-each : (n : ℕ) (w : Bytes) → Each P w → Each P (take n w)
+  take-each zero w h = tt
+  take-each (suc n) [] h = tt
+  take-each (suc n) (x ∷ w) h = (h .0, take-each n w (h .1))
 
-drop-no-end : (n : ℕ) (w : Bytes) → NoEnd w → NoEnd (drop n w)
-drop-no-end zero w h = h
-drop-no-end (suc n) [] h = tt
-drop-no-end (suc n) (x ∷ w) h = drop-no-end n w (h .1)
+  pub drop-each : (n : ℕ) (w : Bytes) → Each P w → Each P (drop n w)
+  drop-each zero w h = h
+  drop-each (suc n) [] h = tt
+  drop-each (suc n) (x ∷ w) h = drop-each n w (h .1)
+
+  -- no byte is left
+  pub drop-none : (n : ℕ) (w : Bytes) → length w ≤ n → Each P (drop n w)
+  drop-none zero [] l = tt
+  drop-none zero (x ∷ w) l = absurd (omega arith)
+  drop-none (suc n) [] l = tt
+  drop-none (suc n) (x ∷ w) l = drop-none n w (omega arith)
 
 spaces-no-end : (n : ℕ) → NoEnd (replicate n 32)
 spaces-no-end zero = tt
@@ -64,7 +74,7 @@ row-closed : (front text : Bytes) → NoEnd front → NoEnd text → Closed (row
 unfolding row
 row-closed front text f t =
     let n = textColumns - length text in
-    no-end-closed front f (byte (λ e. omega arith) (no-end-closed text t (no-end-closed (replicate n 32) (spaces-no-end n) end)))
+    each-ended front f (byte (λ e. omega arith) (each-ended text t (each-ended (replicate n 32) (spaces-no-end n) end)))
 
 -- k rows of a text, the first with this front
 unfoldable pub rowsOf : ℕ → Bytes → Bytes → List Bytes
@@ -74,7 +84,20 @@ rowsOf (suc k) front text = row front (take textColumns text) ∷ rowsOf k blank
 -- the rows of the lines from number n on
 unfoldable pub pageRows : ℕ → List Bytes → List Bytes
 pageRows n [] = []
-pageRows n (l ∷ ls) = rowsOf (rowCount (textOf l)) (numbered n) (textOf l) ++ pageRows (suc n) ls
+pageRows n (l ∷ ls) =
+    elim (beginsSigned (textOf l)) [
+      | true ↦ rowsOf (rowCount (textOf l)) blank (textOf l) ++ pageRows n ls
+      | false ↦ rowsOf (rowCount (textOf l)) (numbered n) (textOf l) ++ pageRows (suc n) ls
+    ]
+
+-- a paragraph line first, an ordinary line first
+pub rows-of-sign : (n : ℕ) (l : Bytes) (ls : List Bytes) → beginsSigned (textOf l) ≡ true → pageRows n (l ∷ ls) ≡ rowsOf (rowCount (textOf l)) blank (textOf l) ++ pageRows n ls
+unfolding pageRows
+rows-of-sign n l ls e = if-true _ _ e
+
+pub rows-of-line : (n : ℕ) (l : Bytes) (ls : List Bytes) → beginsSigned (textOf l) ≡ false → pageRows n (l ∷ ls) ≡ rowsOf (rowCount (textOf l)) (numbered n) (textOf l) ++ pageRows (suc n) ls
+unfolding pageRows
+rows-of-line n l ls e = if-false _ _ e
 
 rows-joined : (k : ℕ) (front text : Bytes) (rest : List Bytes) → joined (rowsOf k front text ++ rest) ≡ rows k front text ++ joined rest
 unfolding rowsOf rows joined
@@ -86,21 +109,39 @@ rows-joined (suc k) front text rest =
 page-joined : (n : ℕ) (ls : List Bytes) → joined (pageRows n ls) ≡ pagesFrom n ls
 unfolding pageRows pagesFrom textRows joined
 page-joined n [] = refl
-page-joined n (l ∷ ls) =
-    let t = textOf l in
-    rows-joined (rowCount t) (numbered n) t (pageRows (suc n) ls) ∙ ap (λ (x : Bytes). rows (rowCount t) (numbered n) t ++ x) (page-joined (suc n) ls)
+page-joined n (l ∷ ls) = at (beginsSigned (textOf l)) (page-joined n ls) (page-joined (suc n) ls)
+  where
+    t : Bytes
+    t = textOf l
+
+    one : (front : Bytes) (rest : List Bytes) {page : Bytes} → joined rest ≡ page → joined (rowsOf (rowCount t) front t ++ rest) ≡ rows (rowCount t) front t ++ page
+    one front rest e = rows-joined (rowCount t) front t rest ∙ ap (λ (x : Bytes). rows (rowCount t) front t ++ x) e
+
+    at : (s : Bool) → joined (pageRows n ls) ≡ pagesFrom n ls → joined (pageRows (suc n) ls) ≡ pagesFrom (suc n) ls
+        → joined (elim s as (λ _. List Bytes) [ true ↦ rowsOf (rowCount t) blank t ++ pageRows n ls | false ↦ rowsOf (rowCount t) (numbered n) t ++ pageRows (suc n) ls ])
+        ≡ elim s as (λ _. Bytes) [ true ↦ rows (rowCount t) blank t ++ pagesFrom n ls | false ↦ rows (rowCount t) (numbered n) t ++ pagesFrom (suc n) ls ]
+    at true e f = one blank (pageRows n ls) e
+    at false e f = one (numbered n) (pageRows (suc n) ls) f
 
 rows-pieces : (k : ℕ) (front text : Bytes) {rest : List Bytes} → NoEnd front → NoEnd text → Pieces rest → Pieces (rowsOf k front text ++ rest)
 unfolding rowsOf
 rows-pieces zero front text f t p = p
 rows-pieces (suc k) front text f t p =
-    next (row-closed front (take textColumns text) f (take-no-end textColumns text t))
-    (rows-pieces k blank (drop textColumns text) blank-no-end (drop-no-end textColumns text t) p)
+    next (row-closed front (take textColumns text) f (take-each _ textColumns text t))
+    (rows-pieces k blank (drop textColumns text) blank-no-end (drop-each _ textColumns text t) p)
 
 page-pieces : (n : ℕ) (ls : List Bytes) → Pieces (pageRows n ls)
 unfolding pageRows
 page-pieces n [] = nothing
-page-pieces n (l ∷ ls) = rows-pieces (rowCount (textOf l)) (numbered n) (textOf l) (numbered-no-end n) (text-no-end l) (page-pieces (suc n) ls)
+page-pieces n (l ∷ ls) = at (beginsSigned (textOf l)) (page-pieces n ls) (page-pieces (suc n) ls)
+  where
+    at : (s : Bool) → Pieces (pageRows n ls) → Pieces (pageRows (suc n) ls)
+        → Pieces (elim s as (λ _. List Bytes) [
+          | true ↦ rowsOf (rowCount (textOf l)) blank (textOf l) ++ pageRows n ls
+          | false ↦ rowsOf (rowCount (textOf l)) (numbered n) (textOf l) ++ pageRows (suc n) ls
+        ])
+    at true p q = rows-pieces (rowCount (textOf l)) blank (textOf l) blank-no-end (text-no-end l) p
+    at false p q = rows-pieces (rowCount (textOf l)) (numbered n) (textOf l) (numbered-no-end n) (text-no-end l) q
 
 -- a page is cut into its rows
 pub page-lines : (n : ℕ) (ls : List Bytes) → lines (pagesFrom n ls) ≡ pageRows n ls

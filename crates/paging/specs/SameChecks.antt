@@ -1,21 +1,30 @@
--- A line is checked alike without its spaces: the same steps, the same line recorded; its identifier begins elsewhere.
-use mathlib.Core.Path.{_≡_, ap}
+-- A piece that passes, passes without its spaces: the same steps, the same line recorded, whose identifier begins elsewhere, or the same
+-- place.
+use mathlib.Core.Path.{_≡_, refl, ap, _∙_}
+use mathlib.Core.Bool.{Bool, true, false}
+use mathlib.Core.List.{[], _∷_}
 use Prim.Native.Nat.{ℕ}
+use lib.Dec.{eqb}
 use lib.ListN.{length}
 use Rattle.aut68.specs.Language.{Language}
 use Rattle.aut68.specs.Stores.{Limits}
 use Rattle.aut68.specs.Bytes.{Bytes}
-use Rattle.aut68.specs.Lines.{Lines}
+use Rattle.aut68.specs.Paragraphs.{Place, State}
 use Rattle.aut68.specs.Procedure.Answer.{Act, Answer, done, stop, andThen, Refusal, aside}
-use Rattle.aut68.specs.Procedure.Parse.{Placed, aLine}
+use Rattle.aut68.specs.Procedure.Parse.{Placed, spaces, starts, aLine, aSignLine, signed}
 use Rattle.aut68.specs.Procedure.CheckLine.{Passed, readLine, checkLine}
+use Rattle.aut68.specs.Procedure.CheckPiece.{checkOpening, checkClosing, PassedPiece, passedLine, movedTo, checkPiece}
+use Rattle.aut68.specs.Rules.Grammar.{IsSign, plus, minus}
 use Rattle.aut68.specs.Pages.{without}
 use Rattle.aut68.specs.Printing.{SameReading}
-use Rattle.lookup.specs.Answers.{done-value, done-rest, stop≢done}
+use Rattle.lookup.specs.Answers.{done-value, done-rest, stop≢done, after, aside-done, done-then}
 use Rattle.reading.specs.Sound.{parse-sound}
 use Rattle.reading.specs.Whole.{parse-fits}
+use Rattle.reading.specs.Signs.{sign-sound, sign-complete}
+use Rattle.reading.specs.PieceStages.{PassedBy, openingPassed, closingPassed, linePassed, piece-passed, check-opening, check-closing, check-line}
 use Rattle.reading.specs.Stages.{passed-read}
 use Rattle.paging.specs.SameReading.{same-reading}
+use Rattle.paging.specs.PaddedLines.{HasForm, asLine, asSign}
 
 -- ---- answers that differ in a place
 
@@ -46,28 +55,93 @@ moved-done : {S : Type 0} {k : ℕ} {x y : Answer S Passed} {p : Passed} {s : S}
 moved-done {k = k} movedDone e = λ i. done (record { before = k; line = done-value e i .line }) (done-rest e i)
 moved-done movedStop e = absurd (stop≢done e)
 
--- ---- lines
+-- ---- pieces
 
-module _ (language : Language) (ls : Lines) where
+-- The second piece that passed is the first, but for the place of an identifier.
+pub data SamePiece : PassedPiece → PassedPiece → Type 0 where
+  sameLine : {p : Passed} (k : ℕ) → SamePiece (passedLine p) (passedLine (record { before = k; line = p .line }))
+  samePlace : {at : Place} → SamePiece (movedTo at) (movedTo at)
+
+-- The kind of a line does not hang on its spaces.
+signed-without : (s : ℕ) (bytes : Bytes) → signed s (without 32 bytes) ≡ signed s bytes
+unfolding signed starts spaces without
+signed-without s [] = refl
+signed-without s (b ∷ bytes) = go (eqb b 32) refl (signed-without s bytes)
+  where
+    go : (t : Bool) → eqb b 32 ≡ t → starts (eqb s) (spaces (without 32 bytes)) ≡ starts (eqb s) (spaces bytes)
+        → starts (eqb s) (spaces (elim t as (λ _. Bytes) [ true ↦ without 32 bytes | false ↦ b ∷ without 32 bytes ])) ≡ starts (eqb s) (elim t as (λ _. Bytes) [ true ↦ spaces bytes | false ↦ b ∷ bytes ])
+    go true e h = h
+    go false e h = rw (e, spaces) refl
+
+module _ (language : Language) (st : State) (m : Limits) where
+  -- ---- ordinary lines
+
   -- bytes with one source
   module _ (bytes other : Bytes) {r : Placed} {k : ℕ} {rest rest′ : Bytes}
       (e : aLine language (length bytes) bytes ≡ done r rest) (f : aLine language (length other) other ≡ done (record { before = k; line = r .line }) rest′) where
-    read-moved : (L : ℕ) → Moved k (readLine language ls L bytes tt) (readLine language ls L other tt)
+    read-moved : (L : ℕ) → Moved k (readLine language st L bytes tt) (readLine language st L other tt)
     unfolding readLine aside
     read-moved L =
         moved-from _ _ (ap (λ x. aside x tt) e) (ap (λ x. aside x tt) f)
         (moved-then _ λ v _. moved-then _ λ _ _. moved-then _ λ m _. moved-then _ λ c _. moved-then _ λ _ _. moved-then _ λ _ _. movedDone)
 
-    check-moved : (m : Limits) (b : ℕ) → Moved k (checkLine language ls m bytes b) (checkLine language ls m other b)
+    check-moved : (b : ℕ) → Moved k (checkLine language st m bytes b) (checkLine language st m other b)
     unfolding checkLine
-    check-moved m b = moved-aside _ b (read-moved (m .limit)) (λ p s. moved-then _ λ _ _. moved-then _ λ _ _. movedDone)
+    check-moved b = moved-aside _ b (read-moved (m .limit)) (λ p s. moved-then _ λ _ _. moved-then _ λ _ _. movedDone)
 
-  -- a line that passes, passes without its spaces
-  pub passes-without : (m : Limits) (bytes : Bytes) (b : ℕ) {p : Passed} {b′ : ℕ} → checkLine language ls m bytes b ≡ done p b′
-      → (k : ℕ) × (checkLine language ls m (without 32 bytes) b ≡ done (record { before = k; line = p .line }) b′)
-  unfolding SameReading
-  passes-without m bytes b h =
-      let (r, rest, e) = passed-read language ls m bytes b h in
-      let (_, w, d) = parse-sound language (length bytes) bytes e in
-      let (k, f) = parse-fits language (length (without 32 bytes)) (same-reading language (r .line) bytes w) d in
-      (k, moved-done (check-moved bytes (without 32 bytes) e f m b) h)
+  module _ (bytes : Bytes) (b : ℕ) where
+    line-passes : {p : Passed} {b′ : ℕ} → checkLine language st m bytes b ≡ done p b′
+        → HasForm language bytes × (k : ℕ) × (checkLine language st m (without 32 bytes) b ≡ done (record { before = k; line = p .line }) b′)
+    unfolding SameReading
+    line-passes h =
+        let (r, rest, e) = passed-read language st m bytes b h in
+        let (_, w, d) = parse-sound language (length bytes) bytes e in
+        let (k, f) = parse-fits language (length (without 32 bytes)) (same-reading language bytes .0 (r .line) w) d in
+        (asLine w, k, moved-done (check-moved bytes (without 32 bytes) e f b) h)
+
+    -- ---- paragraph lines
+
+    -- whatever is done with the name
+    sign-passes : {sign : ℕ} → IsSign sign → (f : Bytes → Act ℕ Place) {at : Place} {b′ : ℕ} → andThen f (aside (aSignLine language sign bytes) b) ≡ done at b′
+        → HasForm language bytes × (andThen f (aside (aSignLine language sign (without 32 bytes)) b) ≡ done at b′)
+    unfolding SameReading aside
+    sign-passes {sign} i f h =
+        after _ _ h λ p b₁ e₁ h₁.
+        aside-done (aSignLine language sign bytes) e₁ λ rest g q.
+        let s = sign-sound language sign bytes g in
+        let k = sign-complete language i (same-reading language bytes .1 sign p i s) in
+        (asSign i s, done-then f (ap (λ x. aside x b) k ∙ ap (done p) q) h₁)
+
+    -- ---- any piece
+
+    -- A piece that passed: it is well formed, and passes without its spaces.
+    pub record PassesAlike (p : PassedPiece) (b′ : ℕ) : Type 0 where
+      pub form : HasForm language bytes
+      pub piece : PassedPiece
+      pub same : SamePiece p piece
+      pub passes : checkPiece language st m (without 32 bytes) b ≡ done piece b′
+
+    pub passes-without : {p : PassedPiece} {b′ : ℕ} → checkPiece language st m bytes b ≡ done p b′ → PassesAlike p b′
+    unfolding checkOpening checkClosing
+    passes-without h = at (piece-passed language st m bytes b h)
+      where
+        at : {p : PassedPiece} {b′ : ℕ} → PassedBy language st m bytes b p b′ → PassesAlike p b′
+        at (openingPassed {at = place} e h) =
+            let (f, o) = sign-passes plus _ h in
+            record { form = f; piece = movedTo place; same = samePlace; passes = check-opening language st m (without 32 bytes) b (signed-without 43 bytes ∙ e) ∙ done-then _ o refl }
+        at (closingPassed {at = place} e g h) =
+            let (f, o) = sign-passes minus _ h in
+            record {
+              form = f;
+              piece = movedTo place;
+              same = samePlace;
+              passes = check-closing language st m (without 32 bytes) b (signed-without 43 bytes ∙ e) (signed-without 45 bytes ∙ g) ∙ done-then _ o refl;
+            }
+        at (linePassed {p} e g h) =
+            let (f, k, o) = line-passes h in
+            record {
+              form = f;
+              piece = passedLine (record { before = k; line = p .line });
+              same = sameLine k;
+              passes = check-line language st m (without 32 bytes) b (signed-without 43 bytes ∙ e) (signed-without 45 bytes ∙ g) ∙ done-then _ o refl;
+            }

@@ -4,7 +4,7 @@ ghost use Rattle.io.specs.Counts.{Counts};
 // The most bytes and lines of a book, the cells of its term store and of its index, the budget, the limit.
 pub const BYTES: usize = 65536;
 
-pub const LINES: usize = 2048;
+pub const LINES: usize = 1820;
 
 pub const TERMS: usize = 16384;
 

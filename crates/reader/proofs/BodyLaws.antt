@@ -2,21 +2,22 @@
 use mathlib.Core.Path.{_≡_, refl, sym, ap, _∙_}
 use mathlib.Core.Logic.{_≢_, _⊎_, inl, inr}
 use mathlib.Core.Bool.{Bool, true, false}
-use mathlib.Core.List.{List, [], _∷_}
+use mathlib.Core.List.{List}
 use Prim.Native.Nat.{ℕ, _-_, _≤_, _<_}
 use native.Mathlib.Omega.{arith}
-use lib.ListN.{length, drop, length-drop, drop-of-length-le}
+use lib.ListN.{length, drop, length-drop}
 use lib.Dec.{leb}
 use borrow.Author.Tests.{leb-true, leb-false}
-use Rattle.aut68.specs.Bytes.{Bytes, nameByte}
-use Rattle.aut68.specs.Lines.{Lines}
-use Rattle.aut68.specs.Procedure.Answer.{done, stop, andThen, malformed}
+use Rattle.aut68.specs.Bytes.{nameByte}
+use Rattle.aut68.specs.Paragraphs.{State}
+use Rattle.aut68.specs.Procedure.Answer.{andThen}
 use Rattle.aut68.specs.Procedure.Parse.{Read, symbol, lineEnd}
 use Rattle.kinds.specs.Kinds.{KindsTable, kindOf, placeOr0}
 use Rattle.symbols.specs.Symbols.{PastSymbol}
 use Rattle.headings.specs.ReadLine.{afterHeading}
-use Rattle.names.specs.Hints.{slots}
-use Rattle.names.specs.HintLaws.{hinted-same}
+use Rattle.headings.proofs.LineEndLaws.{line-ends, line-goes-on}
+use Rattle.notes.specs.Note.{noteEnd}
+use Rattle.notes.specs.NoteLaws.{state-noted-same}
 use Rattle.meanings.specs.NotedContext.{context-noted-same}
 use Rattle.expressions.specs.declared.parts.Reading.{Reading}
 use Rattle.expressions.specs.Walk.{ReadTo, passed}
@@ -39,24 +40,15 @@ decide a b = split (leb a b) refl
     split true e = inl (leb-true a b e)
     split false e = inr (leb-false a b e)
 
-line-ends : (s : Bytes) (at : ℕ) → length s ≤ at → lineEnd (drop at s) ≡ done tt (drop at s)
-unfolding lineEnd
-line-ends s at l = let e = drop-of-length-le s l in ap lineEnd e ∙ ap (done tt) (sym e)
-
-line-goes-on : (bs : Bytes) → length bs ≢ 0 → lineEnd bs ≡ stop malformed bs
-unfolding lineEnd
-line-goes-on [] n = absurd (n refl)
-line-goes-on (b ∷ bs) n = refl
-
 module _ {ks s book tb : List ℕ} {lines indicator : ℕ} {w w₁ : List ℕ} {at to kind : ℕ} {m : Reading} (M : MiddleRead ks s book tb lines indicator w w₁ at to kind m) where
   -- behind the middle, names are looked up in the same
-  lookup-on : {ls : Lines} → Lookup ls ks s book tb lines indicator w to → Lookup ls ks s book tb lines indicator w₁ (m .to)
+  lookup-on : {st : State} → Lookup st ks s book tb lines indicator w to → Lookup st ks s book tb lines indicator w₁ (m .to)
   lookup-on k =
       record {
         table = k .table;
         known = k .known;
-        hinted = hinted-same to (k .below) (M .below .long) (M .below .is) (k .hinted);
-        below = omega (arith, k .below, M .up, ap slots (M .below .long));
+        noted = state-noted-same to (k .below) (M .below .long) (M .below .is) (k .noted);
+        below = omega (arith, k .below, M .up, ap noteEnd (M .below .long));
         context = context-noted-same to (k .above) (M .below .long) (M .below .is) (k .context);
         above = omega (arith, k .above, M .up, M .below .long);
         earlier = k .earlier;
@@ -66,7 +58,7 @@ module _ {ks s book tb : List ℕ} {lines indicator : ℕ} {w w₁ : List ℕ} {
   pub body-middle-refused : m .code ≢ 0 → BodyRead ks s book tb lines indicator w w₁ at to kind m
   unfolding afterHeading
   body-middle-refused n =
-      record { below = M .below; upward = λ z. absurd (n z); read = λ ls k h i before name. then-refused _ n (M .read ls k h) }
+      record { below = M .below; upward = λ z. absurd (n z); read = λ st k h i before name. then-refused _ n (M .read st k h) }
 
   module _ (z : m .code ≡ 0) {colon : ℕ} (p : PastSymbol ks s (m .at) 5 colon) where
     pub body-no-colon : {r′ : Reading} {place end : ℕ} → length s < colon → Refusing 3 place end r′ → BodyRead ks s book tb lines indicator w w₁ at to kind r′
@@ -75,8 +67,8 @@ module _ {ks s book tb : List ℕ} {lines indicator : ℕ} {w w₁ : List ℕ} {
         record {
           below = M .below;
           upward = λ y. absurd (omega (arith, h .codeIs));
-          read = λ ls k g i before name.
-              then-passed _ z (M .read ls k g) (λ x X.
+          read = λ st k g i before name.
+              then-passed _ z (M .read st k g) (λ x X.
               then-stop _ (p .missing (k .table) 58 (body-kinds .0) (omega arith) l) (h .codeIs ∙ sym code-malformed));
         }
 
@@ -87,9 +79,9 @@ module _ {ks s book tb : List ℕ} {lines indicator : ℕ} {w w₁ : List ℕ} {
           record {
             below = below-then (M .below) (M .up) (C .onward .below);
             upward = λ y. absurd (n y);
-            read = λ ls k g i before name.
-                then-passed _ z (M .read ls k g) (λ x X.
-                then-done _ (p .read (k .table) 58 (body-kinds .0) (omega arith) o) (then-refused _ n (C .read ls (lookup-on k))));
+            read = λ st k g i before name.
+                then-passed _ z (M .read st k g) (λ x X.
+                then-done _ (p .read (k .table) 58 (body-kinds .0) (omega arith) o) (then-refused _ n (C .read st (lookup-on k))));
           }
 
       module _ (y : c .code ≡ 0) {next : ℕ} (q : PastSymbol ks s (c .at) 13 next) where
@@ -99,10 +91,10 @@ module _ {ks s book tb : List ℕ} {lines indicator : ℕ} {w w₁ : List ℕ} {
             record {
               below = below-then (M .below) (M .up) (C .onward .below);
               upward = λ x. absurd (omega (arith, h .codeIs));
-              read = λ ls k g i before name.
-                  then-passed _ z (M .read ls k g) (λ x X.
+              read = λ st k g i before name.
+                  then-passed _ z (M .read st k g) (λ x X.
                   then-done _ (p .read (k .table) 58 (body-kinds .0) (omega arith) o)
-                  (then-passed _ y (C .read ls (lookup-on k)) (λ d D.
+                  (then-passed _ y (C .read st (lookup-on k)) (λ d D.
                   ends _ (k .table) (decide next (length s)))));
             }
           where
@@ -120,10 +112,10 @@ module _ {ks s book tb : List ℕ} {lines indicator : ℕ} {w w₁ : List ℕ} {
             record {
               below = below-then (M .below) (M .up) (C .onward .below);
               upward = λ x. (M .up, C .onward .up);
-              read = λ ls k g i before name.
-                  then-passed _ z (M .read ls k g) (λ x X.
+              read = λ st k g i before name.
+                  then-passed _ z (M .read st k g) (λ x X.
                   then-done _ (p .read (k .table) 58 (body-kinds .0) (omega arith) o)
-                  (then-passed _ y (C .read ls (lookup-on k)) (λ d D.
+                  (then-passed _ y (C .read st (lookup-on k)) (λ d D.
                   then-done _ (q .read (k .table) 10 (body-kinds .1) (omega arith) (omega arith))
                   (then-done _ (line-ends s next (omega arith))
                   (passed refl refl

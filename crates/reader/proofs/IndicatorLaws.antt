@@ -1,87 +1,95 @@
 -- The indicator's line.
-use mathlib.Core.Path.{_≡_, refl, sym, ap, _∙_, subst}
+use mathlib.Core.Path.{_≡_, refl, sym, ap, ap₂, _∙_, subst}
 use mathlib.Core.Logic.{_≢_}
-use mathlib.Core.Option.{none, some}
+use mathlib.Core.Option.{Option, none, some}
 use mathlib.Core.List.{List}
 use Prim.Native.Nat.{ℕ, _+_, _-_, _≤_}
 use native.Mathlib.Omega.{arith}
 use lib.ListN.{length, drop, take}
-use lib.Seq.{slice, length-slice}
+use lib.Seq.{length-slice}
 use Rattle.aut68.specs.Bytes.{Bytes}
-use Rattle.aut68.specs.Lines.{Line, Lines, Kind, variable, primitive, abbreviation, lineOf, numberOf, kindNumber, rowCell}
+use Rattle.aut68.specs.Source.{Used}
+use Rattle.aut68.specs.Lines.{Line, Kind, variable, primitive, abbreviation, lineOf, kindNumber, rowCell}
+use Rattle.aut68.specs.Paragraphs.{State}
 use Rattle.aut68.specs.Procedure.Answer.{unknownName}
+use Rattle.aut68.specs.Procedure.Lookup.{numberOf}
 use Rattle.aut68.specs.Procedure.Resolve.{found, refused, indicatorLine}
 use Rattle.aut68.specs.Sizes.{lineLimit, atKind}
 use Rattle.lookup.specs.LineNumbers.{line-lineOf}
+use Rattle.kinds.specs.Kinds.{KindsTable}
+use Rattle.symbols.specs.Symbols.{usedIn, usedBy}
 use Rattle.symbols.proofs.SymbolLaws.{part}
-use Rattle.headings.specs.ReadLine.{nameOr}
-use Rattle.headings.proofs.HeadLaws.{name-none, name-some}
+use Rattle.symbols.proofs.UsedLaws.{used-by}
+use Rattle.headings.specs.ReadLine.{usedOr}
+use Rattle.headings.proofs.HeadLaws.{used-none, used-some}
 use Rattle.names.specs.Known.{Known}
-use Rattle.names.specs.Hints.{Hinted}
-use Rattle.names.specs.Posts.{LineFound}
+use Rattle.names.specs.Posts.{numberOr}
 use Rattle.names.proofs.FindLaws.{lineAt}
+use Rattle.notes.specs.Note.{StateNoted}
+use Rattle.paragraphs.specs.Posts.{UsedFound}
 use Rattle.meanings.proofs.MeaningLaws.{option-none, option-some, number-positive}
 use Rattle.reader.specs.Posts.{IndicatorFound, isLine, noLine}
 
-indicator-none : (ls : Lines) → indicatorLine ls none tt ≡ found 0
+indicator-none : (st : State) → indicatorLine st none tt ≡ found 0
 unfolding indicatorLine
-indicator-none ls = refl
+indicator-none st = refl
 
-indicator-nowhere : (ls : Lines) (w : Bytes) → numberOf w ls ≡ none → indicatorLine ls (some w) tt ≡ refused unknownName
+indicator-nowhere : (st : State) (u : Used) → numberOf st u ≡ none → indicatorLine st (some u) tt ≡ refused unknownName
 unfolding indicatorLine
-indicator-nowhere ls w e = rw (e, indicatorLine)
+indicator-nowhere st u e = rw (e, indicatorLine)
 
-indicator-constant : (ls : Lines) (w : Bytes) (v : ℕ) (k : Kind) → numberOf w ls ≡ some v → lineOf ls v .kind ≡ k → kindNumber k ≢ 0
-    → indicatorLine ls (some w) tt ≡ refused unknownName
+indicator-constant : (st : State) (u : Used) (v : ℕ) (k : Kind) → numberOf st u ≡ some v → lineOf (st .earlier) v .kind ≡ k → kindNumber k ≢ 0
+    → indicatorLine st (some u) tt ≡ refused unknownName
 unfolding indicatorLine kindNumber
-indicator-constant ls w v variable e f n = absurd (n refl)
-indicator-constant ls w v primitive e f n = rw (e, f, indicatorLine)
-indicator-constant ls w v (abbreviation m) e f n = rw (e, f, indicatorLine)
+indicator-constant st u v variable e f n = absurd (n refl)
+indicator-constant st u v primitive e f n = rw (e, f, indicatorLine)
+indicator-constant st u v (abbreviation m) e f n = rw (e, f, indicatorLine)
 
-indicator-variable : (ls : Lines) (w : Bytes) (v : ℕ) (k : Kind) → numberOf w ls ≡ some v → lineOf ls v .kind ≡ k → kindNumber k ≡ 0 → indicatorLine ls (some w) tt ≡ found v
+indicator-variable : (st : State) (u : Used) (v : ℕ) (k : Kind) → numberOf st u ≡ some v → lineOf (st .earlier) v .kind ≡ k → kindNumber k ≡ 0
+    → indicatorLine st (some u) tt ≡ found v
 unfolding indicatorLine kindNumber
-indicator-variable ls w v variable e f n = rw (e, f, indicatorLine)
-indicator-variable ls w v primitive e f n = absurd (omega arith)
-indicator-variable ls w v (abbreviation m) e f n = absurd (omega arith)
+indicator-variable st u v variable e f n = rw (e, f, indicatorLine)
+indicator-variable st u v primitive e f n = absurd (omega arith)
+indicator-variable st u v (abbreviation m) e f n = absurd (omega arith)
 
-looked-up : (s : Bytes) (start len : ℕ) → len ≢ 0 → start + len ≤ length s
-    → (take (start + len - start) (drop start s) ≡ slice start (start + len) s) × (1 ≤ length (take (start + len - start) (drop start s)))
-looked-up s start len n i =
-    let e = part s start (start + len) (omega arith) in
-    (e, omega (arith, ap length e, length-slice start (start + len) s i))
+-- r is the line of the indicator o
+abbrev Indicated : List ℕ → List ℕ → List ℕ → ℕ → List ℕ → Option Used → ℕ → Type 0
+Indicated ks book tb lines w o r =
+    (st : State) → KindsTable ks → Known (st .earlier) book tb lines → StateNoted st book tb lines w → IndicatorFound lines r (indicatorLine st o tt)
 
-number-is : (s : Bytes) (start len : ℕ) {book tb w : List ℕ} {lines v : ℕ} {ls : Lines} → len ≢ 0 → start + len ≤ length s
-    → LineFound book tb lines w (take (start + len - start) (drop start s)) v → v ≢ 0 → Known ls book tb lines → Hinted book tb lines w
-    → numberOf (slice start (start + len) s) ls ≡ some v
-number-is s start len {ls = ls} n i L m k H =
-    let (e, l) = looked-up s start len n i in
-    ap (λ w. numberOf w ls) (sym e) ∙ option-some 0 (numberOf (take (start + len - start) (drop start s)) ls) (L .is ls k H l) m
+module _ (s : Bytes) (title size start len : ℕ) {ks book tb w : List ℕ} {lines : ℕ} where
+  pub indicator-empty : len ≡ 0 → Indicated ks book tb lines w (usedOr s title size start len) 0
+  indicator-empty e st t k g =
+      subst (λ f. IndicatorFound lines 0 f) (sym (ap (λ o. indicatorLine st o tt) (used-none s title size start len e) ∙ indicator-none st)) (isLine refl (omega arith))
 
-module _ (s : Bytes) (start len : ℕ) {book tb w : List ℕ} {lines : ℕ} where
-  pub indicator-empty : len ≡ 0 → (ls : Lines) → Known ls book tb lines → Hinted book tb lines w → IndicatorFound lines 0 (indicatorLine ls (nameOr s start len) tt)
-  indicator-empty e ls k H = subst (λ f. IndicatorFound lines 0 f) (sym (ap (λ o. indicatorLine ls o tt) (name-none s start len e) ∙ indicator-none ls)) (isLine refl (omega arith))
+  module _ (n : len ≢ 0) (i : (start + len ≤ length s) × (title + size ≤ length s)) {v : ℕ}
+      (U : UsedFound ks book tb lines w (take (title + size - title) (drop title s)) (take (start + len - start) (drop start s)) v) where
+    -- the name as it was looked up
+    number : (st : State) → KindsTable ks → Known (st .earlier) book tb lines → StateNoted st book tb lines w → v ≡ numberOr 0 (numberOf st (usedIn s title size start len))
+    number st t k g =
+        let e = part s start (start + len) (omega arith) in
+        U .is st t k g (omega (arith, ap length e, length-slice start (start + len) s (i .0)))
+        ∙ ap (λ u. numberOr 0 (numberOf st u)) (ap₂ usedBy (part s title (title + size) (omega arith)) e ∙ sym (used-by s title size start len (i .1)))
 
-  module _ (n : len ≢ 0) (i : start + len ≤ length s) {v : ℕ} (L : LineFound book tb lines w (take (start + len - start) (drop start s)) v) where
-    pub indicator-unknown : v ≡ 0 → (ls : Lines) → Known ls book tb lines → Hinted book tb lines w → IndicatorFound lines lineLimit (indicatorLine ls (nameOr s start len) tt)
-    indicator-unknown z ls k H =
-        let (e, l) = looked-up s start len n i in
-        let q = option-none (numberOf (take (start + len - start) (drop start s)) ls) (number-positive ls _) (sym z ∙ L .is ls k H l) in
+    pub indicator-unknown : v ≡ 0 → Indicated ks book tb lines w (usedOr s title size start len) lineLimit
+    indicator-unknown z st t k g =
         subst (λ f. IndicatorFound lines lineLimit f)
-        (sym (ap (λ o. indicatorLine ls o tt) (name-some s start len n) ∙ indicator-nowhere ls _ (ap (λ w. numberOf w ls) (sym e) ∙ q))) (noLine refl)
+        (sym (ap (λ o. indicatorLine st o tt) (used-some s title size start len n)
+        ∙ indicator-nowhere st _ (option-none (numberOf st (usedIn s title size start len)) (number-positive st _) (sym z ∙ number st t k g)))) (noLine refl)
 
     module _ (m : v ≢ 0) {kind : ℕ} (ek : kind ≡ rowCell tb v atKind) where
-      pub indicator-no-variable : kind ≢ 0 → (ls : Lines) → Known ls book tb lines → Hinted book tb lines w → IndicatorFound lines lineLimit (indicatorLine ls (nameOr s start len) tt)
-      indicator-no-variable z ls k H =
-          let (x, h) = lineAt k v (omega arith) (L .within) in
+      pub indicator-no-variable : kind ≢ 0 → Indicated ks book tb lines w (usedOr s title size start len) lineLimit
+      indicator-no-variable z st t k g =
+          let (x, h) = lineAt k v (omega arith) (U .within) in
           subst (λ f. IndicatorFound lines lineLimit f)
-          (sym (ap (λ o. indicatorLine ls o tt) (name-some s start len n)
-          ∙ indicator-constant ls _ v (x .kind) (number-is s start len n i L m k H) (ap (λ (y : Line). y .kind) (line-lineOf h)) (λ y. z (ek ∙ k .rows .row h .kindIs ∙ y))))
+          (sym (ap (λ o. indicatorLine st o tt) (used-some s title size start len n)
+          ∙ indicator-constant st _ v (x .kind) (option-some 0 _ (number st t k g) m) (ap (λ (y : Line). y .kind) (line-lineOf h)) (λ y. z (ek ∙ k .rows .row h .kindIs ∙ y))))
           (noLine refl)
 
-      pub indicator-found : kind ≡ 0 → (ls : Lines) → Known ls book tb lines → Hinted book tb lines w → IndicatorFound lines v (indicatorLine ls (nameOr s start len) tt)
-      indicator-found z ls k H =
-          let (x, h) = lineAt k v (omega arith) (L .within) in
+      pub indicator-found : kind ≡ 0 → Indicated ks book tb lines w (usedOr s title size start len) v
+      indicator-found z st t k g =
+          let (x, h) = lineAt k v (omega arith) (U .within) in
           subst (λ f. IndicatorFound lines v f)
-          (sym (ap (λ o. indicatorLine ls o tt) (name-some s start len n)
-          ∙ indicator-variable ls _ v (x .kind) (number-is s start len n i L m k H) (ap (λ (y : Line). y .kind) (line-lineOf h)) (sym (k .rows .row h .kindIs) ∙ sym ek ∙ z)))
-          (isLine refl (L .within))
+          (sym (ap (λ o. indicatorLine st o tt) (used-some s title size start len n)
+          ∙ indicator-variable st _ v (x .kind) (option-some 0 _ (number st t k g) m) (ap (λ (y : Line). y .kind) (line-lineOf h)) (sym (k .rows .row h .kindIs) ∙ sym ek ∙ z)))
+          (isLine refl (U .within))

@@ -1,19 +1,23 @@
 -- A line, from its heading and its body.
 use mathlib.Core.Path.{_≡_, refl, sym, ap, ap₂, _∙_, subst}
 use mathlib.Core.Logic.{_≢_, _⊎_, ⊎-elim}
+use mathlib.Core.Bool.{Bool, true, false}
 use mathlib.Core.Option.{Option}
 use mathlib.Core.List.{List, _++_, append-assoc}
-use Prim.Native.Nat.{ℕ, zero, _+_, _-_, _*_, _/_, _≤_, _<_}
+use Prim.Native.Nat.{ℕ, _+_, _-_, _*_, _/_, _≤_, _<_}
 use native.Mathlib.Omega.{arith}
 use lib.ListN.{length, getD, drop, take, List·getD-append, length-append, length-drop, take-append-drop}
 use lib.Seq.{slice, length-slice, length-take-le, take-take, drop-append-le, getD-append-add, getD-take, getD-drop}
 use Rattle.aut68.specs.Language.{aut68}
 use Rattle.aut68.specs.Bytes.{Bytes}
 use Rattle.aut68.specs.Expr.{Expr, cells, levels}
-use Rattle.aut68.specs.Lines.{Lines, Kind, kindCells, lineCells, rowCell}
+use Rattle.aut68.specs.Source.{Used}
+use Rattle.aut68.specs.Lines.{Kind, kindCells, lineCells, rowCell}
+use Rattle.aut68.specs.Paragraphs.{State, current}
 use Rattle.aut68.specs.Procedure.Answer.{_>>=_, give, ensure, aside, codeOf, duplicate, tooLarge}
 use Rattle.aut68.specs.Procedure.Parse.{Placed, aLine}
-use Rattle.aut68.specs.Procedure.Resolve.{Naming, indicatorLine, unused, resolveMiddle, contextAt}
+use Rattle.aut68.specs.Procedure.Lookup.{unused}
+use Rattle.aut68.specs.Procedure.Resolve.{Naming, indicatorLine, resolveMiddle, contextAt}
 use Rattle.aut68.specs.Procedure.Resolve as Resolve
 use Rattle.aut68.specs.Procedure.CheckLine.{Passed, withinLimits, middleWithinLimits, readLine}
 use Rattle.aut68.specs.Sizes.{lineLimit, smallestLimit, nesting, atContext}
@@ -25,15 +29,15 @@ use Rattle.cells.specs.Stores.{outside-below}
 use Rattle.cells.specs.Results.{Result}
 use Rattle.cells.specs.Results as Results
 use Rattle.headings.specs.declared.before_middle.Head.{Head}
-use Rattle.headings.specs.ReadLine.{nameOr}
+use Rattle.headings.specs.ReadLine.{usedOr}
 use Rattle.headings.specs.Posts.{HeadRead}
 use Rattle.names.specs.Known.{Known}
-use Rattle.names.specs.Hints.{slots, Hinted}
-use Rattle.names.specs.HintLaws.{slots-fit, hinted-same}
-use Rattle.names.specs.Posts.{LineFound}
+use Rattle.notes.specs.Note.{noteEnd, StateNoted}
+use Rattle.notes.specs.NoteLaws.{note-fits, state-noted-same}
+use Rattle.paragraphs.specs.Posts.{TakenTold, CurrentTold}
 use Rattle.meanings.specs.Posts.{ContextPost}
 use Rattle.expressions.specs.declared.parts.Reading.{Reading}
-use Rattle.expressions.specs.Walk.{ReadTo, passed, refused, Laid, SameBelow}
+use Rattle.expressions.specs.Walk.{ReadTo, Laid, SameBelow}
 use Rattle.expressions.proofs.StoreLaws.{below-same, below-then, part-append, part-stays}
 use Rattle.expressions.proofs.ReadLaws.{read-is}
 use Rattle.reader.specs.declared.lines.Line.{Line as LineOf}
@@ -66,20 +70,20 @@ module _ {ks s book tb : List ℕ} {lines limit : ℕ} {w : List ℕ} {h : Head}
   line-heading-refused n e =
       record {
         below = below-same (contextUnit * limit) w;
-        read = λ ls t k short large hints.
+        read = λ st t k short large noted.
             let (rest, c, q) = H .missing t n in
             step-stopped _ (ap (λ m. aside m tt) q) (e ∙ c);
       }
 
 -- ---- a line whose heading was read
 
--- a search for a name stays below what is noted of the line's context
-hints-below : {limit n : ℕ} → smallestLimit ≤ limit → n ≡ readerUnits * limit → slots n < contextUnit * limit
-hints-below {limit} large long = omega (arith, ap slots long, slots-fit limit large)
+-- what is noted of the state lies below what is noted of the line's context
+note-below : {limit n : ℕ} → smallestLimit ≤ limit → n ≡ readerUnits * limit → noteEnd n ≤ contextUnit * limit
+note-below {limit} large long = omega (arith, ap noteEnd long, note-fits limit large)
 
 -- the name of the line p, as it was looked up
-looked-up : {ks s : Bytes} {h : Head} → HeadRead ks s h → h .code ≡ 0 → {ls : Lines} {p : Placed} {w w′ : List ℕ} {indicator to kind middle end fault before : ℕ} {i : Option Bytes}
-    → LineWritten ls indicator w w′ to kind middle end fault before i (slice (h .first) (h .first + h .size) s) p
+looked-up : {ks s : Bytes} {h : Head} → HeadRead ks s h → h .code ≡ 0 → {st : State} {p : Placed} {w w′ : List ℕ} {indicator to kind middle end fault before : ℕ} {i : Option Used}
+    → LineWritten st indicator w w′ to kind middle end fault before i (slice (h .first) (h .first + h .size) s) p
     → (take (h .first + h .size - h .first) (drop (h .first) s) ≡ p .line .identifier) × (1 ≤ length (take (h .first + h .size - h .first) (drop (h .first) s)))
 looked-up {s = s} {h} H hz P =
     let e = part s (h .first) (h .first + h .size) (omega arith) in
@@ -87,7 +91,8 @@ looked-up {s = s} {h} H hz P =
 
 module _ {ks s book tb : List ℕ} {lines : ℕ} (limit : ℕ) {w w₁ w′ : List ℕ} (long : length w ≡ readerUnits * limit) {h : Head} (H : HeadRead ks s h) (hz : h .code ≡ 0)
     {found indicator kind : ℕ} {r : Reading}
-    (F : (ls : Lines) → Known ls book tb lines → Hinted book tb lines w → IndicatorFound lines found (indicatorLine ls (nameOr s (h .start) (h .len)) tt))
+    (F : (st : State) → KindsTable ks → Known (st .earlier) book tb lines → StateNoted st book tb lines w
+    → IndicatorFound lines found (indicatorLine st (usedOr s (h .title) (h .span) (h .start) (h .len)) tt))
     (I : (lineLimit ≤ found → indicator ≡ 0) × (found < lineLimit → indicator ≡ found))
     (C : ContextPost tb w w₁ indicator)
     (M : MiddleKind ks s (h .at) kind) (B : BodyRead ks s book tb lines indicator w₁ w′ (h .at) (lineUnit * limit) kind r) where
@@ -101,36 +106,36 @@ module _ {ks s book tb : List ℕ} {lines : ℕ} (limit : ℕ) {w w₁ w′ : Li
   below-kept : SameBelow (contextUnit * limit) w w′
   below-kept = below-then below-noted (omega arith) (B .below)
 
-  reading : (ls : Lines) → KindsTable ks → Known ls book tb lines → length s < 4294967296 → smallestLimit ≤ limit → Hinted book tb lines w
-      → ReadTo s (LineWritten ls indicator w₁ w′ (lineUnit * limit) kind (r .count) (r .to) (r .fault) (h .first) (nameOr s (h .start) (h .len)) (slice (h .first) (h .first + h .size) s))
+  reading : (st : State) → KindsTable ks → Known (st .earlier) book tb lines → length s < 4294967296 → smallestLimit ≤ limit → StateNoted st book tb lines w
+      → ReadTo s (LineWritten st indicator w₁ w′ (lineUnit * limit) kind (r .count) (r .to) (r .fault) (h .first) (usedOr s (h .title) (h .span) (h .start) (h .len)) (slice (h .first) (h .first + h .size) s))
       (r .code) (r .at) (aLine aut68 (length s) s)
-  reading ls t k short large hints =
-      let earlier = indicator-within (F ls k hints) (k .few) I in
+  reading st t k short large noted =
+      let earlier = indicator-within (F st t k noted) (k .few) I in
       read-is (H .read t hz)
-      (B .read ls
+      (B .read st
       (record {
         table = t;
         known = k;
-        hinted = hinted-same (contextUnit * limit) (hints-below large long) (below-noted .long) (below-noted .is) hints;
-        below = omega (arith, hints-below large (below-noted .long ∙ long));
-        context = C .noted ls book lines k earlier;
+        noted = state-noted-same (contextUnit * limit) (note-below large long) (below-noted .long) (below-noted .is) noted;
+        below = omega (arith, note-below large (below-noted .long ∙ long));
+        context = C .noted (st .earlier) book lines k earlier;
         above = omega (arith, unit, below-noted .long);
         earlier = earlier;
         short = short;
       }) M
-      (nameOr s (h .start) (h .len)) (h .first) (slice (h .first) (h .first + h .size) s))
+      (usedOr s (h .title) (h .span) (h .start) (h .len)) (h .first) (slice (h .first) (h .first + h .size) s))
 
-  -- the hints are where they were
-  hints-stay : smallestLimit ≤ limit → Hinted book tb lines w → Hinted book tb lines w′
-  hints-stay large hints = hinted-same (contextUnit * limit) (hints-below large long) (below-kept .long) (below-kept .is) hints
+  -- the note of the state is where it was
+  note-stays : {st : State} → smallestLimit ≤ limit → StateNoted st book tb lines w → StateNoted st book tb lines w′
+  note-stays large noted = state-noted-same (contextUnit * limit) (note-below large long) (below-kept .long) (below-kept .is) noted
 
   pub line-body-refused : {l : LineOf} → r .code ≢ 0 → l .code ≡ r .code → LineReadInto ks s book tb lines limit w w′ l
   unfolding readLine
   line-body-refused {l} n e =
       record {
         below = below-kept;
-        read = λ ls t k short large hints.
-            subst (λ c. Result (LineRead s w′ (lineUnit * limit) l) c tt (readLine aut68 ls limit s tt)) (sym e) (Results.then-refused _ n (reading-result (reading ls t k short large hints)));
+        read = λ st t k short large noted.
+            subst (λ c. Result (LineRead s w′ (lineUnit * limit) l) c tt (readLine aut68 st limit s tt)) (sym e) (Results.then-refused _ n (reading-result (reading st t k short large noted)));
       }
 
   module _ (rz : r .code ≡ 0) where
@@ -139,36 +144,36 @@ module _ {ks s book tb : List ℕ} {lines : ℕ} (limit : ℕ) {w w₁ w′ : Li
     line-no-indicator g e =
         record {
           below = below-kept;
-          read = λ ls t k short large hints.
-              Results.then-passed _ rz (reading-result (reading ls t k short large hints)) (λ p P.
-              step-no-indicator _ (subst (λ o. IndicatorFound lines found (indicatorLine ls o tt)) (sym (P .indicatorIs)) (F ls k hints)) (k .few) g e);
+          read = λ st t k short large noted.
+              Results.then-passed _ rz (reading-result (reading st t k short large noted)) (λ p P.
+              step-no-indicator _ (subst (λ o. IndicatorFound lines found (indicatorLine st o tt)) (sym (P .indicatorIs)) (F st t k noted)) (k .few) g e);
         }
 
-    module _ (le : found < lineLimit) {taken : ℕ} (T : LineFound book tb lines w′ (take (h .first + h .size - h .first) (drop (h .first) s)) taken) where
-      pub line-taken : {l : LineOf} → taken ≢ 0 → l .code ≡ 4 → LineReadInto ks s book tb lines limit w w′ l
+    module _ (le : found < lineLimit) {taken : Bool} (T : TakenTold ks book tb lines w′ (take (h .first + h .size - h .first) (drop (h .first) s)) taken) where
+      pub line-taken : {l : LineOf} → taken ≡ true → l .code ≡ 4 → LineReadInto ks s book tb lines limit w w′ l
       unfolding readLine codeOf
       line-taken n e =
           record {
             below = below-kept;
-            read = λ ls t k short large hints.
-                Results.then-passed _ rz (reading-result (reading ls t k short large hints)) (λ p P.
+            read = λ st t k short large noted.
+                Results.then-passed _ rz (reading-result (reading st t k short large noted)) (λ p P.
                 let (q, m) = looked-up H hz P in
-                step-indicator _ (subst (λ o. IndicatorFound lines found (indicatorLine ls o tt)) (sym (P .indicatorIs)) (F ls k hints)) le (I .1 le)
-                (step-wrong _ duplicate (ap (λ x. unused x ls) (sym q) ∙ name-taken T k (hints-stay large hints) m n) e));
+                step-indicator _ (subst (λ o. IndicatorFound lines found (indicatorLine st o tt)) (sym (P .indicatorIs)) (F st t k noted)) le (I .1 le)
+                (step-wrong _ duplicate (ap (λ x. unused x st) (sym q) ∙ name-taken T t k (note-stays large noted) m n) e));
           }
 
-      module _ (free : taken ≡ 0) where
+      module _ (free : taken ≡ false) where
         pub line-fault : {l : LineOf} → r .fault ≢ 0 → l .code ≡ r .fault → LineReadInto ks s book tb lines limit w w′ l
         unfolding readLine
         line-fault n e =
             record {
               below = below-kept;
-              read = λ ls t k short large hints.
-                  Results.then-passed _ rz (reading-result (reading ls t k short large hints)) (λ p P.
+              read = λ st t k short large noted.
+                  Results.then-passed _ rz (reading-result (reading st t k short large noted)) (λ p P.
                   let (q, m) = looked-up H hz P in
                   let middle = P .middleWritten .names refl in
-                  step-indicator _ (subst (λ o. IndicatorFound lines found (indicatorLine ls o tt)) (sym (P .indicatorIs)) (F ls k hints)) le (I .1 le)
-                  (step-right _ duplicate (ap (λ x. unused x ls) (sym q) ∙ name-unused T k (hints-stay large hints) m free)
+                  step-indicator _ (subst (λ o. IndicatorFound lines found (indicatorLine st o tt)) (sym (P .indicatorIs)) (F st t k noted)) le (I .1 le)
+                  (step-right _ duplicate (ap (λ x. unused x st) (sym q) ∙ name-unused T t k (note-stays large noted) m free)
                   (⊎-elim
                   (λ z. step-names _ middle z (λ x ex sx. step-fault _ (P .categoryWritten .names z) n e))
                   (λ y. step-fault _ middle y (e ∙ P .categoryWritten .kept y))
@@ -177,38 +182,50 @@ module _ {ks s book tb : List ℕ} {lines : ℕ} (limit : ℕ) {w w₁ w′ : Li
 
         module _ (n : r .fault ≡ 0) where
           -- what is left to be done where the names mean something: the middle's and the category's limits
-          left : Lines → Placed → Kind → Expr → Naming Passed
-          left ls p x d =
+          left : State → Placed → Kind → Expr → Naming Passed
+          left st p x d =
               ensure (middleWithinLimits limit x) tooLarge >>= λ _.
               ensure (withinLimits limit d) tooLarge >>= λ _.
-              give (record { before = p .before; line = record { identifier = p .line .identifier; indicator = indicator; context = contextAt ls indicator; kind = x; category = d } })
+              give
+              (record {
+                before = p .before;
+                line =
+                    record {
+                      identifier = p .line .identifier;
+                      indicator = indicator;
+                      context = contextAt (st .earlier) indicator;
+                      kind = x;
+                      category = d;
+                      paragraph = current (st .place .opened);
+                    };
+              })
 
           after-names : {l : LineOf}
-              → ((ls : Lines) → Known ls book tb lines → Hinted book tb lines w → (p : Placed)
-              → (P : LineWritten ls indicator w₁ w′ (lineUnit * limit) kind (r .count) (r .to) (r .fault) (h .first) (nameOr s (h .start) (h .len)) (slice (h .first) (h .first + h .size) s) p)
-              → (x : Kind) (d : Expr) → resolveMiddle ls (contextAt ls indicator) (p .line .middle) tt ≡ Resolve.found x
+              → ((st : State) → Known (st .earlier) book tb lines → indicator ≤ lines → StateNoted st book tb lines w′ → (p : Placed)
+              → (P : LineWritten st indicator w₁ w′ (lineUnit * limit) kind (r .count) (r .to) (r .fault) (h .first) (usedOr s (h .title) (h .span) (h .start) (h .len)) (slice (h .first) (h .first + h .size) s) p)
+              → (x : Kind) (d : Expr) → resolveMiddle st (contextAt (st .earlier) indicator) (p .line .middle) tt ≡ Resolve.found x
               → Laid (P .between) (lineUnit * limit) (r .count) nesting (kindCells x) (kindLevels x) → Laid w′ (r .count) (r .to) nesting (cells d) (levels d)
-              → Result (LineRead s w′ (lineUnit * limit) l) (l .code) tt (left ls p x d tt))
+              → Result (LineRead s w′ (lineUnit * limit) l) (l .code) tt (left st p x d tt))
               → LineReadInto ks s book tb lines limit w w′ l
           unfolding readLine left
           after-names f =
               record {
                 below = below-kept;
-                read = λ ls t k short large hints.
-                    Results.then-passed _ rz (reading-result (reading ls t k short large hints)) (λ p P.
+                read = λ st t k short large noted.
+                    Results.then-passed _ rz (reading-result (reading st t k short large noted)) (λ p P.
                     let (q, m) = looked-up H hz P in
                     let z : P .faultBetween ≡ 0 = ⊎-elim (λ z. z) (λ y. absurd (y (sym (P .categoryWritten .kept y) ∙ n))) (zero-or-not (P .faultBetween)) in
-                    step-indicator _ (subst (λ o. IndicatorFound lines found (indicatorLine ls o tt)) (sym (P .indicatorIs)) (F ls k hints)) le (I .1 le)
-                    (step-right _ duplicate (ap (λ x. unused x ls) (sym q) ∙ name-unused T k (hints-stay large hints) m free)
+                    step-indicator _ (subst (λ o. IndicatorFound lines found (indicatorLine st o tt)) (sym (P .indicatorIs)) (F st t k noted)) le (I .1 le)
+                    (step-right _ duplicate (ap (λ x. unused x st) (sym q) ∙ name-unused T t k (note-stays large noted) m free)
                     (step-names _ (P .middleWritten .names refl) z (λ x ex sx.
                     step-names _ (P .categoryWritten .names z) n (λ d ed sd.
-                    f ls k hints p P x d ex sx sd)))));
+                    f st k (indicator-within (F st t k noted) (k .few) I) (note-stays large noted) p P x d ex sx sd)))));
               }
 
           pub line-large-middle : {l : LineOf} → limit < r .count - lineUnit * limit → l .code ≡ 10 → LineReadInto ks s book tb lines limit w w′ l
           unfolding left codeOf
           line-large-middle g e =
-              after-names (λ ls k hints p P x d ex sx sd.
+              after-names (λ st k earlier noted p P x d ex sx sd.
               step-wrong _ tooLarge (middle-not-within x (laid-large sx (B .upward rz .0) g (omega (arith, P .long, below-noted .long)))) e)
 
           module _ (f : r .count - lineUnit * limit ≤ limit) where
@@ -220,20 +237,30 @@ module _ {ks s book tb : List ℕ} {lines : ℕ} (limit : ℕ) {w w₁ w′ : Li
             unfolding left codeOf
             line-large-category g e =
                 let (start, more) = B .upward rz in
-                after-names (λ ls k hints p P x d ex sx sd.
+                after-names (λ st k earlier noted p P x d ex sx sd.
                 step-right _ tooLarge (middle-within x (middle-fits x (P .long) sx))
                 (step-wrong _ tooLarge (not-within d (laid-large sd more (omega arith) (omega (arith, below-kept .long)))) e))
 
-            pub line-read : {context : ℕ} → r .to - lineUnit * limit - (r .count - lineUnit * limit) ≤ limit
-                → (indicator ≡ 0 → context ≡ 0) × (1 ≤ indicator → context ≡ rowCell tb indicator atContext + 1)
+            pub line-read : {context paragraph : ℕ} → r .to - lineUnit * limit - (r .count - lineUnit * limit) ≤ limit
+                → (indicator ≡ 0 → context ≡ 0) × (1 ≤ indicator → context ≡ rowCell tb indicator atContext + 1) → CurrentTold w′ paragraph
                 → LineReadInto ks s book tb lines limit w w′
-                (record { code = 0; first = h .first; len = h .size; indicator = indicator; context = context; kind = kind; middle = r .count - lineUnit * limit; size = r .to - lineUnit * limit })
+                (record {
+                  code = 0;
+                  first = h .first;
+                  len = h .size;
+                  indicator = indicator;
+                  context = context;
+                  kind = kind;
+                  middle = r .count - lineUnit * limit;
+                  size = r .to - lineUnit * limit;
+                  paragraph = paragraph;
+                })
             unfolding left lineCells
-            line-read {context} g c =
+            line-read {context} g c q =
                 let (start, more) = B .upward rz in
                 let room : length w′ ≡ readerUnits * limit = below-kept .long ∙ long in
                 let end : r .to ≤ length w′ = omega arith in
-                after-names (λ ls k hints p P x d ex sx sd.
+                after-names (λ st k earlier noted p P x d ex sx sd.
                 let between : r .count ≤ length (P .between) = omega (arith, P .long, below-noted .long) in
                 let cx = sx .fits between .0 in
                 let cd = sd .fits end .0 in
@@ -246,10 +273,11 @@ module _ {ks s book tb : List ℕ} {lines : ℕ} (limit : ℕ) {w w₁ w′ : Li
                   within = H .named;
                   identifierIs = sym (P .identifierIs);
                   indicatorIs = refl;
-                  contextIs = context-length k (indicator-within (F ls k hints) (k .few) I) c;
-                  kindIs = sym (P .kindIs) ∙ sym (kind-number ls (contextAt ls indicator) (p .line .middle) ex);
+                  contextIs = context-length k earlier c;
+                  kindIs = sym (P .kindIs) ∙ sym (kind-number st (contextAt (st .earlier) indicator) (p .line .middle) ex);
                   middleIs = omega (arith, ap length cx, length-slice (lineUnit * limit) (r .count) (P .between) between);
                   sizeIs = omega (arith, ap length (cells-both (P .below) start more end cx cd), length-slice (lineUnit * limit) (r .to) w′ end);
+                  paragraphIs = q .is book (st .place) (noted .place);
                   after = drop (r .to) w′;
                   cellsAt = cells-lie (P .below) start more end cx cd;
                 }))))
@@ -289,7 +317,7 @@ module _ {ks s book tb : List ℕ} {lines limit : ℕ} {w : List ℕ} {l : LineO
       record {
         outside = record { long = refl; same = λ i h. refl };
         noRoom = λ n. (refl, e);
-        read = λ ls t k short large room. absurd (omega arith);
+        read = λ st t k short large room. absurd (omega arith);
       }
 
   pub line-in-front : {part : List ℕ} → readerUnits * limit ≤ length w → LineReadInto ks s book tb lines limit (take (readerUnits * limit) w) part l
@@ -299,7 +327,7 @@ module _ {ks s book tb : List ℕ} {lines limit : ℕ} {w : List ℕ} {l : LineO
       record {
         outside = front-outside w part (contextUnit * limit) (readerUnits * limit) (omega arith) m (h .below);
         noRoom = λ z. absurd (omega arith);
-        read = λ ls t k short large room hints.
+        read = λ st t k short large room noted.
             Results.result-map (λ p P.
             record {
               firstIs = P .firstIs;
@@ -311,6 +339,7 @@ module _ {ks s book tb : List ℕ} {lines limit : ℕ} {w : List ℕ} {l : LineO
               kindIs = P .kindIs;
               middleIs = P .middleIs;
               sizeIs = P .sizeIs;
+              paragraphIs = P .paragraphIs;
               after = P .after ++ drop (readerUnits * limit) w;
               cellsAt =
                   record {
@@ -319,5 +348,5 @@ module _ {ks s book tb : List ℕ} {lines limit : ℕ} {w : List ℕ} {l : LineO
                         ∙ ap (λ x. x ++ drop (readerUnits * limit) w) (P .cellsAt .is)
                         ∙ append-assoc (lineCells (p .line)) (P .after) (drop (readerUnits * limit) w);
                   };
-            }) (h .read ls t k short large hints);
+            }) (h .read st t k short large noted);
       }

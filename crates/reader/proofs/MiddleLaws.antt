@@ -10,12 +10,12 @@ use Rattle.aut68.specs.Rules.Grammar.{inner}
 use Rattle.aut68.specs.Bytes.{Bytes, sameBytes, wordType, wordPN, wordEB}
 use Rattle.aut68.specs.Source.{Src, variable, primitive, meaning, type}
 use Rattle.aut68.specs.Expr.{Expr, cells, levels}
-use Rattle.aut68.specs.Lines.{Lines, kindCells}
+use Rattle.aut68.specs.Lines.{kindCells}
+use Rattle.aut68.specs.Paragraphs.{State}
 use Rattle.aut68.specs.Procedure.Answer.{done, andThen, Answer, give}
 use Rattle.aut68.specs.Procedure.Parse.{spaces, afterWord, wordAhead, pastWord, anExpression, aMiddle}
 use Rattle.aut68.specs.Procedure.Resolve.{resolve, resolveMiddle, contextAt}
 use Rattle.aut68.specs.Sizes.{nesting}
-use Rattle.lookup.specs.SameBytes.{same-true}
 use Rattle.kinds.specs.Kinds.{KindsTable}
 use Rattle.symbols.specs.Symbols.{PastSpaces, WordEnd}
 use Rattle.symbols.proofs.SymbolLaws.{part}
@@ -77,15 +77,15 @@ NoEntry scope = (scope .bound ≡ 0) × (scope .depth ≡ 0) × (scope .starts �
 module _ {ks s book tb : List ℕ} {lines indicator : ℕ} {scope : Scope} {w w′ : List ℕ} {r r′ : Reading}
     (n : NoEntry scope)
     (E : ExpressionRead (expressionIn scope) ks s scope book tb lines indicator w w′ r r′) where
-  pub outer-read : (ls : Lines) → Lookup ls ks s book tb lines indicator w (r .to)
-      → ReadTo s (Walk.Written cells levels (resolve ls (contextAt ls indicator) []) w w′ (r .to) (r′ .to) nesting (r .fault) (r′ .fault)) (r′ .code) (r′ .at)
+  pub outer-read : (st : State) → Lookup st ks s book tb lines indicator w (r .to)
+      → ReadTo s (Walk.Written cells levels (resolve st (contextAt (st .earlier) indicator) []) w w′ (r .to) (r′ .to) nesting (r .fault) (r′ .fault)) (r′ .code) (r′ .at)
       (anExpression aut68 nesting inner (drop (r .at) s))
-  outer-read ls l =
-      let ready : Ready ls ks s book tb lines indicator scope w (r .to) =
+  outer-read st l =
+      let ready : Ready st ks s book tb lines indicator scope w (r .to) =
       record {
         table = l .table;
         known = l .known;
-        hinted = l .hinted;
+        noted = l .noted;
         below = l .below;
         context = l .context;
         above = l .above;
@@ -100,11 +100,11 @@ module _ {ks s book tb : List ℕ} {lines indicator : ℕ} {scope : Scope} {w w�
             };
       } in
       let level : nesting - scope .depth ≡ nesting = omega (arith, n .1) in
-      subst (λ d. ReadTo s (Walk.Written cells levels (resolve ls (contextAt ls indicator) []) w w′ (r .to) (r′ .to) d (r .fault) (r′ .fault)) (r′ .code) (r′ .at)
+      subst (λ d. ReadTo s (Walk.Written cells levels (resolve st (contextAt (st .earlier) indicator) []) w w′ (r .to) (r′ .to) d (r .fault) (r′ .fault)) (r′ .code) (r′ .at)
       (anExpression aut68 d inner (drop (r .at) s))) level
-      (subst (λ bs. ReadTo s (Walk.Written cells levels (resolve ls (contextAt ls indicator) bs) w w′ (r .to) (r′ .to) (nesting - scope .depth) (r .fault) (r′ .fault)) (r′ .code) (r′ .at)
+      (subst (λ bs. ReadTo s (Walk.Written cells levels (resolve st (contextAt (st .earlier) indicator) bs) w w′ (r .to) (r′ .to) (nesting - scope .depth) (r .fault) (r′ .fault)) (r′ .code) (r′ .at)
       (anExpression aut68 (nesting - scope .depth) inner (drop (r .at) s))) (no-names s scope (n .0))
-      (E .read ls ready))
+      (E .read st ready))
 
 -- ---- the middle
 
@@ -127,19 +127,19 @@ unfolding andThen kindCells kindLevels
 meaning-found (whole e p) = whole e p
 meaning-found (faulty e) = faulty e
 
-module _ (ls : Lines) (indicator : ℕ) {w w′ : List ℕ} {to end fault fault′ : ℕ} where
-  meaning-written : {e : Src} → Walk.Written cells levels (resolve ls (contextAt ls indicator) []) w w′ to end nesting fault fault′ e
-      → WrittenMiddle ls indicator w w′ to end fault fault′ (meaning e)
+module _ (st : State) (indicator : ℕ) {w w′ : List ℕ} {to end fault fault′ : ℕ} where
+  meaning-written : {e : Src} → Walk.Written cells levels (resolve st (contextAt (st .earlier) indicator) []) w w′ to end nesting fault fault′ e
+      → WrittenMiddle st indicator w w′ to end fault fault′ (meaning e)
   unfolding resolveMiddle
   meaning-written h = record { kept = h .kept; names = λ z. meaning-found (h .names z) }
 
-variable-written : (ls : Lines) (indicator : ℕ) (w : List ℕ) (to : ℕ) → WrittenMiddle ls indicator w w to to 0 0 variable
+variable-written : (st : State) (indicator : ℕ) (w : List ℕ) (to : ℕ) → WrittenMiddle st indicator w w to to 0 0 variable
 unfolding kindCells kindLevels resolveMiddle
-variable-written ls indicator w to = record { kept = λ n. refl; names = λ z. whole refl nothing-laid }
+variable-written st indicator w to = record { kept = λ n. refl; names = λ z. whole refl nothing-laid }
 
-primitive-written : (ls : Lines) (indicator : ℕ) (w : List ℕ) (to : ℕ) → WrittenMiddle ls indicator w w to to 0 0 primitive
+primitive-written : (st : State) (indicator : ℕ) (w : List ℕ) (to : ℕ) → WrittenMiddle st indicator w w to to 0 0 primitive
 unfolding kindCells kindLevels resolveMiddle
-primitive-written ls indicator w to = record { kept = λ n. refl; names = λ z. whole refl nothing-laid }
+primitive-written st indicator w to = record { kept = λ n. refl; names = λ z. whole refl nothing-laid }
 
 module _ {ks s book tb : List ℕ} {lines indicator : ℕ} {w : List ℕ} {at to kind : ℕ} (b : at ≤ length s) where
   pub middle-word : {start end : ℕ} → to ≤ length w → kind < 2 → PastSpaces s at start → WordEnd ks s start end
@@ -152,17 +152,17 @@ module _ {ks s book tb : List ℕ} {lines indicator : ℕ} {w : List ℕ} {at to
         from = omega (arith, p .from, q .from);
         inside = q .within (p .within b);
         small = omega arith;
-        read = λ ls k m. by-kind ls k m kind refl;
+        read = λ st k m. by-kind st k m kind refl;
       }
     where
-      by-kind : (ls : Lines) → Lookup ls ks s book tb lines indicator w to → MiddleKind ks s at kind → (n : ℕ) → kind ≡ n
-          → ReadTo s (λ m. (middleNumber m ≡ kind) × WrittenMiddle ls indicator w w to to 0 0 m) 0 end (aMiddle aut68 (drop at s))
-      by-kind ls k m zero e =
-          read-is (middle-EB (drop at s) (m .isEB (k .table) e)) (passed refl (sym (past-word p q (k .table) b)) (sym e, variable-written ls indicator w to))
-      by-kind ls k m (suc zero) e =
+      by-kind : (st : State) → Lookup st ks s book tb lines indicator w to → MiddleKind ks s at kind → (n : ℕ) → kind ≡ n
+          → ReadTo s (λ m. (middleNumber m ≡ kind) × WrittenMiddle st indicator w w to to 0 0 m) 0 end (aMiddle aut68 (drop at s))
+      by-kind st k m zero e =
+          read-is (middle-EB (drop at s) (m .isEB (k .table) e)) (passed refl (sym (past-word p q (k .table) b)) (sym e, variable-written st indicator w to))
+      by-kind st k m (suc zero) e =
           let (f, g) = m .isPN (k .table) e in
-          read-is (middle-PN (drop at s) f g) (passed refl (sym (past-word p q (k .table) b)) (sym e, primitive-written ls indicator w to))
-      by-kind ls k m (suc (suc n)) e = absurd (omega arith)
+          read-is (middle-PN (drop at s) f g) (passed refl (sym (past-word p q (k .table) b)) (sym e, primitive-written st indicator w to))
+      by-kind st k m (suc (suc n)) e = absurd (omega arith)
 
   pub middle-expression : {scope : Scope} {w′ : List ℕ} {r′ : Reading} → 2 ≤ kind → NoEntry scope
       → ExpressionRead (expressionIn scope) ks s scope book tb lines indicator w w′ (goOn at to 0) r′ → MiddleRead ks s book tb lines indicator w w′ at to kind r′
@@ -174,17 +174,17 @@ module _ {ks s book tb : List ℕ} {lines indicator : ℕ} {w : List ℕ} {at to
         from = E .onward .from;
         inside = E .onward .inside;
         small = E .onward .small;
-        read = λ ls k m.
+        read = λ st k m.
             let e : kind ≡ 2 = omega (arith, m .small) in
             let (f, g) = m .isMeaning (k .table) e in
-            read-is (middle-other (drop at s) f g) (then-give meaning (outer-read n E ls k) (λ x X. (sym e, meaning-written ls indicator X)));
+            read-is (middle-other (drop at s) f g) (then-give meaning (outer-read n E st k) (λ x X. (sym e, meaning-written st indicator X)));
       }
 
 -- ---- the category
 
-type-written : (ls : Lines) (indicator : ℕ) {w w′ : List ℕ} {to next fault : ℕ} → CellPut w w′ to 0 next → WrittenCategory ls indicator w w′ to next fault fault type
+type-written : (st : State) (indicator : ℕ) {w w′ : List ℕ} {to next fault : ℕ} → CellPut w w′ to 0 next → WrittenCategory st indicator w w′ to next fault fault type
 unfolding cells levels resolve
-type-written ls indicator {w′ = w′} {next = next} put =
+type-written st indicator {w′ = w′} {next = next} put =
     record { kept = λ n. refl; names = λ z. whole z (laid-cell put (below-same next w′) (omega arith) (nothing-laid {d = nesting - 1})) }
 
 module _ {ks s book tb : List ℕ} {lines indicator : ℕ} {w w′ : List ℕ} {r : Reading} (small : r .to ≤ length w + 1) (b : r .at ≤ length s)
@@ -194,9 +194,9 @@ module _ {ks s book tb : List ℕ} {lines indicator : ℕ} {w w′ : List ℕ} {
       let (up, few) = put-next put small in
       record {
         onward = record { below = below-put put; up = up; from = omega (arith, p .from, q .from); inside = q .within (p .within b); small = few };
-        read = λ ls k.
+        read = λ st k.
             read-is (ending-type aut68 (nesting - 1) (drop (r .at) s) (word-test b p q wordType e (k .table) ∙ f))
-            (passed refl (sym (past-word p q (k .table) b)) (type-written ls indicator put));
+            (passed refl (sym (past-word p q (k .table) b)) (type-written st indicator put));
       }
 
   pub category-expression : {scope : Scope} {r′ : Reading} → t ≡ false → NoEntry scope
@@ -211,6 +211,6 @@ module _ {ks s book tb : List ℕ} {lines indicator : ℕ} {w w′ : List ℕ} {
               inside = E .onward .inside;
               small = E .onward .small;
             };
-        read = λ ls k.
-            read-is (ending-other nesting (drop (r .at) s) (word-test b p q wordType e (k .table) ∙ f)) (outer-read n E ls k);
+        read = λ st k.
+            read-is (ending-other nesting (drop (r .at) s) (word-test b p q wordType e (k .table) ∙ f)) (outer-read n E st k);
       }

@@ -2,30 +2,32 @@
 use mathlib.Core.Path.{_≡_, refl, sym, ap, _∙_, subst}
 use mathlib.Core.Logic.{_≢_, _⊎_, inl, inr}
 use mathlib.Core.Bool.{Bool, true, false}
-use mathlib.Core.Option.{Option, none, some}
 use mathlib.Core.List.{List, [], _∷_}
 use Prim.Native.Nat.{ℕ, zero, suc, _+_, _-_, _≤_, _<_}
 use native.Mathlib.Omega.{arith}
 use lib.ListN.{length, length-append}
+use borrow.Author.Tests.{not-true, not-false}
 use Rattle.aut68.specs.Bytes.{Bytes}
 use Rattle.aut68.specs.Source.{Middle, variable, primitive, meaning}
 use Rattle.aut68.specs.Expr.{Expr}
-use Rattle.aut68.specs.Lines.{Line, Lines, Kind, lineOf, numberOf, kindNumber, rowCell}
+use Rattle.aut68.specs.Lines.{Line, Lines, Kind, lineOf, kindNumber, rowCell}
 use Rattle.aut68.specs.Lines as Lines
+use Rattle.aut68.specs.Paragraphs.{State}
 use Rattle.aut68.specs.Procedure.Answer.{Answer, done, stop, andThen, give, aside, Refusal, codeOf, ensure}
 use Rattle.aut68.specs.Procedure.Parse.{Placed}
-use Rattle.aut68.specs.Procedure.Resolve.{Naming, found, unused, resolveMiddle, resolve, contextAt}
+use Rattle.aut68.specs.Procedure.Lookup.{unused}
+use Rattle.aut68.specs.Procedure.Resolve.{Naming, found, resolveMiddle, resolve, contextAt}
 use Rattle.aut68.specs.Procedure.Resolve as Resolve
 use Rattle.aut68.specs.Sizes.{lineLimit, atContext}
 use Rattle.lookup.specs.LineNumbers.{line-lineOf}
 use Rattle.lookup.specs.Answers.{done-value, stop≢done, code-nonzero}
 use Rattle.cells.specs.Results.{Result}
 use Rattle.cells.specs.Results as Results
+use Rattle.kinds.specs.Kinds.{KindsTable}
 use Rattle.names.specs.Known.{Known}
-use Rattle.names.specs.Hints.{Hinted}
-use Rattle.names.specs.Posts.{LineFound}
 use Rattle.names.proofs.FindLaws.{lineAt}
-use Rattle.meanings.proofs.MeaningLaws.{option-none, option-some, number-positive}
+use Rattle.notes.specs.Note.{StateNoted}
+use Rattle.paragraphs.specs.Posts.{TakenTold}
 use Rattle.expressions.specs.Walk.{ReadTo, passed, refused, Laid, Faulted, whole, faulty}
 use Rattle.reader.specs.Posts.{middleNumber, IndicatorFound, isLine, noLine}
 
@@ -80,26 +82,21 @@ module _ {B : Type 0} {Q : B → Type 0} {code : ℕ} (f : ℕ → Naming B) {li
 
 -- ---- the identifier
 
-unused-is : (w : Bytes) (ls : Lines) (o : Option ℕ) → numberOf w ls ≡ o → unused w ls ≡ elim o as (λ _. Bool) [ none ↦ true | some v ↦ false ]
-unfolding unused
-unused-is w ls none e = rw (e, unused)
-unused-is w ls (some v) e = rw (e, unused)
+module _ {ks book tb w : List ℕ} {lines : ℕ} {taken : Bool} {word : Bytes} {st : State} (h : TakenTold ks book tb lines w word taken) (t : KindsTable ks)
+    (k : Known (st .earlier) book tb lines) (g : StateNoted st book tb lines w) (l : 1 ≤ length word) where
+  pub name-unused : taken ≡ false → unused word st ≡ true
+  name-unused e = not-false (unused word st) (sym (h .is st t k g l) ∙ e)
 
-module _ {book tb w : List ℕ} {lines taken : ℕ} {word : Bytes} {ls : Lines} (h : LineFound book tb lines w word taken) (k : Known ls book tb lines)
-    (hints : Hinted book tb lines w) (l : 1 ≤ length word) where
-  pub name-unused : taken ≡ 0 → unused word ls ≡ true
-  name-unused z = unused-is word ls none (option-none (numberOf word ls) (number-positive ls word) (sym z ∙ h .is ls k hints l))
-
-  pub name-taken : taken ≢ 0 → unused word ls ≡ false
-  name-taken n = unused-is word ls (some taken) (option-some 0 (numberOf word ls) (h .is ls k hints l) n)
+  pub name-taken : taken ≡ true → unused word st ≡ false
+  name-taken e = not-true (unused word st) (sym (h .is st t k g l) ∙ e)
 
 -- ---- kinds and contexts
 
-pub kind-number : (ls : Lines) (context : List ℕ) (m : Middle) {k : Kind} → resolveMiddle ls context m tt ≡ found k → kindNumber k ≡ middleNumber m
+pub kind-number : (st : State) (context : List ℕ) (m : Middle) {k : Kind} → resolveMiddle st context m tt ≡ found k → kindNumber k ≡ middleNumber m
 unfolding resolveMiddle kindNumber middleNumber andThen
-kind-number ls context variable e = ap kindNumber (sym (done-value e))
-kind-number ls context primitive e = ap kindNumber (sym (done-value e))
-kind-number ls context (meaning x) {k} e = split (resolve ls context [] x tt) e
+kind-number st context variable e = ap kindNumber (sym (done-value e))
+kind-number st context primitive e = ap kindNumber (sym (done-value e))
+kind-number st context (meaning x) {k} e = split (resolve st context [] x tt) e
   where
     split : (fe : Answer (Unit {0}) Expr) → andThen (λ m. give (Lines.abbreviation m)) fe ≡ found k → kindNumber k ≡ 2
     split (done a u) e = ap kindNumber (sym (done-value e))

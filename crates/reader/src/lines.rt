@@ -7,40 +7,56 @@ use constants::CONTEXT_LENGTH;
 use constants::Cell;
 use constants::KIND;
 use constants::LINE_LIMIT;
+use headings::Head;
 use headings::heading;
 use meanings::note_context;
-use names::find;
+use paragraphs::current;
+use paragraphs::find_used;
+use paragraphs::is_taken;
 ghost use mathlib.Core.Path.{_≡_};
 ghost use Prim.Native.Nat.{_+_, _*_, _≤_, _<_};
 ghost use lib.ListN.{length};
 ghost use Rattle.aut68.specs.Sizes.{lineLimit, atContext};
-ghost use Rattle.aut68.specs.Lines.{Lines, rowCell};
+ghost use Rattle.aut68.specs.Lines.{rowCell};
+ghost use Rattle.aut68.specs.Paragraphs.{State};
 ghost use Rattle.aut68.specs.Procedure.Resolve.{indicatorLine};
 ghost use Rattle.cells.specs.Layout.{readerUnits};
-ghost use Rattle.headings.specs.ReadLine.{nameOr};
+ghost use Rattle.headings.specs.ReadLine.{usedOr};
+ghost use Rattle.kinds.specs.Kinds.{KindsTable};
 ghost use Rattle.names.specs.Known.{Known};
-ghost use Rattle.names.specs.Hints.{Hinted};
+ghost use Rattle.notes.specs.Note.{StateNoted};
 ghost use Rattle.reader.specs.Posts.{IndicatorFound, LineReadInto, LineReadTo};
 
 // The indicator's line (indicatorLine): 0 if empty, LINE_LIMIT where it is no EB line.
 fn indicator_line(
     line: &[u8],
+    kinds: &[u8; 256],
     book: &[u8],
     table: &[u32],
     lines: usize,
     w: &[Cell],
-    start: usize,
-    len: usize,
+    h: Head,
 ) -> usize
-    requires { ⌜ start + len ≤ length (now line) ⌝ }
-    ensures { λ r. ⌜ ((ls : Lines) → Known ls (now (book .entry)) (now (table .entry)) lines → Hinted (now (book .entry)) (now (table .entry)) lines (now (w .entry))
-        → IndicatorFound lines r (indicatorLine ls (nameOr (now (line .entry)) start len) tt)) ⌝ }
+    requires { ⌜ (h .start + h .len ≤ length (now line)) × (h .title + h .span ≤ length (now line)) ⌝ }
+    ensures { λ r. ⌜ ((st : State) → KindsTable (now (kinds .entry)) → Known (st .earlier) (now (book .entry)) (now (table .entry)) lines → StateNoted st (now (book .entry)) (now (table .entry)) lines (now (w .entry))
+        → IndicatorFound lines r (indicatorLine st (usedOr (now (line .entry)) (h .title) (h .span) (h .start) (h .len)) tt)) ⌝ }
 {
-    if len == 0 {
+    if h.len == 0 {
         return 0;
     }
-    let end = start + len;
-    let v = find(book, table, lines, w, &line[start..end]);
+    let title = h.title;
+    let point = title + h.span;
+    let start = h.start;
+    let end = start + h.len;
+    let v = find_used(
+        book,
+        kinds,
+        table,
+        lines,
+        w,
+        &line[title..point],
+        &line[start..end],
+    );
     if v == 0 {
         return LINE_LIMIT;
     }
@@ -53,7 +69,7 @@ fn indicator_line(
 
 // A line that was read. code: 0, or its first refusal. first, len: its identifier in the line. indicator: its indicator's line
 // (0 if empty). context: its context length. kind: 0 EB, 1 PN, 2 abbreviation. middle: cells of the middle. size: cells of
-// middle and category.
+// middle and category. paragraph: the number of its paragraph.
 pub struct Line {
     pub code: u32,
     pub first: usize,
@@ -63,6 +79,7 @@ pub struct Line {
     pub kind: u32,
     pub middle: usize,
     pub size: usize,
+    pub paragraph: usize,
 }
 
 fn bad_line(code: u32) -> Line
@@ -77,11 +94,12 @@ fn bad_line(code: u32) -> Line
         kind: 0,
         middle: 0,
         size: 0,
+        paragraph: 0,
     }
 }
 
 // The line: form, indicator, identifier, names, sizes, in that order of refusals (readLine). Of the units of w, the last two
-// get the cells of middle and category, the one before them the line's context; hints lie below.
+// get the cells of middle and category, the one before them the line's context; what is noted of the state lies below.
 fn read_into(
     line: &[u8],
     kinds: &[u8; 256],
@@ -102,7 +120,7 @@ fn read_into(
     let at = h.at;
     let first = h.first;
     let size = h.size;
-    let found = indicator_line(line, book, table, lines, w, h.start, h.len);
+    let found = indicator_line(line, kinds, book, table, lines, w, h);
     let indicator = known_line(found);
     note_context(table, w, indicator);
     let kind = middle_kind(line, kinds, at);
@@ -114,8 +132,7 @@ fn read_into(
         return bad_line(constants::UNKNOWN_NAME);
     }
     let end = first + size;
-    let taken = find(book, table, lines, w, &line[first..end]);
-    if taken != 0 {
+    if is_taken(book, kinds, table, lines, w, &line[first..end]) {
         return bad_line(constants::DUPLICATE);
     }
     if b.fault != 0 {
@@ -139,11 +156,12 @@ fn read_into(
         kind: kind,
         middle: cells,
         size: all,
+        paragraph: current(w),
     }
 }
 
-// The line, with the cells of middle and category from LINE_UNIT of w on, its context in the unit before, and the hints below.
-// Writes these three units alone; where w does not have them, nothing, and the answer is 10.
+// The line, with the cells of middle and category from LINE_UNIT of w on, its context in the unit before, and what is noted of
+// the state below. Writes these three units alone; where w does not have them, nothing, and the answer is 10.
 pub fn read_line(
     line: &[u8],
     kinds: &[u8; 256],

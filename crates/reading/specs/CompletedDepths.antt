@@ -8,16 +8,16 @@ use Rattle.aut68.specs.Bytes.{Bytes}
 use Rattle.aut68.specs.Depths.{depth, depths}
 use Rattle.aut68.specs.Source.{Src, Srcs}
 use Rattle.aut68.specs.Expr.{Expr, Exprs, levels, levelss}
-use Rattle.aut68.specs.Lines.{Lines}
+use Rattle.aut68.specs.Paragraphs.{State}
 use Rattle.aut68.specs.Rules.Names.{Means, MeanAll, aBound, aVariable, aConstant, anApplication, anAbstraction, aType, aProp, noMore, oneMore}
 use Rattle.lookup.specs.Former.{MeantInFull, AllMeantInFull, boundIn, variableIn, constantIn, applicationIn, abstractionIn, typeIn, propIn}
 use Rattle.lookup.specs.Completing.{front-levels}
 
-module _ (ls : Lines) (context : List ℕ) where
+module _ (st : State) (context : List ℕ) where
   mutual
     unfolding levels depth
 
-    pub full-levels : {bs : List Bytes} {x : Src} {e : Expr} → MeantInFull ls context bs x e → levels e ≡ depth x
+    pub full-levels : {bs : List Bytes} {x : Src} {e : Expr} → MeantInFull st context bs x e → levels e ≡ depth x
     full-levels (boundIn b) = refl
     full-levels (variableIn f i q k m) = refl
     full-levels (constantIn f i q k c a) = ap suc (full-levelss a)
@@ -26,14 +26,14 @@ module _ (ls : Lines) (context : List ℕ) where
     full-levels typeIn = refl
     full-levels propIn = refl
 
-    full-levelss : {bs : List Bytes} {xs : Srcs} {es : Exprs} → AllMeantInFull ls context bs xs es → levelss es ≡ depths xs
+    full-levelss : {bs : List Bytes} {xs : Srcs} {es : Exprs} → AllMeantInFull st context bs xs es → levelss es ≡ depths xs
     full-levelss AllMeantInFull.noMore = refl
     full-levelss (AllMeantInFull.oneMore h k) = let a = full-levels h in let b = full-levelss k in omega (arith, a, b)
 
   mutual
     unfolding levels depth
 
-    pub completed-levels : {bs : List Bytes} {x : Src} {e : Expr} → Means ls context bs x e → (depth x ≤ levels e) × (levels e ≤ suc (depth x))
+    pub completed-levels : {bs : List Bytes} {x : Src} {e : Expr} → Means st context bs x e → (depth x ≤ levels e) × (levels e ≤ suc (depth x))
     completed-levels (aBound b) = (omega arith, omega arith)
     completed-levels (aVariable f i q k m) = (omega arith, omega arith)
     completed-levels (aConstant {es = es} {us = us} f i q k a c e) =
@@ -52,7 +52,7 @@ module _ (ls : Lines) (context : List ℕ) where
     completed-levels aType = (omega arith, omega arith)
     completed-levels aProp = (omega arith, omega arith)
 
-    completed-levelss : {bs : List Bytes} {xs : Srcs} {es : Exprs} → MeanAll ls context bs xs es → (depths xs ≤ levelss es) × (levelss es ≤ suc (depths xs))
+    completed-levelss : {bs : List Bytes} {xs : Srcs} {es : Exprs} → MeanAll st context bs xs es → (depths xs ≤ levelss es) × (levelss es ≤ suc (depths xs))
     completed-levelss noMore = (omega arith, omega arith)
     completed-levelss (oneMore h k) =
         let (a, b) = completed-levels h in

@@ -7,9 +7,10 @@ use lib.ListN.{length, length-append}
 use lib.Seq.{sets}
 use Rattle.aut68.specs.Stores.{Stores}
 use Rattle.aut68.specs.Lines.{Line, Lines}
+use Rattle.aut68.specs.Paragraphs.{Place}
 use Rattle.aut68.specs.Index.{entryOf, indexOf}
 use Rattle.aut68.specs.Procedure.CheckLine.{Passed}
-use Rattle.aut68.specs.Procedure.Run.{Recorded, nothing, oneMore, over}
+use Rattle.aut68.specs.Procedure.Run.{Recorded, nothing, oneMore, elsewhere, over}
 use Rattle.records.specs.Tables.{over-more}
 
 index-snoc : (ls : Lines) (l : Line) → indexOf (ls ++ (l ∷ [])) ≡ indexOf ls ++ entryOf l
@@ -26,6 +27,11 @@ pub record Indexed (s : Stores) (k : Recorded) (entries : ℕ) (index : List ℕ
 pub indexed-nothing : (s : Stores) → Indexed s nothing 0 (s .index)
 unfolding nothing over indexOf
 indexed-nothing s = record { entriesAre = refl; indexRoom = omega arith; indexIs = refl }
+
+-- the same lines at another place
+pub indexed-elsewhere : {s : Stores} {k : Recorded} {entries : ℕ} {index : List ℕ} → Indexed s k entries index → (place : Place) → Indexed s (elsewhere k place) entries index
+unfolding elsewhere
+indexed-elsewhere h place = record { entriesAre = h .entriesAre; indexRoom = h .indexRoom; indexIs = h .indexIs }
 
 -- one line more
 pub indexed-more : {s : Stores} {k : Recorded} {entries : ℕ} {index : List ℕ} → Indexed s k entries index → (at : ℕ) (p : Passed)

@@ -1,7 +1,7 @@
 -- What is recorded gives what the functions on names (`Known`) and on expressions (`Book`) rely on; while a book is checked, from rows that
 -- are linked. A call on an accepted book starts from `on-record`.
 use mathlib.Core.Path.{_≡_, refl, sym}
-use mathlib.Core.List.{List, [], _++_}
+use mathlib.Core.List.{List, _++_}
 use Prim.Native.Nat.{ℕ, _≤_}
 use native.Mathlib.Omega.{arith}
 use lib.ListN.{length, drop}
@@ -10,7 +10,8 @@ use Rattle.aut68.specs.Sizes.{largestLimit}
 use Rattle.aut68.specs.Stores.{Stores, limitsOf}
 use Rattle.aut68.specs.Bytes.{Bytes}
 use Rattle.aut68.specs.Lines.{Lines, termsOf}
-use Rattle.aut68.specs.Procedure.Run.{Recorded, Ending, run, over, recordedAt, tableEnd, termsEnd}
+use Rattle.aut68.specs.Paragraphs.{State, start}
+use Rattle.aut68.specs.Procedure.Run.{Recorded, Ending, stateOf, run, over, recordedAt, tableEnd, termsEnd}
 use Rattle.aut68.specs.Rules.Derivation.{Derived}
 use Rattle.aut68.specs.Demands.{Verdict}
 use Rattle.lookup.specs.DerivedBooks.{right-contexts, distinct-names}
@@ -26,13 +27,13 @@ use Rattle.records.specs.Reached.{Reached, indicators-before, reached-ho
 use Rattle.records.specs.Bounds.{reached-stores}
 use Rattle.records.specs.Runs.{run-reached}
 
-pub record OnRecord (language : Language) (book : Bytes) (L : ℕ) (ls : Lines) (tb ts : List ℕ) : Type 0 where
+pub record OnRecord (language : Language) (book : Bytes) (L : ℕ) (st : State) (tb ts : List ℕ) : Type 0 where
   pub past : List Bytes
-  pub derived : Derived language [] past ls
-  pub held : Book ls L tb ts
+  pub derived : Derived language start past st
+  pub held : Book (st .earlier) L tb ts
 
 -- the rows and names of the recorded lines, where the rows are linked
-pub reached-known : {language : Language} {book : Bytes} {N L : ℕ} {s : Stores} {k : Recorded} {n used : ℕ} (tb : List ℕ) {ts : List ℕ} → Reached language book N L s k n used (unlinked n tb) ts
+pub reached-known : {language : Language} {book : Bytes} {N L : ℕ} {s : Stores} {k : Recorded} {at n used : ℕ} (tb : List ℕ) {ts : List ℕ} → Reached language book N L s k at n used (unlinked n tb) ts
     → Known (k .recorded) book tb n
 reached-known {n = n} tb h =
     record {
@@ -41,7 +42,7 @@ reached-known {n = n} tb h =
       count = sym (h .linesAre);
       few = h .few;
       contexts = λ i. right-contexts (h .derived) _ _ i;
-      distinct = distinct-names (h .derived);
+      distinct = distinct-names (h .derived) .names;
       behind = λ i. indicators-before (h .derived) _ _ i;
     }
 
@@ -60,7 +61,7 @@ book-linked n tb B =
       limit = B .limit;
     }
 
-module _ {language : Language} {book : Bytes} {N L : ℕ} {s : Stores} {k : Recorded} {n used : ℕ} {tb ts : List ℕ} (h : Reached language book N L s k n used tb ts) where
+module _ {language : Language} {book : Bytes} {N L : ℕ} {s : Stores} {k : Recorded} {at n used : ℕ} {tb ts : List ℕ} (h : Reached language book N L s k at n used tb ts) where
   -- their rows and cells, also where the term store has other cells behind theirs
   pub reached-book : L ≤ largestLimit → (cs rest : List ℕ) → cs ≡ termsOf (k .recorded) ++ rest → Book (k .recorded) L tb cs
   reached-book small cs rest e =
@@ -82,10 +83,10 @@ module _ (language : Language) (book : Bytes) (N L : ℕ) (s : Stores) where
   ending = run language book (limitsOf N L s)
 
   -- of every run with a verdict, accepted or not
-  pub on-record : Verdict ending → OnRecord language book L (recordedAt ending .recorded) (tableEnd ending (s .table)) (termsEnd ending (s .terms))
+  pub on-record : Verdict ending → OnRecord language book L (stateOf (recordedAt ending)) (tableEnd ending (s .table)) (termsEnd ending (s .terms))
   unfolding over termsEnd
   on-record v =
-      let h = run-reached language book N L s in
+      let (at, h) = run-reached language book N L s in
       record {
         past = h .past;
         derived = h .derived;

@@ -12,11 +12,12 @@ use Rattle.aut68.specs.Language.{Language}
 use Rattle.aut68.specs.Sizes.{nesting}
 use Rattle.aut68.specs.Stores.{Limits}
 use Rattle.aut68.specs.Bytes.{Bytes, nameByte}
-use Rattle.aut68.specs.Source.{SourceLine}
+use Rattle.aut68.specs.Source.{Used, plain, inside, SourceLine}
 use Rattle.aut68.specs.Expr.{Expr, levels, cells}
-use Rattle.aut68.specs.Lines.{Lines, Kind, variable, primitive, abbreviation, kindCells}
+use Rattle.aut68.specs.Lines.{Kind, variable, primitive, abbreviation, kindCells}
+use Rattle.aut68.specs.Paragraphs.{State}
 use Rattle.aut68.specs.Procedure.Answer.{Answer, done, stop, andThen, malformed}
-use Rattle.aut68.specs.Procedure.Parse.{Placed, aLine, spaces, byte, symbol, starts, wordOf, afterWord, wordAhead, nameFits, aName, anIndicator, bytesLeft}
+use Rattle.aut68.specs.Procedure.Parse.{Placed, aLine, spaces, byte, symbol, starts, wordOf, afterWord, wordAhead, nameFits, aName, pointIfAny, aUsed, anIndicator, bytesLeft}
 use Rattle.aut68.specs.Procedure.Resolve.{found}
 use Rattle.aut68.specs.Procedure.CheckLine.{Passed, middleWithinLimits, readLine, room, checkLine}
 use Rattle.lookup.specs.Answers.{stop≢done, done-value, done-rest, after}
@@ -82,12 +83,27 @@ symbol-ending : (c : ℕ) (a : Bytes) {b : Bytes} {u : Unit {0}} → symbol c a 
 unfolding symbol
 symbol-ending c a h = ending-then (spaces-ending a) (byte-ending c (spaces a) h)
 
-indicator-ending : (language : Language) (a : Bytes) {o : Option Bytes} {b : Bytes} → anIndicator language a ≡ done o b → Ending a b
+point-ending : (language : Language) (w a : Bytes) {u : Used} {b : Bytes} → pointIfAny language w a ≡ done u b → Ending a b
+unfolding pointIfAny
+point-ending language w a {u} {b} h = go (starts (eqb 46) (spaces a)) h
+  where
+    go : (t : Bool) → elim t as (λ _. Answer Bytes Used) [ true ↦ andThen (λ _ c. andThen (λ x r. done (inside w x) r) (aName language c)) (symbol 46 a) | false ↦ done (plain w) a ] ≡ done u b → Ending a b
+    go true h =
+        after _ _ h λ x c e₁ h₁.
+        after _ _ h₁ λ y d e₂ h₂.
+        subst (λ (z : Bytes). Ending a z) (done-rest h₂) (ending-then (symbol-ending 46 a e₁) (name-ending language c e₂))
+    go false h = subst (λ (x : Bytes). Ending a x) (done-rest h) ending-same
+
+used-ending : (language : Language) (a : Bytes) {u : Used} {b : Bytes} → aUsed language a ≡ done u b → Ending a b
+unfolding aUsed
+used-ending language a h = after _ _ h λ w c e₁ h₁. ending-then (name-ending language a e₁) (point-ending language w c h₁)
+
+indicator-ending : (language : Language) (a : Bytes) {o : Option Used} {b : Bytes} → anIndicator language a ≡ done o b → Ending a b
 unfolding anIndicator
 indicator-ending language a {o} {b} h = go (starts nameByte (spaces a)) h
   where
-    go : (t : Bool) → elim t as (λ _. Answer Bytes (Option Bytes)) [ true ↦ andThen (λ w. λ r. done (some w) r) (aName language a) | false ↦ done none a ] ≡ done o b → Ending a b
-    go true h = after _ _ h λ w c e h₁. subst (λ (x : Bytes). Ending a x) (done-rest h₁) (name-ending language a e)
+    go : (t : Bool) → elim t as (λ _. Answer Bytes (Option Used)) [ true ↦ andThen (λ u. λ r. done (some u) r) (aUsed language a) | false ↦ done none a ] ≡ done o b → Ending a b
+    go true h = after _ _ h λ w c e h₁. subst (λ (x : Bytes). Ending a x) (done-rest h₁) (used-ending language a e)
     go false h = subst (λ (x : Bytes). Ending a x) (done-rest h) ending-same
 
 -- the identifier is the part of the line's bytes behind those ahead of it
@@ -136,9 +152,9 @@ identifier-place language bytes h =
 -- ---- a line that is read
 
 -- everything that is known of a line ahead of its storage and its categories
-pub record LineRead (language : Language) (ls : Lines) (L : ℕ) (bytes : Bytes) (p : Passed) : Type 0 where
+pub record LineRead (language : Language) (st : State) (L : ℕ) (bytes : Bytes) (p : Passed) : Type 0 where
   pub source : SourceLine
-  pub reading : Reading language ls bytes source (p .line)
+  pub reading : Reading language st bytes source (p .line)
   pub middleFits : length (kindCells (p .line .kind)) ≤ L
   pub middleShallow : (m : Expr) → p .line .kind ≡ abbreviation m → levels m ≤ nesting
   pub categoryFits : length (cells (p .line .category)) ≤ L
@@ -151,8 +167,8 @@ middle-fits L variable h = omega arith
 middle-fits L primitive h = omega arith
 middle-fits L (abbreviation m) h = omega (arith, within-limits L m h .0, size-is-length m)
 
-known-line : (language : Language) (ls : Lines) (L : ℕ) (bytes : Bytes) {p : Passed} → ReadAs language ls L bytes p → LineRead language ls L bytes p
-known-line language ls L bytes {p} r =
+known-line : (language : Language) (st : State) (L : ℕ) (bytes : Bytes) {p : Passed} → ReadAs language st L bytes p → LineRead language st L bytes p
+known-line language st L bytes {p} r =
     let l = p .line in
     record {
       source = r .placed .line;
@@ -166,12 +182,12 @@ known-line language ls L bytes {p} r =
           (subst (Identifies bytes (r .placed .before)) (sym (r .reading .identifierIs)) (identifier-place language bytes (r .parsed)));
     }
 
-pub line-read : (language : Language) (ls : Lines) (L : ℕ) (bytes : Bytes) → RightContexts ls → {p : Passed} → readLine language ls L bytes tt ≡ found p → LineRead language ls L bytes p
-line-read language ls L bytes c h = known-line language ls L bytes (read-as language ls L bytes c h)
+pub line-read : (language : Language) (st : State) (L : ℕ) (bytes : Bytes) → RightContexts (st .earlier) → {p : Passed} → readLine language st L bytes tt ≡ found p → LineRead language st L bytes p
+line-read language st L bytes c h = known-line language st L bytes (read-as language st L bytes c h)
 
 -- a line that passed was read, and there was room for it
-pub passed-read : (language : Language) (ls : Lines) (m : Limits) (bytes : Bytes) (b : ℕ) → RightContexts ls → {p : Passed} {b′ : ℕ} → checkLine language ls m bytes b ≡ done p b′
-    → LineRead language ls (m .limit) bytes p × (room ls m (p .line) ≡ true)
-passed-read language ls m bytes b c h =
-    let x = check-passed language ls m bytes b c h in
-    (known-line language ls (m .limit) bytes (x .read), x .fits)
+pub passed-read : (language : Language) (st : State) (m : Limits) (bytes : Bytes) (b : ℕ) → RightContexts (st .earlier) → {p : Passed} {b′ : ℕ} → checkLine language st m bytes b ≡ done p b′
+    → LineRead language st (m .limit) bytes p × (room (st .earlier) m (p .line) ≡ true)
+passed-read language st m bytes b c h =
+    let x = check-passed language st m bytes b c h in
+    (known-line language st (m .limit) bytes (x .read), x .fits)

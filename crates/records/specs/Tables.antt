@@ -7,7 +7,7 @@ use native.Mathlib.Omega.{arith}
 use lib.ListN.{length, getD, drop, length-append, length-drop}
 use lib.Seq.{slice, sets, sets-eq, getD-drop, drop-append-add, drop-append-le, take-at, drop-at, drop-drop}
 use borrow.Author.Tests.{le-leb}
-use Rattle.aut68.specs.Sizes.{rowWidth, atNameStart, atNameLength}
+use Rattle.aut68.specs.Sizes.{rowWidth, atNameStart, atNameLength, atIndicator, atContext, atKind, atMiddle, atCategory, atEnd, atParagraph}
 use Rattle.aut68.specs.Bytes.{Bytes}
 use Rattle.aut68.specs.Expr.{cells}
 use Rattle.aut68.specs.Lines.{Line, Lines, kindCells, lineCells, termsOf, rowOf, rowsFrom, tableOf, rowCell, partOf, identifierPart}
@@ -24,11 +24,11 @@ unfolding termsOf
 terms-snoc [] l = append-nil (lineCells l)
 terms-snoc (k ∷ ls) l = ap (λ (x : List ℕ). lineCells k ++ x) (terms-snoc ls l) ∙ sym (append-assoc (lineCells k) (termsOf ls) (lineCells l))
 
-row-long : (f s : ℕ) (l : Line) → length (rowOf f s l) ≡ 8
+row-long : (f s : ℕ) (l : Line) → length (rowOf f s l) ≡ rowWidth
 unfolding rowOf
 row-long f s l = refl
 
-rows-long : (s : ℕ) (firsts : List ℕ) (ls : Lines) → length firsts ≡ length ls → length (rowsFrom s firsts ls) ≡ 8 * length ls
+rows-long : (s : ℕ) (firsts : List ℕ) (ls : Lines) → length firsts ≡ length ls → length (rowsFrom s firsts ls) ≡ rowWidth * length ls
 unfolding rowsFrom
 rows-long s [] [] e = refl
 rows-long s (f ∷ fs) [] e = absurd (omega arith)
@@ -48,7 +48,7 @@ rows-snoc s (g ∷ fs) (k ∷ ls) f l e =
     ap (λ (x : List ℕ). rowOf g s k ++ x) (rows-snoc (s + length (lineCells k)) fs ls f l (omega arith) ∙ ap (λ (n : ℕ). rowsFrom (s + length (lineCells k)) fs ls ++ rowOf f n l) n)
     ∙ sym (append-assoc (rowOf g s k) (rowsFrom (s + length (lineCells k)) fs ls) (rowOf f (s + length (lineCells k ++ termsOf ls)) l))
 
-pub table-long : (firsts : List ℕ) (ls : Lines) → length firsts ≡ length ls → length (tableOf firsts ls) ≡ 8 * length ls
+pub table-long : (firsts : List ℕ) (ls : Lines) → length firsts ≡ length ls → length (tableOf firsts ls) ≡ rowWidth * length ls
 unfolding tableOf
 table-long firsts ls e = rows-long 0 firsts ls e
 
@@ -99,10 +99,10 @@ record Place (book : Bytes) (s : ℕ) (rows terms : List ℕ) (v : ℕ) (l : Lin
   begins : ℕ
   from : ℕ
   moreRows : List ℕ
-  rowAt : drop (8 * index) rows ≡ rowOf begins (s + from) l ++ moreRows
+  rowAt : drop (rowWidth * index) rows ≡ rowOf begins (s + from) l ++ moreRows
   moreCells : List ℕ
   cellsAt : drop from terms ≡ lineCells l ++ moreCells
-  rowIn : 8 * index + 8 ≤ length rows
+  rowIn : rowWidth * index + rowWidth ≤ length rows
   cellsIn : from ≤ length terms
   within : begins + length (l .identifier) ≤ length book
   bytesAre : slice begins (begins + length (l .identifier)) book ≡ l .identifier
@@ -129,7 +129,7 @@ place {l = l} s firsts (oneSpelled {f} {fs} {l = k} {ls = more} a b t) (later h)
     let n = s + length (lineCells k) in
     let p = place n fs t h in
     let r = row-long f s k in
-    let e : 8 * suc (p .index) ≡ length (rowOf f s k) + 8 * p .index = omega arith in
+    let e : rowWidth * suc (p .index) ≡ length (rowOf f s k) + rowWidth * p .index = omega arith in
     let g : n + p .from ≡ s + (length (lineCells k) + p .from) = omega arith in
     record {
       index = suc (p .index);
@@ -139,7 +139,7 @@ place {l = l} s firsts (oneSpelled {f} {fs} {l = k} {ls = more} a b t) (later h)
       moreRows = p .moreRows;
       rowAt =
           ap (λ (i : ℕ). drop i (rowOf f s k ++ rowsFrom n fs more)) e
-          ∙ drop-append-add (rowOf f s k) (rowsFrom n fs more) (8 * p .index)
+          ∙ drop-append-add (rowOf f s k) (rowsFrom n fs more) (rowWidth * p .index)
           ∙ p .rowAt
           ∙ ap (λ (i : ℕ). rowOf (p .begins) i l ++ p .moreRows) g;
       moreCells = p .moreCells;
@@ -166,11 +166,11 @@ module _ {book : Bytes} {firsts : List ℕ} {ls : Lines} {tb ts : List ℕ} (h :
     unfolding tableOf
     its = place 0 firsts (h .spelled) i
 
-    row-here : drop (8 * its .index) tb ≡ rowOf (its .begins) (its .from) l ++ (its .moreRows ++ h .tableRest)
+    row-here : drop (rowWidth * its .index) tb ≡ rowOf (its .begins) (its .from) l ++ (its .moreRows ++ h .tableRest)
     row-here =
         let p = its in
-        ap (drop (8 * p .index)) (h .tableIs)
-        ∙ drop-append-le (8 * p .index) (tableOf firsts ls) (h .tableRest) (let q = p .rowIn in omega arith)
+        ap (drop (rowWidth * p .index)) (h .tableIs)
+        ∙ drop-append-le (rowWidth * p .index) (tableOf firsts ls) (h .tableRest) (let q = p .rowIn in omega arith)
         ∙ ap (λ (x : List ℕ). x ++ h .tableRest) (p .rowAt ∙ ap (λ (n : ℕ). rowOf (p .begins) n l ++ p .moreRows) (zero-add (p .from)))
         ∙ append-assoc (rowOf (p .begins) (p .from) l) (p .moreRows) (h .tableRest)
 
@@ -178,10 +178,10 @@ module _ {book : Bytes} {firsts : List ℕ} {ls : Lines} {tb ts : List ℕ} (h :
     cell-here k =
         let p = its in
         let q = p .numberIs in
-        let e : 8 * v + k - 8 ≡ 8 * p .index + k = omega arith in
+        let e : rowWidth * v + k - rowWidth ≡ rowWidth * p .index + k = omega arith in
         row-cell-is tb v k (λ z. omega arith)
         ∙ ap (λ (n : ℕ). getD tb n 0) e
-        ∙ sym (getD-drop (8 * p .index) tb k 0)
+        ∙ sym (getD-drop (rowWidth * p .index) tb k 0)
         ∙ ap (λ (x : List ℕ). getD x k 0) row-here
 
     cells-here : drop (its .from) ts ≡ lineCells l ++ (its .moreCells ++ h .termsRest)
@@ -198,9 +198,10 @@ module _ {book : Bytes} {firsts : List ℕ} {ls : Lines} {tb ts : List ℕ} (h :
         let p = its in
         record {
           whole = (let q = p .numberIs in let r = p .rowIn in omega (arith, ap length (h .tableIs), length-append (tableOf firsts ls) (h .tableRest)));
-          indicatorIs = cell-here 2;
-          contextIs = cell-here 3;
-          kindIs = cell-here 4;
+          indicatorIs = cell-here atIndicator;
+          contextIs = cell-here atContext;
+          kindIs = cell-here atKind;
+          paragraphIs = cell-here atParagraph;
         }
 
     pub held-cells : CellsOf tb ts v l
@@ -213,18 +214,18 @@ module _ {book : Bytes} {firsts : List ℕ} {ls : Lines} {tb ts : List ℕ} (h :
         let n : p .from + length (m ++ cells (l .category)) ≡ p .from + length m + length (cells (l .category)) = omega (arith, length-append m (cells (l .category))) in
         record {
           afterMiddle = after;
-          middleAt = record { is = ap (λ (k : ℕ). drop k ts) (cell-here 5) ∙ middle };
-          middleEnds = cell-here 6 ∙ ap (λ (k : ℕ). k + length m) (sym (cell-here 5));
+          middleAt = record { is = ap (λ (k : ℕ). drop k ts) (cell-here atMiddle) ∙ middle };
+          middleEnds = cell-here atCategory ∙ ap (λ (k : ℕ). k + length m) (sym (cell-here atMiddle));
           afterCategory = p .moreCells ++ h .termsRest;
           categoryAt =
               record {
                 is =
-                    ap (λ (k : ℕ). drop k ts) (cell-here 6)
+                    ap (λ (k : ℕ). drop k ts) (cell-here atCategory)
                     ∙ sym (drop-drop (length m) (p .from) ts)
                     ∙ ap (drop (length m)) middle
                     ∙ drop-at m after (length m) refl;
               };
-          categoryEnds = cell-here 7 ∙ n ∙ ap (λ (k : ℕ). k + length (cells (l .category))) (sym (cell-here 6));
+          categoryEnds = cell-here atEnd ∙ n ∙ ap (λ (k : ℕ). k + length (cells (l .category))) (sym (cell-here atCategory));
         }
 
     pub held-name : NameOf book tb v l
@@ -232,8 +233,8 @@ module _ {book : Bytes} {firsts : List ℕ} {ls : Lines} {tb ts : List ℕ} (h :
     held-name =
         let p = its in
         record {
-          within = (let q = p .within in omega (arith, cell-here 0, cell-here 1));
-          bytesAre = rw (cell-here 0, cell-here 1) (p .bytesAre);
+          within = (let q = p .within in omega (arith, cell-here atNameStart, cell-here atNameLength));
+          bytesAre = rw (cell-here atNameStart, cell-here atNameLength) (p .bytesAre);
         }
 
     -- the part of the book that the row points to is the identifier

@@ -24,8 +24,8 @@ unfolding termsOf Below
 terms-below n [] h = tt
 terms-below n (l ∷ ls) h = below-append n (lineCells l) (termsOf ls) (h 1 l first) (terms-below n ls (λ v k i. h (suc v) k (later i)))
 
-reached-below : {language : Language} {book : Bytes} {N L : ℕ} {s : Stores} {k : Recorded} {lines used : ℕ} {table terms : List ℕ}
-    → Reached language book N L s k lines used table terms → (n : ℕ) → length (k .recorded) < n → L ≤ n → Below (cellFactor * n) (termsOf (k .recorded))
+reached-below : {language : Language} {book : Bytes} {N L : ℕ} {s : Stores} {k : Recorded} {at count used : ℕ} {table terms : List ℕ}
+    → Reached language book N L s k at count used table terms → (n : ℕ) → length (k .recorded) < n → L ≤ n → Below (cellFactor * n) (termsOf (k .recorded))
 reached-below {k = k} h n few l =
     terms-below (cellFactor * n) (k .recorded) λ v x i.
     let m = h .small i .middleSize in
@@ -34,4 +34,4 @@ reached-below {k = k} h n few l =
 
 pub shelf-width : (language : Language) → ShelfWidth language
 unfolding ShelfWidth
-shelf-width language book N L s n few l = below-fits _ _ (reached-below (run-reached language book N L s) n few l)
+shelf-width language book N L s n few l = below-fits _ _ (reached-below (run-reached language book N L s .1) n few l)

@@ -207,14 +207,26 @@ pub fn pages(r: AnswerNumbers, page: &[u8]) {
     say(changed_bytes(page, length), 10);
 }
 
-// How many bytes of the book are 10; 2^32 - 1 if there are more.
-fn ends(book: &[u8]) -> u32 {
+// How many lines of the book are no paragraph lines: the bytes 10, but for those behind a line that begins with a sign; 2^32 - 1 if there
+// are more.
+fn ordinary_lines(book: &[u8]) -> u32 {
     let mut n = 0;
+    let mut first: u8 = 32;
     let mut i = 0;
     while i < book.len() {
-        if book[i] == 10 {
-            if n < 4294967295 {
-                n = n + 1;
+        let b = book[i];
+        if b == 10 {
+            if first != b'+' {
+                if first != b'-' {
+                    if n < 4294967295 {
+                        n = n + 1;
+                    }
+                }
+            }
+            first = 32;
+        } else {
+            if first == 32 {
+                first = b;
             }
         }
         i = i + 1;
@@ -234,5 +246,5 @@ pub fn admitted(r: AnswerNumbers, book: &[u8]) -> u32 {
     if r.code == LIMIT_OUT_OF_RANGE {
         return 0;
     }
-    ends(book)
+    ordinary_lines(book)
 }

@@ -58,17 +58,18 @@ module _ (table terms index lines used entries size names : ℕ) where
 one-put : (t t′ : List ℕ) (m k i v : ℕ) (vs : List ℕ) → m + k ≡ i → t′ ≡ set t (m + k) v → sets t′ (suc i) vs ≡ sets t i (v ∷ vs)
 one-put t t′ m k i v vs e h = ap (λ (x : List ℕ). sets x (suc i) vs) (h ∙ ap (λ (j : ℕ). set t j v) e)
 
-pub row-put : (n a b c d e f g h : ℕ) (t₀ t₁ t₂ t₃ t₄ t₅ t₆ t₇ t₈ : List ℕ)
+pub row-put : (n a b c d e f g h k : ℕ) (t₀ t₁ t₂ t₃ t₄ t₅ t₆ t₇ t₈ t₉ : List ℕ)
     → t₁ ≡ set t₀ (rowWidth * n + 0) a → t₂ ≡ set t₁ (rowWidth * n + 1) b → t₃ ≡ set t₂ (rowWidth * n + 2) c → t₄ ≡ set t₃ (rowWidth * n + 3) d
     → t₅ ≡ set t₄ (rowWidth * n + 4) e → t₆ ≡ set t₅ (rowWidth * n + 5) f → t₇ ≡ set t₆ (rowWidth * n + 6) g → t₈ ≡ set t₇ (rowWidth * n + 7) h
-    → t₈ ≡ sets t₀ (rowWidth * n) (a ∷ b ∷ c ∷ d ∷ e ∷ f ∷ g ∷ h ∷ [])
-row-put n a b c d e f g h t₀ t₁ t₂ t₃ t₄ t₅ t₆ t₇ t₈ p₁ p₂ p₃ p₄ p₅ p₆ p₇ p₈ =
+    → t₉ ≡ set t₈ (rowWidth * n + 8) k → t₉ ≡ sets t₀ (rowWidth * n) (a ∷ b ∷ c ∷ d ∷ e ∷ f ∷ g ∷ h ∷ k ∷ [])
+row-put n a b c d e f g h k t₀ t₁ t₂ t₃ t₄ t₅ t₆ t₇ t₈ t₉ p₁ p₂ p₃ p₄ p₅ p₆ p₇ p₈ p₉ =
     let m = rowWidth * n in
-    one-put t₇ t₈ m 7 (suc (suc (suc (suc (suc (suc (suc m))))))) h [] (omega arith) p₈
-    ∙ one-put t₆ t₇ m 6 (suc (suc (suc (suc (suc (suc m)))))) g (h ∷ []) (omega arith) p₇
-    ∙ one-put t₅ t₆ m 5 (suc (suc (suc (suc (suc m))))) f (g ∷ h ∷ []) (omega arith) p₆
-    ∙ one-put t₄ t₅ m 4 (suc (suc (suc (suc m)))) e (f ∷ g ∷ h ∷ []) (omega arith) p₅
-    ∙ one-put t₃ t₄ m 3 (suc (suc (suc m))) d (e ∷ f ∷ g ∷ h ∷ []) (omega arith) p₄
-    ∙ one-put t₂ t₃ m 2 (suc (suc m)) c (d ∷ e ∷ f ∷ g ∷ h ∷ []) (omega arith) p₃
-    ∙ one-put t₁ t₂ m 1 (suc m) b (c ∷ d ∷ e ∷ f ∷ g ∷ h ∷ []) (omega arith) p₂
-    ∙ one-put t₀ t₁ m 0 m a (b ∷ c ∷ d ∷ e ∷ f ∷ g ∷ h ∷ []) (omega arith) p₁
+    one-put t₈ t₉ m 8 (suc (suc (suc (suc (suc (suc (suc (suc m)))))))) k [] (omega arith) p₉
+    ∙ one-put t₇ t₈ m 7 (suc (suc (suc (suc (suc (suc (suc m))))))) h (k ∷ []) (omega arith) p₈
+    ∙ one-put t₆ t₇ m 6 (suc (suc (suc (suc (suc (suc m)))))) g (h ∷ k ∷ []) (omega arith) p₇
+    ∙ one-put t₅ t₆ m 5 (suc (suc (suc (suc (suc m))))) f (g ∷ h ∷ k ∷ []) (omega arith) p₆
+    ∙ one-put t₄ t₅ m 4 (suc (suc (suc (suc m)))) e (f ∷ g ∷ h ∷ k ∷ []) (omega arith) p₅
+    ∙ one-put t₃ t₄ m 3 (suc (suc (suc m))) d (e ∷ f ∷ g ∷ h ∷ k ∷ []) (omega arith) p₄
+    ∙ one-put t₂ t₃ m 2 (suc (suc m)) c (d ∷ e ∷ f ∷ g ∷ h ∷ k ∷ []) (omega arith) p₃
+    ∙ one-put t₁ t₂ m 1 (suc m) b (c ∷ d ∷ e ∷ f ∷ g ∷ h ∷ k ∷ []) (omega arith) p₂
+    ∙ one-put t₀ t₁ m 0 m a (b ∷ c ∷ d ∷ e ∷ f ∷ g ∷ h ∷ k ∷ []) (omega arith) p₁

@@ -6,7 +6,7 @@ use reader::Line;
 ghost use mathlib.Core.Path.{_≡_};
 ghost use mathlib.Core.Bool.{_&&_};
 ghost use mathlib.Core.List.{[], _∷_};
-ghost use Prim.Native.Nat.{suc, _+_, _*_, _-_, _<_, _≤_};
+ghost use Prim.Native.Nat.{suc, _+_, _*_, _<_};
 ghost use lib.Dec.{leb, ltb};
 ghost use lib.ListN.{set};
 ghost use lib.Seq.{sets};
@@ -83,7 +83,7 @@ pub fn put_row(
     category: usize,
     end: usize,
 )
-    ensures { λ _. ⌜ (suc lines < lineLimit → Below 4294967296 (first ∷ l .len ∷ l .indicator ∷ l .context ∷ l .kind ∷ start ∷ category ∷ end ∷ []) → now (table .exit) ≡ sets (now (table .entry)) (rowWidth * lines) (first ∷ l .len ∷ l .indicator ∷ l .context ∷ l .kind ∷ start ∷ category ∷ end ∷ [])) ⌝ }
+    ensures { λ _. ⌜ (suc lines < lineLimit → Below 4294967296 (first ∷ l .len ∷ l .indicator ∷ l .context ∷ l .kind ∷ start ∷ category ∷ end ∷ l .paragraph ∷ []) → now (table .exit) ≡ sets (now (table .entry)) (rowWidth * lines) (first ∷ l .len ∷ l .indicator ∷ l .context ∷ l .kind ∷ start ∷ category ∷ end ∷ l .paragraph ∷ [])) ⌝ }
 {
     put_field(table, lines, constants::NAME_START, first);
     put_field(table, lines, constants::NAME_LENGTH, l.len);
@@ -93,4 +93,5 @@ pub fn put_row(
     put_field(table, lines, constants::MIDDLE_START, start);
     put_field(table, lines, constants::CATEGORY_START, category);
     put_field(table, lines, constants::CATEGORY_END, end);
+    put_field(table, lines, constants::PARAGRAPH, l.paragraph);
 }

@@ -2,3 +2,5 @@
 pub mod SymbolLaws
 pub mod WordLaws
 pub mod SameLaws
+pub mod NextLaws
+pub mod UsedLaws

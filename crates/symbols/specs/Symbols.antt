@@ -1,14 +1,17 @@
 -- Symbols and words of a line s. A place is an index; what is left to read at it is `drop at s`.
 use mathlib.Core.Path.{_≡_}
 use mathlib.Core.Logic.{_≢_}
+use mathlib.Core.Bool.{true, false}
 use mathlib.Core.List.{[], _∷_}
 use Prim.Native.Nat.{ℕ, _+_, _*_, _≤_, _<_}
+use lib.Dec.{eqb}
 use lib.ListN.{length, getD, drop}
 use lib.Seq.{slice}
 use Rattle.aut68.specs.Language.{aut68}
 use Rattle.aut68.specs.Bytes.{Bytes}
+use Rattle.aut68.specs.Source.{Used, plain, inside}
 use Rattle.aut68.specs.Procedure.Answer.{done, stop, malformed}
-use Rattle.aut68.specs.Procedure.Parse.{spaces, symbol, wordOf, afterWord, aName}
+use Rattle.aut68.specs.Procedure.Parse.{spaces, symbol, wordOf, afterWord, aName, aUsed}
 use Rattle.kinds.specs.Kinds.{KindsTable, kindOf}
 
 -- the kind of the first byte; 0 where there is none
@@ -52,3 +55,21 @@ pub record NameAt (ks s : Bytes) (at start len : ℕ) : Type 0 where
   pub within : at ≤ length s → start + len ≤ length s
   pub read : KindsTable ks → at ≤ length s → len ≢ 0 → aName aut68 (drop at s) ≡ done (slice start (start + len) s) (drop (start + len) s)
   pub missing : KindsTable ks → at ≤ length s → len ≡ 0 → aName aut68 (drop at s) ≡ stop malformed (drop at s)
+
+-- a name where it is used: the len bytes from `start` on, and ahead of the point the size bytes from `title` on, if size is not 0
+unfoldable pub usedIn : Bytes → ℕ → ℕ → ℕ → ℕ → Used
+usedIn s title size start len =
+    elim (eqb size 0) [ true ↦ plain (slice start (start + len) s) | false ↦ inside (slice title (title + size) s) (slice start (start + len) s) ]
+
+-- a name where it is used, by its bytes and those of the paragraph's name ahead of the point, none if there is no point
+unfoldable pub usedBy : Bytes → Bytes → Used
+usedBy [] word = plain word
+usedBy (c ∷ cs) word = inside (c ∷ cs) word
+
+-- the name that stands next where it is used: len 0 where none does
+pub record UsedAt (ks s : Bytes) (at title size start len : ℕ) : Type 0 where
+  pub from : at ≤ start
+  pub titled : at ≤ length s → title + size ≤ length s
+  pub within : at ≤ length s → start + len ≤ length s
+  pub read : KindsTable ks → at ≤ length s → len ≢ 0 → aUsed aut68 (drop at s) ≡ done (usedIn s title size start len) (drop (start + len) s)
+  pub missing : KindsTable ks → at ≤ length s → len ≡ 0 → (rest : Bytes) × (aUsed aut68 (drop at s) ≡ stop malformed rest)

@@ -4,7 +4,7 @@ ghost use Prim.Native.Nat.{_+_, _≤_, _<_};
 ghost use lib.ListN.{length, getD};
 ghost use Rattle.aut68.specs.Language.{aut68};
 ghost use Rattle.aut68.specs.Bytes.{sameBytes, reserved};
-ghost use Rattle.symbols.specs.Symbols.{PastSpaces, KindAt, PastSymbol, WordEnd, fourAt, NameAt};
+ghost use Rattle.symbols.specs.Symbols.{PastSpaces, KindAt, PastSymbol, WordEnd, fourAt, NameAt, UsedAt};
 
 // The first byte from `at` on that is no space; the line's length where there is none (spaces).
 pub fn spaces(line: &[u8], at: usize) -> usize
@@ -174,5 +174,55 @@ pub fn name_at(line: &[u8], kinds: &[u8; 256], at: usize) -> Name
     Name {
         start: start,
         len: len,
+    }
+}
+
+// A name where it is used. title, size: the paragraph's name before the point (size 0: there is no point). start, len: the name;
+// len 0: no such name.
+pub struct UsedName {
+    pub title: usize,
+    pub size: usize,
+    pub start: usize,
+    pub len: usize,
+}
+
+// The name that stands next, with the paragraph's name and the point before it, if any (aUsed).
+pub fn used_at(line: &[u8], kinds: &[u8; 256], at: usize) -> UsedName
+    ensures { λ r. ⌜ UsedAt (now (kinds .entry)) (now (line .entry)) at (r .title) (r .size) (r .start) (r .len) ⌝ }
+{
+    if at > line.len() {
+        return UsedName {
+            title: 0,
+            size: 0,
+            start: at,
+            len: 0,
+        };
+    }
+    let n = name_at(line, kinds, at);
+    let start = n.start;
+    let len = n.len;
+    if len == 0 {
+        return UsedName {
+            title: 0,
+            size: 0,
+            start: start,
+            len: 0,
+        };
+    }
+    let point = symbol(line, kinds, start + len, kinds::POINT);
+    if point > line.len() {
+        return UsedName {
+            title: 0,
+            size: 0,
+            start: start,
+            len: len,
+        };
+    }
+    let inner = name_at(line, kinds, point);
+    UsedName {
+        title: start,
+        size: len,
+        start: inner.start,
+        len: inner.len,
     }
 }

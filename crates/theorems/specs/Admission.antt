@@ -1,5 +1,5 @@
 -- What a call on a book has of its admission: the lines of an accepted book, a refusal passed on, and an answer.
-use mathlib.Core.Path.{_≡_, refl, sym, _∙_, subst}
+use mathlib.Core.Path.{_≡_, refl, sym, ap, _∙_, subst}
 use mathlib.Core.Logic.{_⊎_, _≢_, inl, inr, ⊎-elim}
 use mathlib.Core.List.{[]}
 use Prim.Native.Nat.{ℕ, _≤_}
@@ -11,14 +11,17 @@ use Rattle.aut68.specs.Sizes.{bookLimit}
 use Rattle.aut68.specs.Stores.{Stores, limitsOf}
 use Rattle.aut68.specs.Bytes.{Bytes, lines}
 use Rattle.aut68.specs.Lines.{Lines}
+use Rattle.aut68.specs.Paragraphs.{State, start}
 use Rattle.aut68.specs.Procedure.Answer.{Refusal, codeOf}
-use Rattle.aut68.specs.Procedure.Run.{Ending, turnedAway, accepted, refusedAt, run, codeAt, lineAt, stepsAt, recordedAt}
+use Rattle.aut68.specs.Procedure.Run.{Ending, turnedAway, accepted, refusedAt, run, stateOf, codeAt, lineAt, stepsAt, recordedAt}
 use Rattle.aut68.specs.Rules.Derivation.{Derived}
-use Rattle.aut68.specs.Demands.{Accepted, Verdict, Soundness, Recording, Determined, Checks}
+use Rattle.aut68.specs.Demands.{Accepted, Verdict, Soundness, Determined, Checks}
 use Rattle.aut68.specs.Admission.{AdmitsFirst}
 use Rattle.lookup.specs.Runs.{verdict-admitted}
+use Rattle.reading.specs.Readings.{book-unique}
 use Rattle.orders.specs.Limits.{same-ending}
-use Rattle.theorems.specs.Demands.{accepted-is-correct, recorded-are-meanings}
+use Rattle.theorems.specs.Demands.{accepted-is-correct}
+use Rattle.theorems.specs.FromTheLeft.{run-went}
 use Rattle.theorems.specs.Checks.{accepted-line, checks}
 
 -- The code of an ending is 0 or a refusal's.
@@ -32,13 +35,17 @@ module _ (language : Language) (book : Bytes) (N L : ℕ) (s : Stores) where
   abbrev ending : Ending
   ending = run language book (limitsOf N L s)
 
-  -- the lines of an accepted book: as many as are reported, and each has a derivation
-  pub accepted-lines : codeAt ending ≡ 0 → (lineAt ending ≡ length (recordedAt ending .recorded)) × Derived language [] (lines book) (recordedAt ending .recorded)
-  unfolding Soundness Accepted Recording
+  -- the lines of an accepted book: as many as are reported, each piece has a derivation, and no paragraph is left open
+  pub accepted-lines : codeAt ending ≡ 0
+      → (lineAt ending ≡ length (recordedAt ending .recorded)) × Derived language start (lines book) (stateOf (recordedAt ending)) × (recordedAt ending .place .opened ≡ [])
+  unfolding Soundness Accepted
   accepted-lines z =
-      let all = accepted-is-correct language book (limitsOf N L s) z .1 in
-      let here : lineAt ending ≡ length (recordedAt ending .recorded) = accepted-line language book N L s z in
-      (here, subst (λ x. Derived language [] x (recordedAt ending .recorded)) (take-all (length (recordedAt ending .recorded)) (lines book) (omega (arith, all, here))) (recorded-are-meanings language book (limitsOf N L s)))
+      let w = run-went language book (limitsOf N L s) in
+      let c = accepted-is-correct language book (limitsOf N L s) z .0 in
+      let D : Derived language start (lines book) (stateOf (recordedAt ending)) =
+      subst (λ x. Derived language start x (stateOf (recordedAt ending))) (take-all (w .passed) (lines book) (omega (arith, w .allPassed z))) (w .derived)
+      in
+      (accepted-line language book N L s z, D, ap (λ (x : State). x .place .opened) (book-unique language D (c .derived)) ∙ c .allClosed)
 
   module _ {code line steps : ℕ} {s′ : Stores} (d : Determined ending L s code line steps s′) where
     promise : Checks language book N L s (codeAt ending) (lineAt ending) (stepsAt ending) s′

@@ -5,13 +5,15 @@ use mathlib.Core.Logic.{_≢_}
 use mathlib.Core.List.{List, []}
 use Prim.Native.Nat.{ℕ}
 use native.Mathlib.Omega.{arith}
-use lib.ListN.{length, take}
+use lib.ListN.{take}
 use Rattle.aut68.specs.Language.{aut68}
 use Rattle.aut68.specs.Stores.{lending}
 use Rattle.aut68.specs.Bytes.{Bytes, lines}
 use Rattle.aut68.specs.Expr.{Expr, bound, const, app, abs, nil, countExprs, isType, overBinding}
 use Rattle.aut68.specs.Substitution.{lift, substituteBound, substitute, instantiate}
-use Rattle.aut68.specs.Lines.{Lines, lineOf}
+use Rattle.aut68.specs.Lines.{lineOf}
+use Rattle.aut68.specs.Paragraphs.{Place, State, start}
+use Rattle.aut68.specs.Procedure.Run.{recordedAt, run}
 use Rattle.aut68.specs.Outcomes.{numbers, numberLines, numbers-recorded}
 use Rattle.aut68.specs.Rules.Names.{first, later}
 use Rattle.aut68.specs.Rules.Steps.{Reduces, done, step, beta, delta}
@@ -27,21 +29,23 @@ use Rattle.theorems.specs.Demands.{recorded-are-meanings}
 -- over a correct book, two correct expressions, the second reached from the first; their categories are not the same
 pub record Changed : Type 0 where
   pub pieces : List Bytes
-  pub ls : Lines
-  pub isCorrect : Derived aut68 [] pieces ls
+  pub st : State
+  pub isCorrect : Derived aut68 start pieces st
   pub before : Expr
   pub after : Expr
-  pub reached : Reduces ls before after
+  pub reached : Reduces (st .earlier) before after
   pub categoryBefore : Expr
   pub categoryAfter : Expr
-  pub correctBefore : CorrectAs aut68 ls [] [] before categoryBefore
-  pub correctAfter : CorrectAs aut68 ls [] [] after categoryAfter
+  pub correctBefore : CorrectAs aut68 (st .earlier) [] [] before categoryBefore
+  pub correctAfter : CorrectAs aut68 (st .earlier) [] [] after categoryAfter
   pub unlike : categoryAfter ≢ categoryBefore
 
-derived : Derived aut68 [] (take 3 (lines numbers)) numberLines
-unfolding Recording numberLines
+derived : (passed : ℕ) × (at : Place) × Derived aut68 start (take passed (lines numbers)) (record { earlier = numberLines; place = at })
+unfolding Recording
 derived =
-    subst (λ ls. Derived aut68 [] (take (length ls) (lines numbers)) ls) numbers-recorded (recorded-are-meanings aut68 numbers (lending 0 16 24 8 2048 16384))
+    let (passed, within, d) = recorded-are-meanings aut68 numbers (lending 0 16 27 8 2048 16384) in
+    let e = recordedAt (run aut68 numbers (lending 0 16 27 8 2048 16384)) in
+    (passed, e .place, subst (λ ls. Derived aut68 start (take passed (lines numbers)) (record { earlier = ls; place = e .place })) numbers-recorded d)
 
 unfoldable nat : Expr
 nat = const 1 nil
@@ -79,10 +83,11 @@ num-constant = record { line = lineOf numberLines 3; isLine = later (later first
 pub category-changed : Changed
 unfolding Scoped countExprs one num nat substitute substituteBound lift
 category-changed =
+    let (passed, at, d) = derived in
     record {
-      pieces = take 3 (lines numbers);
-      ls = numberLines;
-      isCorrect = derived;
+      pieces = take passed (lines numbers);
+      st = record { earlier = numberLines; place = at };
+      isCorrect = d;
       before = app one (abs num (bound 0));
       after = one;
       reached = step (beta refl) done;

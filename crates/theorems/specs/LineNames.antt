@@ -1,22 +1,29 @@
--- Codes 5, 6 and 14: an indicator that is no `EB` line, and the first name that is not in order.
+-- Codes 5, 6 and 14: an indicator that is no `EB` line, and the first name that is not in order. A paragraph line gets none of them.
 use mathlib.Core.Path.{_≡_, refl, ap, sym, _∙_, subst}
-use mathlib.Core.Logic.{_⊎_, inl, inr}
-use mathlib.Core.List.{List, []}
-use Prim.Native.Nat.{ℕ, suc, _<_}
+use mathlib.Core.Logic.{_⊎_, inl, inr, _↔_}
+use mathlib.Core.Bool.{true, true≢false}
+use mathlib.Core.List.{List}
+use Prim.Native.Nat.{ℕ, _<_}
 use native.Mathlib.Omega.{arith}
 use Rattle.aut68.specs.Language.{Language}
 use Rattle.aut68.specs.Stores.{Limits}
 use Rattle.aut68.specs.Bytes.{Bytes}
-use Rattle.aut68.specs.Lines.{Lines}
-use Rattle.aut68.specs.Procedure.Answer.{done, stop, Refusal, codeOf, unknownName, wrongArity, notInContext}
-use Rattle.aut68.specs.Procedure.CheckLine.{Passed, checkLine}
+use Rattle.aut68.specs.Paragraphs.{State, start}
+use Rattle.aut68.specs.Procedure.Answer.{done, stop, Refusal, codeOf, unknownName}
+use Rattle.aut68.specs.Procedure.Parse.{signed}
+use Rattle.aut68.specs.Procedure.CheckLine.{checkLine}
+use Rattle.aut68.specs.Procedure.CheckPiece.{PassedPiece, checkPiece}
+use Rattle.aut68.specs.Rules.Grammar.{IsSign, plus, minus}
 use Rattle.aut68.specs.Rules.NameFaults.{IndicatorFault, FirstName, Unknown}
 use Rattle.aut68.specs.Rules.Derivation.{Derived}
 use Rattle.aut68.specs.Demands.{ByItsNames}
-use Rattle.lookup.specs.Answers.{stop≢done, stop-reason, code-nonzero}
+use Rattle.lookup.specs.Answers.{stop≢done, stop-reason}
 use Rattle.lookup.specs.NameFaults.{NameRefusal, unknown, outOfContext, miscounted, refusalFor, FaultFor}
 use Rattle.lookup.specs.DerivedBooks.{distinct-names, right-contexts}
+use Rattle.reading.specs.Signs.{ordinary-starts}
 use Rattle.reading.specs.Stages.{Unread, isMalformed, isTaken, noIndicator, noName, isLarge, indicator-unread, name-unread, unread-stops}
+use Rattle.reading.specs.PieceStages.{PassedBy, openingPassed, closingPassed, linePassed, piece-passed, StoppedBy, openingStopped, closingStopped, lineStopped, piece-stopped}
+use Rattle.reading.specs.PieceStages.{Unopened, tooMany, unopened, Unclosed, notInnermost, unclosed}
 use Rattle.verdicts.specs.Refusals.{unread-by-code}
 
 -- ---- the codes of names
@@ -40,73 +47,118 @@ names-apart miscounted unknown e = absurd (omega arith)
 names-apart miscounted outOfContext e = absurd (omega arith)
 names-apart miscounted miscounted e = refl
 
-module _ (language : Language) {ls : Lines} {past : List Bytes} (D : Derived language [] past ls) (m : Limits) (bytes : Bytes) (b : ℕ) where
-  -- ---- a line with such an indicator or name is refused with its code
+-- a paragraph line is refused by 3, 4, 12 or 17 only
+SignCode : ℕ → Type 0
+SignCode c = (c < 5) ⊎ (c ≡ 12) ⊎ (c ≡ 17)
 
-  indicator-stops : IndicatorFault language ls bytes → checkLine language ls m bytes b ≡ stop unknownName b
-  indicator-stops x = unread-stops language ls m bytes b (indicator-unread language ls (m .limit) bytes (distinct-names D) x)
+name-not-sign : (n : NameRefusal) → ¬ SignCode (codeOf (refusalFor n))
+unfolding SignCode codeOf
+name-not-sign unknown (inl h) = omega arith
+name-not-sign unknown (inr (inl h)) = omega arith
+name-not-sign unknown (inr (inr h)) = omega arith
+name-not-sign outOfContext (inl h) = omega arith
+name-not-sign outOfContext (inr (inl h)) = omega arith
+name-not-sign outOfContext (inr (inr h)) = omega arith
+name-not-sign miscounted (inl h) = omega arith
+name-not-sign miscounted (inr (inl h)) = omega arith
+name-not-sign miscounted (inr (inr h)) = omega arith
 
-  name-stops : (n : NameRefusal) → FirstName language ls bytes (FaultFor n) → checkLine language ls m bytes b ≡ stop (refusalFor n) b
-  name-stops n x = unread-stops language ls m bytes b (name-unread language ls (m .limit) bytes (distinct-names D) (right-contexts D) n x)
+module _ (language : Language) (st : State) (bytes : Bytes) where
+  -- the indicator or the first name that is not in order has the fault
+  abbrev Faulty : NameRefusal → Type 0
+  Faulty n = ((unknown ≡ n) × IndicatorFault language st bytes) ⊎ FirstName language st bytes (FaultFor n)
 
-  -- ---- the line at which a book is refused
+  -- so the line is well-formed, and no paragraph line
+  faulty-ordinary : {n : NameRefusal} {sign : ℕ} → IsSign sign → signed sign bytes ≡ true → ¬ Faulty n
+  faulty-ordinary i h (inl (e, x)) = true≢false (sym h ∙ ordinary-starts language i (x .readable .0))
+  faulty-ordinary i h (inr x) = true≢false (sym h ∙ ordinary-starts language i (x .readable .0))
 
-  module _ {r : Refusal} {b′ : ℕ} (f : checkLine language ls m bytes b ≡ stop r b′) where
-    -- with the code of a name it has that fault
-    fault-shown : (n : NameRefusal) → codeOf r ≡ codeOf (refusalFor n) → ((unknown ≡ n) × IndicatorFault language ls bytes) ⊎ FirstName language ls bytes (FaultFor n)
+  -- ---- a paragraph line
+
+  opening-code : {r : Refusal} → Unopened language st bytes r → SignCode (codeOf r)
+  unfolding SignCode codeOf
+  opening-code (Unopened.isMalformed e n) = let z = ap codeOf e in inl (omega arith)
+  opening-code (Unopened.isTaken e f t) = let z = ap codeOf e in inl (omega arith)
+  opening-code (tooMany e f) = inr (inl (ap codeOf e))
+
+  closing-code : {r : Refusal} → Unclosed language st bytes r → SignCode (codeOf r)
+  unfolding SignCode codeOf
+  closing-code (Unclosed.isMalformed e n) = let z = ap codeOf e in inl (omega arith)
+  closing-code (notInnermost e f n) = inr (inr (ap codeOf e))
+
+  -- ---- an ordinary line
+
+  module _ {past : List Bytes} (D : Derived language start past st) (m : Limits) (b : ℕ) where
+    -- one with such an indicator or name is refused with its code
+    indicator-stops : IndicatorFault language st bytes → checkLine language st m bytes b ≡ stop unknownName b
+    indicator-stops x = unread-stops language st m bytes b (indicator-unread language st (m .limit) bytes (distinct-names D) x)
+
+    name-stops : (n : NameRefusal) → FirstName language st bytes (FaultFor n) → checkLine language st m bytes b ≡ stop (refusalFor n) b
+    name-stops n x = unread-stops language st m bytes b (name-unread language st (m .limit) bytes (distinct-names D) (right-contexts D) n x)
+
+    faulty-stops : (n : NameRefusal) → Faulty n → checkLine language st m bytes b ≡ stop (refusalFor n) b
+    faulty-stops n (inl (e, x)) = subst (λ i. checkLine language st m bytes b ≡ stop (refusalFor i) b) e (indicator-stops x)
+    faulty-stops n (inr x) = name-stops n x
+
+    -- and with the code of a name it has that fault
+    fault-shown : {r : Refusal} {b′ : ℕ} → checkLine language st m bytes b ≡ stop r b′ → (n : NameRefusal) → codeOf r ≡ codeOf (refusalFor n) → Faulty n
     unfolding codeOf
-    fault-shown n c = let (low, out) = name-code n in go low out (unread-by-code language ls D m bytes b f (subst (λ x. (x < 7) ⊎ (12 < x)) (sym c) out))
+    fault-shown {r} f n c = let (low, out) = name-code n in go low out (unread-by-code language st D m bytes b f (subst (λ x. (x < 7) ⊎ (12 < x)) (sym c) out))
       where
         not-ten : {x : ℕ} → (x < 7) ⊎ (12 < x) → x ≡ 10 → ⊥
         not-ten (inl h) e = omega arith
         not-ten (inr h) e = omega arith
 
-        go : 4 < codeOf (refusalFor n) → (codeOf (refusalFor n) < 7) ⊎ (12 < codeOf (refusalFor n)) → Unread language ls (m .limit) bytes r
-            → ((unknown ≡ n) × IndicatorFault language ls bytes) ⊎ FirstName language ls bytes (FaultFor n)
+        go : 4 < codeOf (refusalFor n) → (codeOf (refusalFor n) < 7) ⊎ (12 < codeOf (refusalFor n)) → Unread language st (m .limit) bytes r → Faulty n
         go low out (isMalformed e h) = let z : codeOf r ≡ 3 = ap codeOf e in absurd (omega (arith, c))
         go low out (isTaken e w t) = let z : codeOf r ≡ 4 = ap codeOf e in absurd (omega (arith, c))
         go low out (noIndicator e x) = inl (names-apart unknown n (ap codeOf (sym e) ∙ c), x)
-        go low out (noName k e x) = inr (subst (λ i. FirstName language ls bytes (FaultFor i)) (names-apart k n (ap codeOf e ∙ c)) x)
+        go low out (noName k e x) = inr (subst (λ i. FirstName language st bytes (FaultFor i)) (names-apart k n (ap codeOf e ∙ c)) x)
         go low out (isLarge e) = absurd (not-ten out (sym c ∙ ap codeOf e))
 
-    unknown-shown : codeOf r ≡ codeOf unknownName → IndicatorFault language ls bytes ⊎ FirstName language ls bytes Unknown
-    unknown-shown c = at (fault-shown unknown c)
-      where
-        at : ((unknown ≡ unknown) × IndicatorFault language ls bytes) ⊎ FirstName language ls bytes Unknown → IndicatorFault language ls bytes ⊎ FirstName language ls bytes Unknown
-        at (inl (e, x)) = inl x
-        at (inr x) = inr x
+  -- ---- what is said of a piece
 
-    unknown-code : IndicatorFault language ls bytes ⊎ FirstName language ls bytes Unknown → codeOf r ≡ codeOf unknownName
-    unknown-code (inl x) = ap codeOf (stop-reason (sym f ∙ indicator-stops x))
-    unknown-code (inr x) = ap codeOf (stop-reason (sym f ∙ name-stops unknown x))
-
-    name-shown : (n : NameRefusal) → codeOf unknownName < codeOf (refusalFor n) → codeOf r ≡ codeOf (refusalFor n) → FirstName language ls bytes (FaultFor n)
-    name-shown n l c = at (fault-shown n c)
-      where
-        at : ((unknown ≡ n) × IndicatorFault language ls bytes) ⊎ FirstName language ls bytes (FaultFor n) → FirstName language ls bytes (FaultFor n)
-        at (inl (e, x)) = let z : codeOf unknownName ≡ codeOf (refusalFor n) = ap (λ i. codeOf (refusalFor i)) e in absurd (omega arith)
-        at (inr x) = x
-
-    -- what is said of it
-    pub refused-by-names : (k : ℕ) → ByItsNames language k ls bytes (codeOf r) (suc k)
-    unfolding codeOf
-    refused-by-names k =
-        record {
-          isUnknown = (λ z. unknown-shown (z .0), λ x. (unknown-code x, refl));
-          isNotInContext = (λ z. name-shown outOfContext (omega arith) (z .0), λ x. (ap codeOf (stop-reason (sym f ∙ name-stops outOfContext x)), refl));
-          isMiscounted = (λ z. name-shown miscounted (omega arith) (z .0), λ x. (ap codeOf (stop-reason (sym f ∙ name-stops miscounted x)), refl));
-        }
-
-  -- ---- a line that passed
-
-  pub passed-by-names : {p : Passed} {b′ : ℕ} → checkLine language ls m bytes b ≡ done p b′ → (k code line : ℕ) → (line ≡ suc k → code ≡ 0) → ByItsNames language k ls bytes code line
-  passed-by-names f k code line n =
+  said : {k code passed : ℕ} → ((n : NameRefusal) → ((code ≡ codeOf (refusalFor n)) × (passed ≡ k)) ↔ Faulty n) → ByItsNames language k st bytes code passed
+  unfolding codeOf
+  said {k} {code} {passed} h =
       record {
-        isUnknown = (λ h. absurd (code-nonzero unknownName (sym (h .0) ∙ n (h .1))), λ h. absurd (unknown-not h));
-        isNotInContext = (λ h. absurd (code-nonzero notInContext (sym (h .0) ∙ n (h .1))), λ x. absurd (stop≢done (sym (name-stops outOfContext x) ∙ f)));
-        isMiscounted = (λ h. absurd (code-nonzero wrongArity (sym (h .0) ∙ n (h .1))), λ x. absurd (stop≢done (sym (name-stops miscounted x) ∙ f)));
+        isUnknown = (λ z. indicator-or-name (h unknown .0 z), λ x. h unknown .1 (known-as x));
+        isNotInContext = (λ z. its-name outOfContext (omega arith) (h outOfContext .0 z), λ x. h outOfContext .1 (inr x));
+        isMiscounted = (λ z. its-name miscounted (omega arith) (h miscounted .0 z), λ x. h miscounted .1 (inr x));
       }
     where
-      unknown-not : IndicatorFault language ls bytes ⊎ FirstName language ls bytes Unknown → ⊥
-      unknown-not (inl x) = stop≢done (sym (indicator-stops x) ∙ f)
-      unknown-not (inr x) = stop≢done (sym (name-stops unknown x) ∙ f)
+      indicator-or-name : Faulty unknown → IndicatorFault language st bytes ⊎ FirstName language st bytes Unknown
+      indicator-or-name (inl (e, x)) = inl x
+      indicator-or-name (inr x) = inr x
+
+      known-as : IndicatorFault language st bytes ⊎ FirstName language st bytes Unknown → Faulty unknown
+      known-as (inl x) = inl (refl, x)
+      known-as (inr x) = inr x
+
+      its-name : (n : NameRefusal) → codeOf unknownName < codeOf (refusalFor n) → Faulty n → FirstName language st bytes (FaultFor n)
+      its-name n l (inl (e, x)) = let z : codeOf unknownName ≡ codeOf (refusalFor n) = ap (λ i. codeOf (refusalFor i)) e in absurd (omega arith)
+      its-name n l (inr x) = x
+
+  module _ {past : List Bytes} (D : Derived language start past st) (m : Limits) (b : ℕ) where
+    -- the piece at which a book is refused
+    pub refused-by-names : {r : Refusal} {b′ : ℕ} → checkPiece language st m bytes b ≡ stop r b′ → (k : ℕ) → ByItsNames language k st bytes (codeOf r) k
+    refused-by-names {r} {b′} h k = said (λ n. (λ z. shown n (piece-stopped language st m bytes b h) (z .0), λ x. (seen n (piece-stopped language st m bytes b h) x, refl)))
+      where
+        shown : (n : NameRefusal) → StoppedBy language st m bytes b r b′ → codeOf r ≡ codeOf (refusalFor n) → Faulty n
+        shown n (openingStopped e i) c = absurd (name-not-sign n (subst SignCode c (opening-code (unopened language st bytes b i))))
+        shown n (closingStopped e f i) c = absurd (name-not-sign n (subst SignCode c (closing-code (unclosed language st bytes b i))))
+        shown n (lineStopped e f i) c = fault-shown D m b i n c
+
+        seen : (n : NameRefusal) → StoppedBy language st m bytes b r b′ → Faulty n → codeOf r ≡ codeOf (refusalFor n)
+        seen n (openingStopped e i) x = absurd (faulty-ordinary plus e x)
+        seen n (closingStopped e f i) x = absurd (faulty-ordinary minus f x)
+        seen n (lineStopped e f i) x = ap codeOf (stop-reason (sym i ∙ faulty-stops D m b n x))
+
+    -- a piece that passed
+    pub passed-by-names : {p : PassedPiece} {b′ : ℕ} → checkPiece language st m bytes b ≡ done p b′ → (k code passed : ℕ) → k < passed → ByItsNames language k st bytes code passed
+    passed-by-names h k code passed l = said (λ n. (λ z. (let e = z .1 in absurd (omega arith)), λ x. absurd (right n (piece-passed language st m bytes b h) x)))
+      where
+        right : {p : PassedPiece} {b′ : ℕ} (n : NameRefusal) → PassedBy language st m bytes b p b′ → ¬ Faulty n
+        right n (openingPassed e i) x = faulty-ordinary plus e x
+        right n (closingPassed e f i) x = faulty-ordinary minus f x
+        right n (linePassed e f i) x = stop≢done (sym (faulty-stops D m b n x) ∙ i)

@@ -2,7 +2,6 @@
 -- prints a book promises.
 use mathlib.Core.Path.{_≡_, refl, sym, _∙_, ap, subst}
 use mathlib.Core.Logic.{_≢_}
-use mathlib.Core.List.{[]}
 use Prim.Native.Nat.{ℕ, _≤_, _<_}
 use native.Mathlib.Omega.{arith}
 use lib.ListN.{length, take, drop}
@@ -10,9 +9,10 @@ use lib.Seq.{take-at}
 use Rattle.aut68.specs.Language.{Language}
 use Rattle.aut68.specs.Stores.{Stores, limitsOf}
 use Rattle.aut68.specs.Bytes.{Bytes, lines, joined}
+use Rattle.aut68.specs.Paragraphs.{start}
 use Rattle.aut68.specs.Pages.{pages, readBack, withoutSpaces}
 use Rattle.aut68.specs.Procedure.Calls.{declineCode, storeTooSmall}
-use Rattle.aut68.specs.Procedure.Run.{Ending, run, recordedAt, over}
+use Rattle.aut68.specs.Procedure.Run.{Ending, run, stateOf, recordedAt, over}
 use Rattle.aut68.specs.Rules.Derivation.{Derived}
 use Rattle.aut68.specs.Demands.{Accepted, Determined}
 use Rattle.aut68.specs.Admission.{tooLong, written}
@@ -74,7 +74,7 @@ module _ (language : Language) (book : Bytes) (N L : ℕ) (s : Stores) where
           record {
             admitsFirst = admits-answered language book N L s d accept (refl, written h refl k w);
             readsBack = λ _. subst (λ x. SameButPlaces ending (run language (joined (withoutSpaces (readBack x))) (limitsOf N L s)) L s) (sym front) (columns-read-back language book N L s (accepted-code language book N L s d accept));
-            readsBackPadded = λ _. subst (λ x. Derived language [] (lines (joined (readBack x))) (recordedAt ending .recorded)) (sym front) (padding-read-back language book N L s (accepted-code language book N L s d accept));
+            readsBackPadded = λ _. subst (λ x. Derived language start (lines (joined (readBack x))) (stateOf (recordedAt ending))) (sym front) (padding-read-back language book N L s (accepted-code language book N L s d accept));
           }
         where
           front : take count new ≡ pages book

@@ -7,7 +7,7 @@ use Rattle.aut68.specs.Language.{Language}
 use Rattle.aut68.specs.Stores.{Stores, limitsOf}
 use Rattle.aut68.specs.Bytes.{Bytes, lines}
 use Rattle.aut68.specs.Index.{mentionedBy, namesOf}
-use Rattle.aut68.specs.Procedure.Run.{Ending, run, recordedAt}
+use Rattle.aut68.specs.Procedure.Run.{Ending, run, stateOf, recordedAt}
 use Rattle.aut68.specs.Demands.{Determined}
 use Rattle.aut68.specs.Resting.{Entries, Deletion, Told, TellsRests}
 use Rattle.lookup.specs.Ascending.{ascending-ascends, ascending-member}
@@ -44,5 +44,5 @@ module _ (language : Language) (book : Bytes) (N L : ℕ) (s : Stores) where
     tells-rests a {v} t =
         record {
           admitsFirst = admits-answered language book N L s d a (refl, t);
-          deleting = λ z from to. unreached-lines-deleted language (lines book) (recordedAt ending .recorded) v (accepted-lines language book N L s z .1) from to;
+          deleting = λ z from to. (let (n, D, c) = accepted-lines language book N L s z in unreached-lines-deleted language (lines book) (stateOf (recordedAt ending)) v D c from to);
         }

@@ -8,7 +8,7 @@ use Rattle.inclusion.specs.Derivations.{book-inside}
 use Rattle.verdicts.specs.BookVerdicts.{soundness}
 
 correct-inside : (book : Bytes) → Correct aut68 book → BookWithoutProp (lines book) → Correct autQE book
-correct-inside book h without = record { meanings = h .meanings; derived = book-inside (h .derived) without }
+correct-inside book h without = record { reached = h .reached; derived = book-inside (h .derived) without; allClosed = h .allClosed }
 
 pub accepted-inside : AcceptedInside
 unfolding AcceptedInside Soundness

@@ -6,6 +6,8 @@ use mathlib.Core.List.{List, [], _∷_}
 use Rattle.aut68.specs.Bytes.{Bytes}
 use Rattle.aut68.specs.Lines.{Line, Lines, primitive}
 use Rattle.aut68.specs.Index.{mentionedBy}
+use Rattle.aut68.specs.Language.{Language}
+use Rattle.aut68.specs.Rules.Grammar.{SignLine, IsSign, Ordinary}
 use Rattle.aut68.specs.Rules.Names.{IsLine, Member}
 
 -- the completed line l names line v
@@ -35,9 +37,10 @@ pub record RestsOn (ls : Lines) (v : ℕ) (list : List ℕ) : Type 0 where
   pub ascends : Ascends list
   pub exactly : (u : ℕ) → Member u list ↔ Beneath ls v u
 
--- `Deleted stays k pieces rest`: of the pieces, which are lines k, k + 1 and so on, those stay for which `stays` holds of their number,
--- and they are the rest.
-pub data Deleted (stays : ℕ → Type 0) : ℕ → List Bytes → List Bytes → Type 0 where
-  noMore : {k : ℕ} → Deleted stays k [] []
-  kept : {k : ℕ} {a : Bytes} {pieces rest : List Bytes} → stays k → Deleted stays (suc k) pieces rest → Deleted stays k (a ∷ pieces) (a ∷ rest)
-  gone : {k : ℕ} {a : Bytes} {pieces rest : List Bytes} → ¬ stays k → Deleted stays (suc k) pieces rest → Deleted stays k (a ∷ pieces) rest
+-- `Deleted stays k pieces rest`: of the pieces, whose ordinary lines are lines k, k + 1 and so on, those lines stay for which `stays`
+-- holds of their number, and all paragraph lines: "Deleting lines as in paper 2 leaves the paragraph lines standing". They are the rest.
+pub data Deleted (language : Language) (stays : ℕ → Type 0) : ℕ → List Bytes → List Bytes → Type 0 where
+  noMore : {k : ℕ} → Deleted language stays k [] []
+  kept : {k : ℕ} {a : Bytes} {pieces rest : List Bytes} → Ordinary language a → stays k → Deleted language stays (suc k) pieces rest → Deleted language stays k (a ∷ pieces) (a ∷ rest)
+  gone : {k : ℕ} {a : Bytes} {pieces rest : List Bytes} → Ordinary language a → ¬ stays k → Deleted language stays (suc k) pieces rest → Deleted language stays k (a ∷ pieces) rest
+  standing : {k sign : ℕ} {a p : Bytes} {pieces rest : List Bytes} → IsSign sign → SignLine language sign p a → Deleted language stays k pieces rest → Deleted language stays k (a ∷ pieces) (a ∷ rest)

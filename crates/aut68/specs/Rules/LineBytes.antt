@@ -1,6 +1,7 @@
 -- Document 01 of a line's bytes from the left: "3 at the first byte that no well-formed line could have there; but 10 if nesting
 -- above 32, a lone name being 1, opens before it or in a line without such a byte".
 use mathlib.Core.Path.{_≡_}
+use mathlib.Core.Logic.{_⊎_}
 use Prim.Native.Nat.{ℕ, suc, _<_, _≤_}
 use mathlib.Core.List.{[], _∷_, _++_}
 use lib.ListN.{length}
@@ -9,10 +10,12 @@ use Rattle.aut68.specs.Sizes.{nesting}
 use Rattle.aut68.specs.Bytes.{Bytes}
 use Rattle.aut68.specs.Source.{SourceLine}
 use Rattle.aut68.specs.Depths.{lineDepth}
-use Rattle.aut68.specs.Rules.Grammar.{WellFormed}
+use Rattle.aut68.specs.Rules.Grammar.{WellFormed, SignLine, IsSign}
 use Rattle.aut68.specs.Rules.Openings.{OpensAt}
 
 module _ (language : Language) where
+  -- ---- ordinary lines
+
   -- The bytes are a well-formed line, nested at most 32 deep: this one, some line.
   abbrev pub ReadableAs : SourceLine → Bytes → Type 0
   ReadableAs s bytes = WellFormed language s bytes × (lineDepth s ≤ nesting)
@@ -46,3 +49,33 @@ module _ (language : Language) where
       × Viable (p ++ (b ∷ []))
       × ((rest : Bytes) (s : SourceLine) → WellFormed language s ((p ++ (b ∷ [])) ++ rest) → OpensAt language (suc nesting) (length p) ((p ++ (b ∷ [])) ++ rest))
       × NoneOpens p
+
+  -- ---- lines of either kind
+
+  -- Some paragraph line begins with these bytes.
+  pub record SignViable (p : Bytes) : Type 0 where
+    pub sign : ℕ
+    pub isSign : IsSign sign
+    pub title : Bytes
+    pub rest : Bytes
+    pub form : SignLine language sign title (p ++ rest)
+
+  -- Some well-formed line, ordinary or paragraph line, begins with them.
+  abbrev pub PieceViable : Bytes → Type 0
+  PieceViable p = Viable p ⊎ SignViable p
+
+  -- The first byte that no well-formed line of either kind has there, ahead of any nesting above 32.
+  pub record PieceFault (bytes : Bytes) : Type 0 where
+    pub front : Bytes
+    pub byte : ℕ
+    pub back : Bytes
+    pub split : bytes ≡ front ++ (byte ∷ back)
+    pub could : PieceViable front
+    pub couldNot : ¬ PieceViable (front ++ (byte ∷ []))
+    pub noneOpens : NoneOpens front
+
+  -- No such byte and no nesting above 32, but the line is not ended.
+  pub record PieceUnended (bytes : Bytes) : Type 0 where
+    pub noEnd : ¬ ((y : Bytes) × (bytes ≡ y ++ (10 ∷ [])))
+    pub could : PieceViable bytes
+    pub noneOpens : NoneOpens bytes

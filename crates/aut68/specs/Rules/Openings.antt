@@ -6,8 +6,8 @@ use mathlib.Core.List.{[], _∷_, _++_}
 use lib.ListN.{length}
 use Rattle.aut68.specs.Language.{Language}
 use Rattle.aut68.specs.Bytes.{Bytes}
-use Rattle.aut68.specs.Source.{Src, Srcs, name, app, abs, nil, cons, meaning, SourceLine}
-use Rattle.aut68.specs.Rules.Grammar.{Place, inner, ending, below, Spaces, Symbol, IsName, Expression, Arguments, IndicatorForm, MiddleForm}
+use Rattle.aut68.specs.Source.{Used, Src, Srcs, name, app, abs, nil, cons, meaning, SourceLine}
+use Rattle.aut68.specs.Rules.Grammar.{Position, inner, ending, below, Spaces, Symbol, IsName, UsedForm, Expression, Arguments, IndicatorForm, MiddleForm}
 
 -- What is written from a on begins at t, behind its spaces.
 pub data Begins (a : Bytes) : Bytes → Type 0 where
@@ -17,16 +17,16 @@ pub data Begins (a : Bytes) : Bytes → Type 0 where
 -- Each argument, domain, body, A and B is one deeper than its expression; so is a sort that is a body.
 module _ (language : Language) (n : ℕ) where
   mutual
-    pub data Opens : ℕ → Place → Src → Bytes → Bytes → Bytes → Type 0 where
-      itself : {d : ℕ} {place : Place} {x : Src} {a b t : Bytes} → d ≡ n → Expression language place x a b → Begins a t → Opens d place x a b t
-      inArguments : {d : ℕ} {place : Place} {w a b c e t : Bytes} {xs : Srcs} → IsName language w → Symbol w a b → Symbol (40 ∷ []) b c → OpensIn (suc d) xs c e t → Opens d place (name w xs) a e t
-      inA : {d : ℕ} {place : Place} {a b c e f t : Bytes} {x y : Src}
+    pub data Opens : ℕ → Position → Src → Bytes → Bytes → Bytes → Type 0 where
+      itself : {d : ℕ} {place : Position} {x : Src} {a b t : Bytes} → d ≡ n → Expression language place x a b → Begins a t → Opens d place x a b t
+      inArguments : {d : ℕ} {place : Position} {u : Used} {a b c e t : Bytes} {xs : Srcs} → UsedForm language u a b → Symbol (40 ∷ []) b c → OpensIn (suc d) xs c e t → Opens d place (name u xs) a e t
+      inA : {d : ℕ} {place : Position} {a b c e f t : Bytes} {x y : Src}
           → Symbol (60 ∷ []) a b → Opens (suc d) inner x b c t → Symbol (62 ∷ []) c e → Expression language inner y e f → Opens d place (app x y) a f t
-      inB : {d : ℕ} {place : Place} {a b c e f t : Bytes} {x y : Src}
+      inB : {d : ℕ} {place : Position} {a b c e f t : Bytes} {x y : Src}
           → Symbol (60 ∷ []) a b → Expression language inner x b c → Symbol (62 ∷ []) c e → Opens (suc d) inner y e f t → Opens d place (app x y) a f t
-      inDomain : {d : ℕ} {place : Place} {w a b c e f g h t : Bytes} {x y : Src} → Symbol (91 ∷ []) a b → IsName language w → Symbol w b c → Symbol (44 ∷ []) c e
+      inDomain : {d : ℕ} {place : Position} {w a b c e f g h t : Bytes} {x y : Src} → Symbol (91 ∷ []) a b → IsName language w → Symbol w b c → Symbol (44 ∷ []) c e
           → Opens (suc d) inner x e f t → Symbol (93 ∷ []) f g → Expression language (below language place) y g h → Opens d place (abs w x y) a h t
-      inBody : {d : ℕ} {place : Place} {w a b c e f g h t : Bytes} {x y : Src} → Symbol (91 ∷ []) a b → IsName language w → Symbol w b c → Symbol (44 ∷ []) c e
+      inBody : {d : ℕ} {place : Position} {w a b c e f g h t : Bytes} {x y : Src} → Symbol (91 ∷ []) a b → IsName language w → Symbol w b c → Symbol (44 ∷ []) c e
           → Expression language inner x e f → Symbol (93 ∷ []) f g → Opens (suc d) (below language place) y g h t → Opens d place (abs w x y) a h t
 
     -- the same for arguments of depth d

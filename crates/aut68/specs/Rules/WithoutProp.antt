@@ -1,10 +1,11 @@
 -- Books of AUT-68 in which `prop` is no name: those that are AUT-QE books too.
 use mathlib.Core.Logic.{_≢_}
+use Prim.Native.Nat.{ℕ}
 use mathlib.Core.List.{List, [], _∷_}
 use Rattle.aut68.specs.Language.{aut68}
 use Rattle.aut68.specs.Bytes.{Bytes, wordProp}
 use Rattle.aut68.specs.Source.{Src, Srcs, Middle, SourceLine}
-use Rattle.aut68.specs.Rules.Grammar.{WellFormed}
+use Rattle.aut68.specs.Rules.Grammar.{WellFormed, SignLine, IsSign}
 
 -- w is bound nowhere in the expression
 unfoldable mutual
@@ -30,7 +31,11 @@ pub record NoProp (s : SourceLine) : Type 0 where
   pub middle : NotBoundMiddle wordProp (s .middle)
   pub category : NotBound wordProp (s .category)
 
--- of every line, as it may be read
+-- of every line, as it may be read, paragraph lines included
 pub data BookWithoutProp : List Bytes → Type 0 where
   noLines : BookWithoutProp []
-  oneLine : {bytes : Bytes} {more : List Bytes} → ((s : SourceLine) → WellFormed aut68 s bytes → NoProp s) → BookWithoutProp more → BookWithoutProp (bytes ∷ more)
+  oneLine : {bytes : Bytes} {more : List Bytes}
+      → ((s : SourceLine) → WellFormed aut68 s bytes → NoProp s)
+      → ((sign : ℕ) (p : Bytes) → IsSign sign → SignLine aut68 sign p bytes → p ≢ wordProp)
+      → BookWithoutProp more
+      → BookWithoutProp (bytes ∷ more)

@@ -4,14 +4,14 @@ use mathlib.Core.List.{List, [], _∷_}
 use Prim.Native.Nat.{ℕ}
 use lib.ListN.{getD}
 use Rattle.aut68.specs.Procedure.Answer.{Refusal, codeOf, workTooSmall, limitOutOfRange, malformed, duplicate, unknownName}
-use Rattle.aut68.specs.Procedure.Answer.{wrongArity, notFunction, notType, mismatch, tooLarge, outOfBudget, outOfSpace, notInContext}
+use Rattle.aut68.specs.Procedure.Answer.{wrongArity, notFunction, notType, mismatch, tooLarge, outOfBudget, outOfSpace, notInContext, unbalanced}
 use Rattle.constants.proofs.codes.reason_of.Statement.{statement}
 use Rattle.constants.proofs.codes.reason_of.Tie as tie
 
--- each at its code; no refusal has code 0 or 13
+-- each at its code; no refusal has code 0, 13, 15 or 16
 abbrev refusals : List Refusal
 refusals =
-    notInContext
+    unbalanced
     ∷ workTooSmall
     ∷ limitOutOfRange
     ∷ malformed
@@ -24,11 +24,14 @@ refusals =
     ∷ tooLarge
     ∷ outOfBudget
     ∷ outOfSpace
+    ∷ unbalanced
     ∷ notInContext
-    ∷ notInContext
+    ∷ unbalanced
+    ∷ unbalanced
+    ∷ unbalanced
     ∷ []
 
-undone : (x : Refusal) → getD refusals (codeOf x) notInContext ≡ x
+undone : (x : Refusal) → getD refusals (codeOf x) unbalanced ≡ x
 unfolding codeOf
 undone workTooSmall = refl
 undone limitOutOfRange = refl
@@ -43,16 +46,17 @@ undone tooLarge = refl
 undone outOfBudget = refl
 undone outOfSpace = refl
 undone notInContext = refl
+undone unbalanced = refl
 
 -- an arm, for the number k
-arm : {k n : ℕ} → n ≡ k → (x : Refusal) → n ≡ codeOf x → getD refusals k notInContext ≡ x
-arm h x e = ap (λ (i : ℕ). getD refusals i notInContext) (sym h ∙ e) ∙ undone x
+arm : {k n : ℕ} → n ≡ k → (x : Refusal) → n ≡ codeOf x → getD refusals k unbalanced ≡ x
+arm h x e = ap (λ (i : ℕ). getD refusals i unbalanced) (sym h ∙ e) ∙ undone x
 
 -- the last arm: no other refusal has a number that is left
-last : tie.Need-returns-13
+last : tie.Need-returns-14
 unfolding codeOf
 last c =
-    let ((((((((((((_, t₁), t₂), t₃), t₄), t₅), t₆), t₇), t₈), t₉), t₁₀), t₁₁), t₁₂) = c .match .rest in
+    let (((((((((((((_, t₁), t₂), t₃), t₄), t₅), t₆), t₇), t₈), t₉), t₁₀), t₁₁), t₁₂), t₁₃) = c .match .rest in
     λ x. elim x [
       | workTooSmall ↦ λ e. absurd (t₁ e)
       | limitOutOfRange ↦ λ e. absurd (t₂ e)
@@ -66,7 +70,8 @@ last c =
       | tooLarge ↦ λ e. absurd (t₁₀ e)
       | outOfBudget ↦ λ e. absurd (t₁₁ e)
       | outOfSpace ↦ λ e. absurd (t₁₂ e)
-      | notInContext ↦ λ e. refl
+      | notInContext ↦ λ e. absurd (t₁₃ e)
+      | unbalanced ↦ λ e. refl
     ]
 
 pub reason-of-spec : {M : Type 1} → statement M
@@ -85,4 +90,5 @@ reason-of-spec =
     (λ c. arm (c .match .keys10))
     (λ c. arm (c .match .keys11))
     (λ c. arm (c .match .keys12))
+    (λ c. arm (c .match .keys13))
     last)

@@ -11,7 +11,7 @@ use Rattle.expressions.specs.Posts.{goOn}
 use Rattle.expressions.proofs.ExpressionLaws.{expression-too-deep, expression-malformed, expression-application, expression-abstraction, expression-named}
 use Rattle.expressions.proofs.PairLaws.{application-unopened, application-first-refused, application-unclosed, application-read}
 use Rattle.expressions.proofs.PairLaws.{abstraction-unopened, abstraction-unnamed, abstraction-no-comma, abstraction-first-refused, abstraction-unclosed, abstraction-read}
-use Rattle.expressions.proofs.NamedLaws.{binding-of, binding-none, named-unnamed, named-alone, named-read}
+use Rattle.expressions.proofs.NamedLaws.{binding-of, binding-pointed, binding-none, named-unnamed, named-alone, named-read}
 use Rattle.expressions.proofs.ArgumentLaws.{ArgumentsSoFar, arguments-start, arguments-refused, arguments-more, arguments-unclosed, arguments-closed}
 use Prim.Native.Nat.{ℕ, _<_}
 use borrow.Fn.Kinds.{In}
@@ -43,6 +43,7 @@ use Rattle.symbols.proofs.kind_at.Reads as kind-at
 use Rattle.symbols.proofs.name_at.Reads as name-at
 use Rattle.symbols.proofs.spaces.Reads as spaces
 use Rattle.symbols.proofs.symbol.Reads as symbol
+use Rattle.symbols.proofs.used_at.Reads as used-at
 use Rattle.expressions.proofs.walk.+abstraction+application+arguments+expression+named.{statement}
 use Rattle.expressions.proofs.walk.+abstraction+application+arguments+expression+named.Tie.{close}
 
@@ -143,8 +144,8 @@ claims-expression t = (
 
 abbrev claims-named : ℕ → named-lts.Claims
 claims-named t = (
-  name-at.Asked,
-  name-at.Learnt,
+  used-at.Asked,
+  used-at.Learnt,
   refused.Asked,
   refused.Learnt,
   binding.Asked,
@@ -455,13 +456,13 @@ expression-returns-5 t c =
 named-returns : (t : ℕ) → named-lts.Need-returns (claims-named t) (named-at t) named.Post
 named-returns t c =
     let entry = c .before .before .before .before .before .before .before in
-    named-unnamed (entry .pre .1 .0) (entry .pre .1 .1) (entry .pre .1 .2) (c .before .before .name-at .ensures) (c .before .if1 .taken)
+    named-unnamed (entry .pre .1 .0) (entry .pre .1 .1) (entry .pre .1 .2) (c .before .before .used-at .ensures) (c .before .if1 .taken)
     (c .refused .ensures)
 
 named-add-next : (t : ℕ) → named-lts.Need-add-next (claims-named t) (named-at t) named.Post
 named-add-next t c =
     let entry = c .before .before .before .before .before .before in
-    omega (arith, c .before .name-at .ensures .within (entry .pre .1 .1), entry)
+    omega (arith, c .before .used-at .ensures .within (entry .pre .1 .1), entry)
 
 named-sub-binding : (t : ℕ) → named-lts.Need-sub-binding (claims-named t) (named-at t) named.Post
 named-sub-binding t c = omega arith
@@ -470,17 +471,17 @@ named-part-binding-start : (t : ℕ) → named-lts.Need-part-binding-start (clai
 named-part-binding-start t c = omega arith
 
 named-part-binding-end : (t : ℕ) → named-lts.Need-part-binding-end (claims-named t) (named-at t) named.Post
-named-part-binding-end t c = omega (arith, c .before .before .before .name-at .ensures .within (c .before .before .before .before .before .before .before .before .pre .1 .1))
+named-part-binding-end t c = omega (arith, (let at-used = c .before .before .before .before .before in at-used .used-at .ensures .within (at-used .before .before .before .before .before .pre .1 .1)))
 
 named-name-meaning-requires : (t : ℕ) → named-lts.Need-name-meaning-requires (claims-named t) (named-at t) named.Post
 named-name-meaning-requires t c κs =
-    let at-name-at = c .before .before .before .before in let entry = at-name-at .before .before .before .before .before in
-    omega (arith, at-name-at .name-at .ensures .within (entry .pre .1 .1))
+    let at-used = c .before .before .before .before in let entry = at-used .before .before .before .before .before in
+    omega (arith, at-used .used-at .ensures .within (entry .pre .1 .1), at-used .used-at .ensures .titled (entry .pre .1 .1))
 
 named-completed-requires : (t : ℕ) → named-lts.Need-completed-requires (claims-named t) (named-at t) named.Post
 named-completed-requires t c κs =
-    let at-name-at = c .before .before .before .before .before .before .before .before .before .before .before .before in
-    at-name-at .before .before .before .before .before .pre .1 .2
+    let at-used = c .before .before .before .before .before .before .before .before .before .before .before .before in
+    at-used .before .before .before .before .before .pre .1 .2
 
 named-same-length : (t : ℕ) → named-lts.Need-same-length (claims-named t) (named-at t) named.Post
 named-same-length t c =
@@ -489,38 +490,38 @@ named-same-length t c =
 
 named-returns-2 : (t : ℕ) → named-lts.Need-returns-2 (claims-named t) (named-at t) named.Post
 named-returns-2 t c =
-    let at-if3 = c .before .before .before .before in let at-symbol = at-if3 .before in let at-put = at-symbol .before .before .before in
+    let at-if4 = c .before .before .before .before in let at-symbol = at-if4 .before in let at-put = at-symbol .before .before .before in
     let at-meaning = at-put .before .before in let at-if2 = at-meaning .before .before in let at-if1 = at-if2 .before .before in
-    let at-name-at = at-if1 .before in let entry = at-name-at .before .before .before .before .before in
-    let n = at-name-at .name-at .result in
-    named-alone (entry .pre .1 .0) (entry .pre .1 .1) (entry .pre .1 .2) (at-name-at .name-at .ensures) (at-if1 .if1 .left)
+    let at-used = at-if1 .before in let entry = at-used .before .before .before .before .before in
+    let n = at-used .used-at .result in
+    named-alone (entry .pre .1 .0) (entry .pre .1 .1) (entry .pre .1 .2) (at-used .used-at .ensures) (at-if1 .if1 .left)
     (⊎-elim
-    (λ w. binding-of (w .3) (part _ (n .start) (n .start + n .len) (omega arith)) (w .2 .ensures))
-    (λ w. binding-none (w .1) (w .0 .left))
+    (λ w. binding-of n (w .5) (part _ (n .start) (n .start + n .len) (omega arith)) (w .2 .taken) (w .4 .ensures))
+    (⊎-elim (λ w. binding-pointed n (w .3) (w .2 .left)) (λ w. binding-none n (w .1) (w .0 .left)))
     (at-if2 .if2 .came))
-    (at-meaning .name-meaning .ensures) (at-put .put .ensures) (at-symbol .symbol .ensures) (at-if3 .if3 .taken) (c .before .before .completed .ensures)
+    (at-meaning .name-meaning .ensures) (at-put .put .ensures) (at-symbol .symbol .ensures) (at-if4 .if4 .taken) (c .before .before .completed .ensures)
 
 named-arguments-requires : (t : ℕ) → named-lts.Need-arguments-requires (claims-named t) (named-at t) named.Post
 named-arguments-requires t c κs =
     let at-put = c .before .before .before .before .before .before in
-    let at-name-at = at-put .before .before .before .before .before .before .before in
-    let entry = at-name-at .before .before .before .before .before in
+    let at-used = at-put .before .before .before .before .before .before .before in
+    let entry = at-used .before .before .before .before .before in
     omega (
       arith,
       entry .pre,
       put-next (at-put .put .ensures) (entry .pre .1 .0),
       below-put (at-put .put .ensures) .long,
-      c .before .before .if3,
+      c .before .before .if4,
       c .before .nest .ensures .deeper (entry .pre .1 .2),
-      c .before .before .before .symbol .ensures .from (at-name-at .name-at .ensures .within (entry .pre .1 .1)),
-      at-name-at .name-at .ensures .from,
+      c .before .before .before .symbol .ensures .from (at-used .used-at .ensures .within (entry .pre .1 .1)),
+      at-used .used-at .ensures .from,
     )
 
 named-completed-requires-2 : (t : ℕ) → named-lts.Need-completed-requires-2 (claims-named t) (named-at t) named.Post
 named-completed-requires-2 t c κs =
     let at-nest = c .before .before .before .before .before in
-    let at-name-at = at-nest .before .before .before .before .before .before .before .before .before .before .before .before in
-    at-name-at .before .before .before .before .before .pre .1 .2
+    let at-used = at-nest .before .before .before .before .before .before .before .before .before .before .before .before in
+    at-used .before .before .before .before .before .pre .1 .2
 
 named-same-length-2 : (t : ℕ) → named-lts.Need-same-length-2 (claims-named t) (named-at t) named.Post
 named-same-length-2 t c =
@@ -531,16 +532,16 @@ named-same-length-2 t c =
 named-returns-3 : (t : ℕ) → named-lts.Need-returns-3 (claims-named t) (named-at t) named.Post
 named-returns-3 t c =
     let at-arguments = c .before .before .before .before .before .before in let at-nest = at-arguments .before .before in
-    let at-if3 = at-nest .before in let at-symbol = at-if3 .before in let at-put = at-symbol .before .before .before in
+    let at-if4 = at-nest .before in let at-symbol = at-if4 .before in let at-put = at-symbol .before .before .before in
     let at-meaning = at-put .before .before in let at-if2 = at-meaning .before .before in let at-if1 = at-if2 .before .before in
-    let at-name-at = at-if1 .before in let entry = at-name-at .before .before .before .before .before in
-    let n = at-name-at .name-at .result in
-    named-read (entry .pre .1 .0) (entry .pre .1 .1) (entry .pre .1 .2) (at-name-at .name-at .ensures) (at-if1 .if1 .left)
+    let at-used = at-if1 .before in let entry = at-used .before .before .before .before .before in
+    let n = at-used .used-at .result in
+    named-read (entry .pre .1 .0) (entry .pre .1 .1) (entry .pre .1 .2) (at-used .used-at .ensures) (at-if1 .if1 .left)
     (⊎-elim
-    (λ w. binding-of (w .3) (part _ (n .start) (n .start + n .len) (omega arith)) (w .2 .ensures))
-    (λ w. binding-none (w .1) (w .0 .left))
+    (λ w. binding-of n (w .5) (part _ (n .start) (n .start + n .len) (omega arith)) (w .2 .taken) (w .4 .ensures))
+    (⊎-elim (λ w. binding-pointed n (w .3) (w .2 .left)) (λ w. binding-none n (w .1) (w .0 .left)))
     (at-if2 .if2 .came))
-    (at-meaning .name-meaning .ensures) (at-put .put .ensures) (at-symbol .symbol .ensures) (at-if3 .if3 .left) (at-nest .nest .ensures)
+    (at-meaning .name-meaning .ensures) (at-put .put .ensures) (at-symbol .symbol .ensures) (at-if4 .if4 .left) (at-nest .nest .ensures)
     (at-arguments .arguments .ensures) (c .before .before .completed2 .ensures)
 
 pub +abstraction+application+arguments+expression+named-spec : {M : Type 1} → statement M

@@ -11,16 +11,16 @@ returns-2 : tie.Need-returns-2
 returns-2 c =
     let at-spaces = c .before .before .before .before in
     prefix-malformed (at-spaces .spaces .ensures) (c .before .before .before .kind-at .ensures) (c .before .before .if1 .left)
-    (c .before .name-at .ensures) (c .if2 .taken)
+    (c .before .used-at .ensures) (c .if2 .taken)
 
 add-t9 : tie.Need-add-t9
-add-t9 c = omega (arith, c .before .name-at .ensures .within (omega arith))
+add-t9 c = omega (arith, c .before .used-at .ensures .within (omega arith))
 
 returns-3 : tie.Need-returns-3
 returns-3 c =
     let at-spaces = c .before .before .before .before in
     prefix-named (at-spaces .spaces .ensures) (c .before .before .before .kind-at .ensures) (c .before .before .if1 .left)
-    (c .before .name-at .ensures) (c .if2 .left)
+    (c .before .used-at .ensures) (c .if2 .left)
 
 pub prefix-of-spec : {M : Type 1} → statement M
 prefix-of-spec =

@@ -8,14 +8,14 @@ use Rattle.meanings.proofs.MeaningLaws.{means-bound, means-nothing, mea
 use Rattle.meanings.proofs.meanings.meaning_of.Statement.{statement}
 use Rattle.meanings.proofs.meanings.meaning_of.Tie as tie
 
-cast-t13 : tie.Need-cast-t13
-cast-t13 c = search needs
+cast-t15 : tie.Need-cast-t15
+cast-t15 c = search needs
 
-mul-t14 : tie.Need-mul-t14
-mul-t14 c = search needs
+mul-t16 : tie.Need-mul-t16
+mul-t16 c = search needs
 
-add-t15 : tie.Need-add-t15
-add-t15 c = search needs
+add-t17 : tie.Need-add-t17
+add-t17 c = search needs
 
 returns : tie.Need-returns
 returns c = means-bound (c .if1 .taken)
@@ -32,8 +32,8 @@ cast-cell c = let r = c .before in omega (arith, (rw (r .number .given .1) at (r
 mul-cell : tie.Need-mul-cell
 mul-cell c = let r = c .before in omega (arith, (rw (r .number .given .1) at (r .before .before .look-up .ensures)) .small)
 
-add-t20 : tie.Need-add-t20
-add-t20 c = let r = c .before .before in omega (arith, (rw (r .number .given .1) at (r .before .before .look-up .ensures)) .small)
+add-t22 : tie.Need-add-t22
+add-t22 c = let r = c .before .before in omega (arith, (rw (r .number .given .1) at (r .before .before .look-up .ensures)) .small)
 
 returns-2 : tie.Need-returns-2
 returns-2 c =
@@ -44,8 +44,8 @@ returns-2 c =
 field-requires : tie.Need-field-requires
 field-requires c κs = search needs
 
-add-t18 : tie.Need-add-t18
-add-t18 c = let r = c .before .before .before in omega (arith, (rw (r .number .given .1) at (r .before .before .look-up .ensures)) .small)
+add-t20 : tie.Need-add-t20
+add-t20 c = let r = c .before .before .before in omega (arith, (rw (r .number .given .1) at (r .before .before .look-up .ensures)) .small)
 
 enum-told : tie.Need-enum-told
 enum-told c = search needs
@@ -70,5 +70,5 @@ returns-5 c = means-nothing (c .before .before .before .if1 .left) (rw (c .enum-
 pub meaning-of-spec : {M : Type 1} → statement M
 meaning-of-spec =
     tie.close
-    (tie.spec cast-t13 mul-t14 add-t15 returns look-up-requires enum-known-number cast-cell mul-cell add-t20 returns-2 field-requires
-    add-t18 enum-told enum-told-2 returns-3 returns-4 returns-5)
+    (tie.spec cast-t15 mul-t16 add-t17 returns look-up-requires enum-known-number cast-cell mul-cell add-t22 returns-2 field-requires
+    add-t20 enum-told enum-told-2 returns-3 returns-4 returns-5)

@@ -27,7 +27,7 @@ sub-if1 : tie.Need-sub-if1 Inv-loop μ-loop
 sub-if1 c = omega arith
 
 returns : tie.Need-returns Inv-loop μ-loop
-returns c = let e = hash-last (c .before .before .before .loop .inv) (c .before .four-at .ensures .0) (omega arith) (omega arith) in (e, omega arith)
+returns c = hash-last (c .before .before .before .loop .inv) (c .before .four-at .ensures .0) (omega arith) (omega arith)
 
 add-i : tie.Need-add-i Inv-loop μ-loop
 add-i c = omega arith
@@ -39,7 +39,7 @@ loop-again : tie.Need-loop-again Inv-loop μ-loop
 loop-again c = hash-more (c .before .before .before .loop .inv) (c .before .four-at .ensures .0) (omega arith) (omega arith)
 
 returns-2 : tie.Need-returns-2 Inv-loop μ-loop
-returns-2 c = (hash-end (c .before .loop .inv) (omega arith), omega arith)
+returns-2 c = hash-end (c .before .loop .inv) (omega arith)
 
 pub hash-spec : {M : Type 1} → statement M
 hash-spec =

@@ -28,7 +28,7 @@ slice-read-size : tie.Need-slice-read-size
 slice-read-size c = search needs
 
 cast-size : tie.Need-cast-size
-cast-size c = omega (arith, c .slice-known .given (8 * c .before .before .before .before .args .lines + 1))
+cast-size c = omega (arith, c .slice-known .given (9 * c .before .before .before .before .args .lines + 1))
 
 returns-4 : tie.Need-returns-4
 returns-4 c = not-linked (λ l h r s. omega arith)

@@ -5,11 +5,11 @@ use borrow.Author.Needs.{needs}
 use Rattle.names.proofs.hints.put_head.Statement.{statement}
 use Rattle.names.proofs.hints.put_head.Tie as tie
 
-slot-of-requires : tie.Need-slot-of-requires
-slot-of-requires c κs = search needs
+slot-at-requires : tie.Need-slot-at-requires
+slot-at-requires c κs = search needs
 
 returns : tie.Need-returns
-returns c = no-head (λ i l. let e = c .before .slot-of .ensures .0 in omega arith)
+returns c = no-head (λ i l. let e = c .before .slot-at .ensures .0 in omega arith)
 
 returns-2 : tie.Need-returns-2
 returns-2 c = no-head (λ i l. omega arith)
@@ -21,7 +21,7 @@ slice-read-was : tie.Need-slice-read-was
 slice-read-was c = search needs
 
 cast-was : tie.Need-cast-was
-cast-was c = omega (arith, c .slice-known2 .given (c .before .before .before .slot-of .result))
+cast-was c = omega (arith, c .slice-known2 .given (c .before .before .before .slot-at .result))
 
 cast-w : tie.Need-cast-w
 cast-w c = search needs
@@ -36,13 +36,13 @@ same-length : tie.Need-same-length
 same-length c = search needs
 
 returns-3 : tie.Need-returns-3
-returns-3 c = head-put (c .before .before .before .slot-of .ensures .0) refl refl
+returns-3 c = head-put (c .before .before .before .slot-at .ensures .0) refl refl
 
 pub put-head-spec : {M : Type 1} → statement M
 put-head-spec =
     tie.close
     (tie.spec
-    slot-of-requires
+    slot-at-requires
     returns
     returns-2
     mul-was

@@ -1,0 +1,2 @@
+-- Paragraph lines.
+pub mod Posts

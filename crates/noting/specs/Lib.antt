@@ -1,0 +1,2 @@
+-- The note of paragraphs, written.
+pub mod Posts
