@@ -12,6 +12,18 @@ use std::borrow::Borrow;
 use crate::random::Random;
 use crate::sizes::MOST_BYTES;
 
+/// What stands outside the paragraphs of a book, ahead of them.
+const NUMBERS: &str = "
+    *nat:=PN:type
+    *one:=PN:nat
+    *n:=EB:nat
+    n*suc:=PN:nat
+    n*m:=EB:nat
+    m*plus:=PN:nat
+    m*is:=PN:type
+    n*refl:=PN:is(n,n)
+";
+
 /// In a long book so many bytes for each line leave room for the most lines.
 const BYTES_A_LINE: usize = 254;
 

@@ -1,19 +1,9 @@
 //! Closed paragraphs beside each other, with the same identifiers in each; they use each other's lines.
 
-use super::Writer;
+use super::{NUMBERS, Writer};
 use crate::random::Random;
 
-/// What stands outside, and the first paragraph.
-const NOTIONS: &str = "
-    *nat:=PN:type
-    *one:=PN:nat
-    *n:=EB:nat
-    n*suc:=PN:nat
-    n*m:=EB:nat
-    m*plus:=PN:nat
-    m*is:=PN:type
-    n*refl:=PN:is(n,n)
-";
+/// The first paragraph.
 const FIRST: &str = "
     *a:=PN:nat
     *x:=EB:nat
@@ -25,7 +15,7 @@ const FIRST: &str = "
 pub fn part(writer: &mut Writer, random: &mut Random, part: usize) {
     let own = format!("p{part}");
     if part == 0 {
-        writer.lines(NOTIONS, "");
+        writer.lines(NUMBERS, "");
         writer.open(&own);
         writer.lines(FIRST, "");
         writer.close();

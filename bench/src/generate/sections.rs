@@ -1,18 +1,10 @@
 //! Paragraphs inside each other, up to 32 of them open; names from many paragraphs outward, and of closed ones.
 
-use super::Writer;
+use super::{NUMBERS, Writer};
 use crate::random::Random;
 use crate::sizes::MOST_OPEN;
 
 const NOTIONS: &str = "
-    *nat:=PN:type
-    *one:=PN:nat
-    *n:=EB:nat
-    n*suc:=PN:nat
-    n*m:=EB:nat
-    m*plus:=PN:nat
-    m*is:=PN:type
-    n*refl:=PN:is(n,n)
     *a0:=one:nat
     *b:=suc(one):nat
     *x:=EB:nat
@@ -24,6 +16,7 @@ const BLOCKS: usize = 3;
 
 pub fn part(writer: &mut Writer, random: &mut Random, part: usize) {
     if part == 0 {
+        writer.lines(NUMBERS, "");
         writer.lines(NOTIONS, "");
     }
     let deepest = if part % 2 == 0 { MOST_OPEN } else { random.between(MOST_OPEN / 4, MOST_OPEN) };
