@@ -15,7 +15,7 @@ use symbols::kind_at;
 use symbols::name_at;
 use symbols::spaces;
 use symbols::symbol;
-use symbols::used_at;
+use symbols::used_plain_first;
 ghost use Prim.Native.Nat.{_+_, _-_, _≤_, _<_};
 ghost use lib.ListN.{length};
 ghost use Rattle.aut68.specs.Sizes.{nesting};
@@ -110,7 +110,7 @@ fn named(
     ensures { λ r′. ⌜ ExpressionRead (namedIn scope) (now (kinds .entry)) (now (line .entry)) scope
         (now (book .entry)) (now (table .entry)) lines indicator (now (w .entry)) (now (w .exit)) (goOn from to fault) r′ ⌝ }
 {
-    let n = used_at(line, kinds, from);
+    let n = used_plain_first(line, kinds, from);
     let start = n.start;
     let len = n.len;
     if len == 0 {

@@ -16,31 +16,19 @@ use Rattle.aut68.specs.Procedure.Answer.{Refusal, codeOf}
 use Rattle.aut68.specs.Procedure.Resolve.{refused, member, answered, lookUp, sought, wanted, contextAt}
 use Rattle.aut68.specs.Procedure.Resolve as Resolve
 use Rattle.aut68.specs.Sizes.{cellFactor, lineLimit, nesting, atContext, atKind}
-use Rattle.lookup.specs.LineNumbers.{line-lineOf, line-positive}
+use Rattle.lookup.specs.LineNumbers.{line-lineOf}
 use Rattle.lookup.specs.Identifiers.{number-sound}
 use Rattle.names.specs.Known.{Known}
-use Rattle.names.specs.Posts.{numberOr}
 use Rattle.names.proofs.FindLaws.{lineAt}
 use Rattle.symbols.specs.Symbols.{usedBy}
 use Rattle.kinds.specs.Kinds.{KindsTable}
 use Rattle.notes.specs.Note.{StateNoted}
 use Rattle.paragraphs.specs.Posts.{UsedFound}
+use Rattle.paragraphs.proofs.NumberLaws.{number-some, number-none, used-number}
 use Rattle.meanings.specs.Bindings.{wordIn}
 use Rattle.meanings.specs.Posts.{InContext}
 use Rattle.meanings.specs.Meanings.{told, SoughtFound, cellOf, Meant, means, meansNothing, MeaningFound}
 use Rattle.meanings.specs.declared.meanings.Sought.{Sought}
-
--- ---- numbers of options
-
-pub option-none : (o : Option ℕ) → ((v : ℕ) → o ≡ some v → v ≢ 0) → 0 ≡ numberOr 0 o → o ≡ none
-unfolding numberOr
-option-none none n e = refl
-option-none (some v) n e = absurd (n v refl (sym e))
-
-pub option-some : (n : ℕ) (o : Option ℕ) {r : ℕ} → r ≡ numberOr n o → r ≢ n → o ≡ some r
-unfolding numberOr
-option-some n none e d = absurd (d e)
-option-some n (some v) e d = ap some (sym e)
 
 -- ---- what stands for a name
 
@@ -65,10 +53,6 @@ is-variable variable e = refl
 is-variable primitive e = absurd (omega arith)
 is-variable (abbreviation m) e = absurd (omega arith)
 
--- a name's line is never 0
-pub number-positive : (st : State) (u : Used) (v : ℕ) → numberOf st u ≡ some v → v ≢ 0
-number-positive st u v e z = let (l, i, q) = number-sound e in absurd (omega (arith, line-positive i))
-
 variable-line : {ls : Lines} {book tb : List ℕ} {lines v kind : ℕ} → Known ls book tb lines → v ≢ 0 → v ≤ lines → kind ≡ rowCell tb v atKind → kind ≡ 0
     → lineOf ls v .kind ≡ variable
 variable-line {v = v} k n l ek z =
@@ -78,7 +62,7 @@ variable-line {v = v} k n l ek z =
 -- the line that was found is looked at
 line-is : {ks book tb : List ℕ} {lines : ℕ} {w : List ℕ} {title word : Bytes} {v : ℕ} (st : State) (context : List ℕ) → UsedFound ks book tb lines w title word v → v ≢ 0
     → KindsTable ks → Known (st .earlier) book tb lines → StateNoted st book tb lines w → 1 ≤ length word → lookUp st context (numberOf st (usedBy title word)) ≡ lookUp st context (some v)
-line-is {title = title} {word} st context hv n t k g p = ap (lookUp st context) (option-some 0 (numberOf st (usedBy title word)) (hv .is st t k g p) n)
+line-is {title = title} {word} st context hv n t k g p = ap (lookUp st context) (number-some (numberOf st (usedBy title word)) (hv .is st t k g p) n)
 
 module _ {ks book tb : List ℕ} {lines indicator : ℕ} {w : List ℕ} {title word : Bytes} {v : ℕ} (hv : UsedFound ks book tb lines w title word v) where
   pub sought-nothing : v ≡ 0 → SoughtFound ks book tb lines indicator w title word Sought.NoLine
@@ -86,7 +70,7 @@ module _ {ks book tb : List ℕ} {lines indicator : ℕ} {w : List ℕ} {title w
   sought-nothing e =
       record {
         small = omega arith;
-        is = λ st t k g o i p. ap (lookUp st (contextAt (st .earlier) indicator)) (option-none (numberOf st (usedBy title word)) (number-positive st _) (sym e ∙ hv .is st t k g p));
+        is = λ st t k g o i p. ap (lookUp st (contextAt (st .earlier) indicator)) (number-none (numberOf st (usedBy title word)) (hv .is st t k g p) e (used-number st _));
       }
 
   pub sought-too-many : lineLimit ≤ v → SoughtFound ks book tb lines indicator w title word Sought.NoLine

@@ -11,7 +11,7 @@ use constants::NESTING;
 use constants::NOT_IN_CONTEXT;
 use constants::UNKNOWN_NAME;
 use names::part_is;
-use paragraphs::find_used;
+use paragraphs::find_plain_first;
 ghost use mathlib.Core.Path.{_≡_};
 ghost use Rattle.aut68.specs.Source.{plain};
 ghost use Rattle.meanings.specs.Posts.{BindingFound};
@@ -67,7 +67,7 @@ pub fn look_up(
 ) -> Sought
     ensures { λ r. ⌜ SoughtFound (now (kinds .entry)) (now (book .entry)) (now (table .entry)) lines indicator (now (w .entry)) (now (title .entry)) (now (word .entry)) r ⌝ }
 {
-    let v = find_used(book, kinds, table, lines, w, title, word);
+    let v = find_plain_first(book, kinds, table, lines, w, title, word);
     if v == 0 {
         return Sought::NoLine;
     }

@@ -5,6 +5,7 @@ use native.Mathlib.Omega.{arith}
 use native.Mathlib.Nat.{mul-le-mul, add-mul-mod-self-left}
 use lib.ListN.{length}
 use borrow.Author.Tests.{le-leb, lt-leb}
+use mathlib.Core.List.{[], _∷_}
 use Rattle.aut68.specs.Bytes.{Bytes}
 use Rattle.symbols.specs.Symbols.{fourAt}
 use Rattle.names.specs.Hints.{mixed, hashOf, keyAt, slots, slotAt, mostSlots}
@@ -13,35 +14,36 @@ use Rattle.names.specs.HintLaws.{slots-most}
 -- the bytes before i are mixed
 pub record HashSoFar (word : Bytes) (h i : ℕ) : Type 0 where
   pub whole : i ≡ 4 * (i / 4)
-  pub inside : i ≤ length word
   pub small : h < 4294967296
   pub is : h ≡ mixed word (i / 4)
 
 pub hash-start : {word : Bytes} → HashSoFar word 0 0
 unfolding mixed
-hash-start = record { whole = omega arith; inside = omega arith; small = omega arith; is = refl }
+hash-start = record { whole = omega arith; small = omega arith; is = refl }
 
 module _ {word : Bytes} {h i : ℕ} (s : HashSoFar word h i) where
-  hash-step : {x : ℕ} → x ≡ fourAt word i → (h + x) * 2146121005 % 4294967296 ≡ mixed word (suc (i / 4))
+  pub hash-more : {x : ℕ} → x ≡ fourAt word i → HashSoFar word ((h + x) * 2146121005 % 4294967296) (i + 4)
   unfolding mixed
-  hash-step ex = λ j. (s .is j + (ex ∙ ap (fourAt word) (s .whole)) j) * 2146121005 % 4294967296
-
-  pub hash-more : {x : ℕ} → x ≡ fourAt word i → i < length word → 4 ≤ length word - i → HashSoFar word ((h + x) * 2146121005 % 4294967296) (i + 4)
-  hash-more ex l m =
+  hash-more {x} ex =
       let q : suc (i / 4) ≡ (i + 4) / 4 = omega arith in
-      record { whole = omega (arith, s .whole); inside = omega arith; small = omega arith; is = hash-step ex ∙ ap (mixed word) q }
+      let e : (h + x) * 2146121005 % 4294967296 ≡ mixed word (suc (i / 4)) = λ j. (s .is j + (ex ∙ ap (fourAt word) (s .whole)) j) * 2146121005 % 4294967296 in
+      record { whole = omega (arith, s .whole); small = omega arith; is = e ∙ ap (mixed word) q }
 
-  pub hash-last : {x : ℕ} → x ≡ fourAt word i → i < length word → length word - i < 4 → (h + x) * 2146121005 % 4294967296 ≡ hashOf word
+  pub hash-last : {x : ℕ} → x ≡ fourAt word (length word - 4) → i / 4 ≡ (length word - 1) / 4 → (h + x) * 2146121005 % 4294967296 ≡ hashOf word
   unfolding hashOf
-  hash-last ex l m =
-      let q : suc (i / 4) ≡ (length word + 3) / 4 = omega (arith, s .whole) in
-      hash-step ex ∙ ap (mixed word) q
+  hash-last ex q = λ j. ((s .is ∙ ap (mixed word) q) j + ex j) * 2146121005 % 4294967296
 
-  pub hash-end : length word ≤ i → h ≡ hashOf word
-  unfolding hashOf
-  hash-end l =
-      let q : i / 4 ≡ (length word + 3) / 4 = omega (arith, s .whole, s .inside) in
-      s .is ∙ ap (mixed word) q
+-- shorter ones
+pub hash-short : (word : Bytes) {x : ℕ} → length word < 4 → x ≡ fourAt word 0 → x * 2146121005 % 4294967296 ≡ hashOf word
+hash-short word {x} l ex =
+    let z : 0 ≡ length word - 4 = omega arith in
+    let s : x ≡ 0 + x = omega arith in
+    ap (λ (y : ℕ). y * 2146121005 % 4294967296) s ∙ hash-last hash-start (ex ∙ ap (fourAt word) z) (omega arith)
+
+pub hash-empty : (word : Bytes) → length word ≡ 0 → 0 ≡ hashOf word
+unfolding fourAt
+hash-empty [] e = hash-short [] (omega arith) refl
+hash-empty (c ∷ cs) e = absurd (omega (arith, e))
 
 -- ---- slots
 

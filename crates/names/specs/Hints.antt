@@ -3,7 +3,7 @@
 -- no line of a paragraph has a name is read off the end of a chain, by `Hinted`.
 use mathlib.Core.Bool.{Bool, true, false, _&&_}
 use mathlib.Core.List.{List}
-use Prim.Native.Nat.{ℕ, zero, suc, _+_, _*_, _/_, _%_}
+use Prim.Native.Nat.{ℕ, zero, suc, _+_, _-_, _*_, _/_, _%_}
 use lib.Dec.{eqb, leb}
 use lib.ListN.{length, getD}
 use Rattle.aut68.specs.Lines.{partOf, rowCell}
@@ -20,8 +20,9 @@ unfoldable pub mixed : Bytes → ℕ → ℕ
 mixed s zero = 0
 mixed s (suc k) = (mixed s k + fourAt s (4 * k)) * 2146121005 % 4294967296
 
+-- with the last four bytes
 unfoldable pub hashOf : Bytes → ℕ
-hashOf s = mixed s ((length s + 3) / 4)
+hashOf s = (mixed s ((length s - 1) / 4) + fourAt s (length s - 4)) * 2146121005 % 4294967296
 
 -- the key of a word with the hash h, in the paragraph q
 abbrev pub keyAt : ℕ → ℕ → ℕ

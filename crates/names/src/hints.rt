@@ -4,6 +4,7 @@ use constants::Cell;
 use constants::LAST_LINE;
 use constants::NAME_LENGTH;
 use constants::ROW_WIDTH;
+use symbols::four;
 use symbols::four_at;
 ghost use mathlib.Core.Path.{_≡_};
 ghost use Prim.Native.Nat.{_*_, _≤_, _<_};
@@ -19,20 +20,24 @@ pub const LINK_FACTOR: usize = 65536;
 // How many slots there are at most, so that a product with a hash has room; no limit comes near.
 const MOST_SLOTS: usize = 131072;
 
-// The bytes of the word, mixed.
+// The bytes of the word, mixed four at once; the last four may overlap those before.
 pub fn hash(word: &[u8]) -> usize
     ensures { λ r. ⌜ r ≡ hashOf (now (word .entry)) ⌝ }
 {
+    if word.len() == 0 {
+        return 0;
+    }
+    if word.len() < 4 {
+        return four_at(word, 0) * 2146121005 % 4294967296;
+    }
+    let last = word.len() - 4;
     let mut h = 0;
     let mut i = 0;
-    while i < word.len() {
-        h = (h + four_at(word, i)) * 2146121005 % 4294967296;
-        if word.len() - i < 4 {
-            return h;
-        }
+    while i < last {
+        h = (h + four(word, i)) * 2146121005 % 4294967296;
         i = i + 4;
     }
-    h
+    (h + four(word, last)) * 2146121005 % 4294967296
 }
 
 // How many slots a store of n cells has.

@@ -7,9 +7,10 @@ use Prim.Native.Nat.{ℕ}
 use native.Mathlib.Omega.{arith}
 use Rattle.aut68.specs.Bytes.{Bytes}
 use Rattle.aut68.specs.Lines.{Lines, numberIn}
-use Rattle.aut68.specs.Paragraphs.{Place}
-use Rattle.aut68.specs.Procedure.Lookup.{seek, paragraphIn, closedIn}
-use Rattle.lookup.specs.Identifiers.{line-in-sound, paragraph-in-sound, closed-in-sound}
+use Rattle.aut68.specs.Source.{Used}
+use Rattle.aut68.specs.Paragraphs.{Place, State}
+use Rattle.aut68.specs.Procedure.Lookup.{seek, paragraphIn, closedIn, numberOf}
+use Rattle.lookup.specs.Identifiers.{line-in-sound, paragraph-in-sound, closed-in-sound, number-sound}
 use Rattle.lookup.specs.LineNumbers.{line-positive}
 use Rattle.lookup.specs.Places.{RightPlace, numbered-within}
 use Rattle.names.specs.Posts.{numberOr}
@@ -54,3 +55,6 @@ module _ {at : Place} (r : RightPlace at) (w : Bytes) (q : ℕ) where
 
   pub closed-number : Positive (closedIn at w q)
   closed-number v e z = let (a, b) = numbered-within (r .numbered) (closed-in-sound e .isParagraph .isParagraph) in omega (arith, a)
+
+pub used-number : (st : State) (u : Used) → Positive (numberOf st u)
+used-number st u v e z = let (l, i, q) = number-sound e in omega (arith, line-positive i)

@@ -118,6 +118,27 @@ pub fn find_used(
     find(book, table, lines, w, word, hash(word), n)
 }
 
+// The same for the reading of expressions, where most names are plain and outside every paragraph: those are found by one call, which
+// a function that only hands its slices on would slow down.
+pub fn find_plain_first(
+    book: &[u8],
+    kinds: &[u8; 256],
+    table: &[u32],
+    lines: usize,
+    w: &[Cell],
+    title: &[u8],
+    word: &[u8],
+) -> usize
+    ensures { λ r. ⌜ UsedFound (now (kinds .entry)) (now (book .entry)) (now (table .entry)) lines (now (w .entry)) (now (title .entry)) (now (word .entry)) r ⌝ }
+{
+    if title.len() == 0 {
+        if cell_at(w, DEPTH) == 0 {
+            return find(book, table, lines, w, word, hash(word), 0);
+        }
+    }
+    find_used(book, kinds, table, lines, w, title, word)
+}
+
 // Has a line or a paragraph of the innermost open paragraph the name (unused)?
 pub fn is_taken(
     book: &[u8],

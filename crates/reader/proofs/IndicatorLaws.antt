@@ -27,7 +27,7 @@ use Rattle.names.specs.Posts.{numberOr}
 use Rattle.names.proofs.FindLaws.{lineAt}
 use Rattle.notes.specs.Note.{StateNoted}
 use Rattle.paragraphs.specs.Posts.{UsedFound}
-use Rattle.meanings.proofs.MeaningLaws.{option-none, option-some, number-positive}
+use Rattle.paragraphs.proofs.NumberLaws.{number-some, number-none, used-number}
 use Rattle.reader.specs.Posts.{IndicatorFound, isLine, noLine}
 
 indicator-none : (st : State) → indicatorLine st none tt ≡ found 0
@@ -75,7 +75,7 @@ module _ (s : Bytes) (title size start len : ℕ) {ks book tb w : List ℕ} {lin
     indicator-unknown z st t k g =
         subst (λ f. IndicatorFound lines lineLimit f)
         (sym (ap (λ o. indicatorLine st o tt) (used-some s title size start len n)
-        ∙ indicator-nowhere st _ (option-none (numberOf st (usedIn s title size start len)) (number-positive st _) (sym z ∙ number st t k g)))) (noLine refl)
+        ∙ indicator-nowhere st _ (number-none (numberOf st (usedIn s title size start len)) (number st t k g) z (used-number st _)))) (noLine refl)
 
     module _ (m : v ≢ 0) {kind : ℕ} (ek : kind ≡ rowCell tb v atKind) where
       pub indicator-no-variable : kind ≢ 0 → Indicated ks book tb lines w (usedOr s title size start len) lineLimit
@@ -83,7 +83,7 @@ module _ (s : Bytes) (title size start len : ℕ) {ks book tb w : List ℕ} {lin
           let (x, h) = lineAt k v (omega arith) (U .within) in
           subst (λ f. IndicatorFound lines lineLimit f)
           (sym (ap (λ o. indicatorLine st o tt) (used-some s title size start len n)
-          ∙ indicator-constant st _ v (x .kind) (option-some 0 _ (number st t k g) m) (ap (λ (y : Line). y .kind) (line-lineOf h)) (λ y. z (ek ∙ k .rows .row h .kindIs ∙ y))))
+          ∙ indicator-constant st _ v (x .kind) (number-some _ (number st t k g) m) (ap (λ (y : Line). y .kind) (line-lineOf h)) (λ y. z (ek ∙ k .rows .row h .kindIs ∙ y))))
           (noLine refl)
 
       pub indicator-found : kind ≡ 0 → Indicated ks book tb lines w (usedOr s title size start len) v
@@ -91,5 +91,5 @@ module _ (s : Bytes) (title size start len : ℕ) {ks book tb w : List ℕ} {lin
           let (x, h) = lineAt k v (omega arith) (U .within) in
           subst (λ f. IndicatorFound lines v f)
           (sym (ap (λ o. indicatorLine st o tt) (used-some s title size start len n)
-          ∙ indicator-variable st _ v (x .kind) (option-some 0 _ (number st t k g) m) (ap (λ (y : Line). y .kind) (line-lineOf h)) (sym (k .rows .row h .kindIs) ∙ sym ek ∙ z)))
+          ∙ indicator-variable st _ v (x .kind) (number-some _ (number st t k g) m) (ap (λ (y : Line). y .kind) (line-lineOf h)) (sym (k .rows .row h .kindIs) ∙ sym ek ∙ z)))
           (isLine refl (U .within))

@@ -3,12 +3,13 @@ use mathlib.Core.Path.{_≡_, refl, sym, ap, ap₂, _∙_, subst}
 use mathlib.Core.Logic.{_≢_}
 use mathlib.Core.Bool.{Bool, true, false}
 use mathlib.Core.List.{[], _∷_}
-use Prim.Native.Nat.{ℕ, suc, _+_, _*_, _≤_, _<_}
+use Prim.Native.Nat.{ℕ, zero, suc, _+_, _-_, _*_, _≤_, _<_}
 use native.Mathlib.Omega.{arith}
 use lib.Dec.{eqb, leb}
 use lib.ListN.{length, getD, drop, List·getD-eq-default}
 use borrow.Author.Tests.{eq-eqb, ne-eqb, eqb-true, eqb-false, leb-true, leb-false}
 use Rattle.aut68.specs.Bytes.{Bytes, sameBytes}
+use Rattle.lookup.specs.SameBytes.{same-true}
 use Rattle.symbols.specs.Symbols.{fourAt}
 use Rattle.symbols.proofs.SymbolLaws.{step, ended}
 
@@ -103,13 +104,37 @@ module _ {a b : Bytes} {i : ℕ} (h : SameSoFar a b i) where
       let h₃ : SameSoFar a b (i + 3) = same-more h₂ (omega arith) e₂ in
       same-unless h₃ λ e₃. absurd (n (omega arith))
 
-  pub same-four-last : ((j : ℕ) → getD a j 0 < 256) → ((j : ℕ) → getD b j 0 < 256) → {x y : ℕ} → x ≡ fourAt a i → y ≡ fourAt b i → length a ≤ i + 4
-      → eqb x y ≡ sameBytes a b
-  same-four-last p q {x} {y} ex ey l = split (eqb x y) refl
+-- the last four bytes, of which some may be known to be the same
+module _ {a b : Bytes} (p : (j : ℕ) → getD a j 0 < 256) (q : (j : ℕ) → getD b j 0 < 256) {i last : ℕ} (h : SameSoFar a b i) (m : last ≤ i) (l : length a ≤ last + 4) where
+  last-same : fourAt a last ≡ fourAt b last → sameBytes a b ≡ true
+  unfolding fourAt
+  last-same e =
+      let (e₀, e₁, e₂, e₃) = digits (p last) (p (last + 1)) (p (last + 2)) (p (last + 3)) (q last) (q (last + 1)) (q (last + 2)) (q (last + 3)) e in
+      let byte : (k : ℕ) → getD a (last + k) 0 ≡ getD b (last + k) 0 = λ k. among e₀ e₁ e₂ e₃ k in
+      let next : (j : ℕ) → i ≤ j → getD a j 0 ≡ getD b j 0 = λ j n. let z : last + (j - last) ≡ j = omega arith in subst (λ x. getD a x 0 ≡ getD b x 0) z (byte (j - last)) in
+      let h₁ : SameSoFar a b (i + 1) = same-more h refl (next i (omega arith)) in
+      let h₂ : SameSoFar a b (i + 2) = same-more h₁ (omega arith) (next (i + 1) (omega arith)) in
+      let h₃ : SameSoFar a b (i + 3) = same-more h₂ (omega arith) (next (i + 2) (omega arith)) in
+      let h₄ : SameSoFar a b (i + 4) = same-more h₃ (omega arith) (next (i + 3) (omega arith)) in
+      same-last h₄ (omega arith)
     where
-      split : (t : Bool) → eqb x y ≡ t → t ≡ sameBytes a b
-      split true e = sym (same-last (same-four-more p q (sym ex ∙ eqb-true x y e ∙ ey)) l)
-      split false e = sym (same-four-stop (λ d. eqb-false x y e (ex ∙ d ∙ sym ey)))
+      among : getD a last 0 ≡ getD b last 0 → getD a (last + 1) 0 ≡ getD b (last + 1) 0 → getD a (last + 2) 0 ≡ getD b (last + 2) 0 → getD a (last + 3) 0 ≡ getD b (last + 3) 0
+          → (k : ℕ) → getD a (last + k) 0 ≡ getD b (last + k) 0
+      among e₀ e₁ e₂ e₃ zero = let z : last + 0 ≡ last = omega arith in subst (λ x. getD a x 0 ≡ getD b x 0) (sym z) e₀
+      among e₀ e₁ e₂ e₃ (suc zero) = e₁
+      among e₀ e₁ e₂ e₃ (suc (suc zero)) = e₂
+      among e₀ e₁ e₂ e₃ (suc (suc (suc zero))) = e₃
+      among e₀ e₁ e₂ e₃ (suc (suc (suc (suc k)))) =
+          let n : length b ≤ last + suc (suc (suc (suc k))) = omega (arith, h .lengths) in
+          List·getD-eq-default a 0 (omega arith) ∙ sym (List·getD-eq-default b 0 n)
+
+  pub same-four-last : {x y : ℕ} → x ≡ fourAt a last → y ≡ fourAt b last → eqb x y ≡ sameBytes a b
+  same-four-last {x} {y} ex ey = split (eqb x y) refl (sameBytes a b) refl
+    where
+      split : (t : Bool) → eqb x y ≡ t → (u : Bool) → sameBytes a b ≡ u → t ≡ u
+      split true e u d = sym (last-same (sym ex ∙ eqb-true x y e ∙ ey)) ∙ d
+      split false e true d = absurd (eqb-false x y e (ex ∙ ap (λ s. fourAt s last) (same-true a b d) ∙ sym ey))
+      split false e false d = refl
 
 -- ---- other lengths
 

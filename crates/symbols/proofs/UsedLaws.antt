@@ -11,7 +11,7 @@ use borrow.Author.Tests.{eq-eqb, ne-eqb}
 use Rattle.aut68.specs.Language.{aut68}
 use Rattle.aut68.specs.Bytes.{Bytes, nameByte}
 use Rattle.aut68.specs.Source.{plain, inside}
-use Rattle.aut68.specs.Procedure.Answer.{done, stop, andThen, Refusal, malformed}
+use Rattle.aut68.specs.Procedure.Answer.{done, stop, andThen, Refusal}
 use Rattle.aut68.specs.Procedure.Parse.{symbol, aName, pointIfAny, aUsed}
 use Rattle.kinds.specs.Kinds.{kindOf, placeOr0}
 use Rattle.symbols.specs.Symbols.{PastSymbol, NameAt, usedIn, usedBy, UsedAt}

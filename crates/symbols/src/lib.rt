@@ -61,7 +61,7 @@ pub fn word_end(line: &[u8], kinds: &[u8; 256], at: usize) -> usize
 }
 
 // The four bytes of s from i on, as a number (fourAt).
-fn four(s: &[u8], i: usize) -> usize
+pub fn four(s: &[u8], i: usize) -> usize
     requires { ⌜ i + 4 ≤ length (now s) ⌝ }
     ensures { λ r. ⌜ (r ≡ fourAt (now (s .entry)) i) × (r < 4294967296) ⌝ }
 {
@@ -93,24 +93,28 @@ pub fn four_at(s: &[u8], i: usize) -> usize
     byte_at(s, i) + 256 * byte_at(s, i + 1) + 65536 * byte_at(s, i + 2)
 }
 
-// Are the bytes of a and b the same (sameBytes)? Four at once.
+// Are the bytes of a and b the same (sameBytes)? Four at once; the last four may overlap those before.
 pub fn same_bytes(a: &[u8], b: &[u8]) -> bool
     ensures { λ r. ⌜ r ≡ sameBytes (now (a .entry)) (now (b .entry)) ⌝ }
 {
     if a.len() != b.len() {
         return false;
     }
+    if a.len() == 0 {
+        return true;
+    }
+    if a.len() < 4 {
+        return four_at(a, 0) == four_at(b, 0);
+    }
+    let last = a.len() - 4;
     let mut i = 0;
-    while a.len() - i >= 4 {
+    while i < last {
         if four(a, i) != four(b, i) {
             return false;
         }
         i = i + 4;
     }
-    if i >= a.len() {
-        return true;
-    }
-    four_at(a, i) == four_at(b, i)
+    four(a, last) == four(b, last)
 }
 
 // The same byte by byte, for a word beside one of the three fixed words.
@@ -225,4 +229,29 @@ pub fn used_at(line: &[u8], kinds: &[u8; 256], at: usize) -> UsedName
         start: inner.start,
         len: inner.len,
     }
+}
+
+// The same for the reading of expressions, where most names have no point: those take no second call.
+pub fn used_plain_first(line: &[u8], kinds: &[u8; 256], at: usize) -> UsedName
+    ensures { λ r. ⌜ UsedAt (now (kinds .entry)) (now (line .entry)) at (r .title) (r .size) (r .start) (r .len) ⌝ }
+{
+    if at > line.len() {
+        return used_at(line, kinds, at);
+    }
+    let n = name_at(line, kinds, at);
+    let start = n.start;
+    let len = n.len;
+    if len == 0 {
+        return used_at(line, kinds, at);
+    }
+    let point = symbol(line, kinds, start + len, kinds::POINT);
+    if point > line.len() {
+        return UsedName {
+            title: 0,
+            size: 0,
+            start: start,
+            len: len,
+        };
+    }
+    used_at(line, kinds, at)
 }

@@ -43,7 +43,7 @@ use Rattle.symbols.proofs.kind_at.Reads as kind-at
 use Rattle.symbols.proofs.name_at.Reads as name-at
 use Rattle.symbols.proofs.spaces.Reads as spaces
 use Rattle.symbols.proofs.symbol.Reads as symbol
-use Rattle.symbols.proofs.used_at.Reads as used-at
+use Rattle.symbols.proofs.used_plain_first.Reads as used-plain-first
 use Rattle.expressions.proofs.walk.+abstraction+application+arguments+expression+named.{statement}
 use Rattle.expressions.proofs.walk.+abstraction+application+arguments+expression+named.Tie.{close}
 
@@ -144,8 +144,8 @@ claims-expression t = (
 
 abbrev claims-named : ℕ → named-lts.Claims
 claims-named t = (
-  used-at.Asked,
-  used-at.Learnt,
+  used-plain-first.Asked,
+  used-plain-first.Learnt,
   refused.Asked,
   refused.Learnt,
   binding.Asked,
@@ -456,13 +456,13 @@ expression-returns-5 t c =
 named-returns : (t : ℕ) → named-lts.Need-returns (claims-named t) (named-at t) named.Post
 named-returns t c =
     let entry = c .before .before .before .before .before .before .before in
-    named-unnamed (entry .pre .1 .0) (entry .pre .1 .1) (entry .pre .1 .2) (c .before .before .used-at .ensures) (c .before .if1 .taken)
+    named-unnamed (entry .pre .1 .0) (entry .pre .1 .1) (entry .pre .1 .2) (c .before .before .used-plain-first .ensures) (c .before .if1 .taken)
     (c .refused .ensures)
 
 named-add-next : (t : ℕ) → named-lts.Need-add-next (claims-named t) (named-at t) named.Post
 named-add-next t c =
     let entry = c .before .before .before .before .before .before in
-    omega (arith, c .before .used-at .ensures .within (entry .pre .1 .1), entry)
+    omega (arith, c .before .used-plain-first .ensures .within (entry .pre .1 .1), entry)
 
 named-sub-binding : (t : ℕ) → named-lts.Need-sub-binding (claims-named t) (named-at t) named.Post
 named-sub-binding t c = omega arith
@@ -471,12 +471,12 @@ named-part-binding-start : (t : ℕ) → named-lts.Need-part-binding-start (clai
 named-part-binding-start t c = omega arith
 
 named-part-binding-end : (t : ℕ) → named-lts.Need-part-binding-end (claims-named t) (named-at t) named.Post
-named-part-binding-end t c = omega (arith, (let at-used = c .before .before .before .before .before in at-used .used-at .ensures .within (at-used .before .before .before .before .before .pre .1 .1)))
+named-part-binding-end t c = omega (arith, (let at-used = c .before .before .before .before .before in at-used .used-plain-first .ensures .within (at-used .before .before .before .before .before .pre .1 .1)))
 
 named-name-meaning-requires : (t : ℕ) → named-lts.Need-name-meaning-requires (claims-named t) (named-at t) named.Post
 named-name-meaning-requires t c κs =
     let at-used = c .before .before .before .before in let entry = at-used .before .before .before .before .before in
-    omega (arith, at-used .used-at .ensures .within (entry .pre .1 .1), at-used .used-at .ensures .titled (entry .pre .1 .1))
+    omega (arith, at-used .used-plain-first .ensures .within (entry .pre .1 .1), at-used .used-plain-first .ensures .titled (entry .pre .1 .1))
 
 named-completed-requires : (t : ℕ) → named-lts.Need-completed-requires (claims-named t) (named-at t) named.Post
 named-completed-requires t c κs =
@@ -493,8 +493,8 @@ named-returns-2 t c =
     let at-if4 = c .before .before .before .before in let at-symbol = at-if4 .before in let at-put = at-symbol .before .before .before in
     let at-meaning = at-put .before .before in let at-if2 = at-meaning .before .before in let at-if1 = at-if2 .before .before in
     let at-used = at-if1 .before in let entry = at-used .before .before .before .before .before in
-    let n = at-used .used-at .result in
-    named-alone (entry .pre .1 .0) (entry .pre .1 .1) (entry .pre .1 .2) (at-used .used-at .ensures) (at-if1 .if1 .left)
+    let n = at-used .used-plain-first .result in
+    named-alone (entry .pre .1 .0) (entry .pre .1 .1) (entry .pre .1 .2) (at-used .used-plain-first .ensures) (at-if1 .if1 .left)
     (⊎-elim
     (λ w. binding-of n (w .5) (part _ (n .start) (n .start + n .len) (omega arith)) (w .2 .taken) (w .4 .ensures))
     (⊎-elim (λ w. binding-pointed n (w .3) (w .2 .left)) (λ w. binding-none n (w .1) (w .0 .left)))
@@ -513,8 +513,8 @@ named-arguments-requires t c κs =
       below-put (at-put .put .ensures) .long,
       c .before .before .if4,
       c .before .nest .ensures .deeper (entry .pre .1 .2),
-      c .before .before .before .symbol .ensures .from (at-used .used-at .ensures .within (entry .pre .1 .1)),
-      at-used .used-at .ensures .from,
+      c .before .before .before .symbol .ensures .from (at-used .used-plain-first .ensures .within (entry .pre .1 .1)),
+      at-used .used-plain-first .ensures .from,
     )
 
 named-completed-requires-2 : (t : ℕ) → named-lts.Need-completed-requires-2 (claims-named t) (named-at t) named.Post
@@ -535,8 +535,8 @@ named-returns-3 t c =
     let at-if4 = at-nest .before in let at-symbol = at-if4 .before in let at-put = at-symbol .before .before .before in
     let at-meaning = at-put .before .before in let at-if2 = at-meaning .before .before in let at-if1 = at-if2 .before .before in
     let at-used = at-if1 .before in let entry = at-used .before .before .before .before .before in
-    let n = at-used .used-at .result in
-    named-read (entry .pre .1 .0) (entry .pre .1 .1) (entry .pre .1 .2) (at-used .used-at .ensures) (at-if1 .if1 .left)
+    let n = at-used .used-plain-first .result in
+    named-read (entry .pre .1 .0) (entry .pre .1 .1) (entry .pre .1 .2) (at-used .used-plain-first .ensures) (at-if1 .if1 .left)
     (⊎-elim
     (λ w. binding-of n (w .5) (part _ (n .start) (n .start + n .len) (omega arith)) (w .2 .taken) (w .4 .ensures))
     (⊎-elim (λ w. binding-pointed n (w .3) (w .2 .left)) (λ w. binding-none n (w .1) (w .0 .left)))
