@@ -1,13 +1,15 @@
 -- A name where it is used, with the paragraph's name and a point before it, if any.
 use mathlib.Core.Path.{_≡_, refl, sym, ap, _∙_}
 use mathlib.Core.Logic.{_≢_}
+use mathlib.Core.Bool.{Bool, true, false}
 use mathlib.Core.List.{[], _∷_}
 use Prim.Native.Nat.{ℕ, _+_, _≤_, _<_}
 use native.Mathlib.Decide.{ℕ-discrete}
 use native.Mathlib.Omega.{arith}
+use lib.Dec.{leb}
 use lib.ListN.{length, drop}
 use lib.Seq.{slice, slice-empty, length-slice}
-use borrow.Author.Tests.{eq-eqb, ne-eqb}
+use borrow.Author.Tests.{eq-eqb, ne-eqb, leb-true, leb-false}
 use Rattle.aut68.specs.Language.{aut68}
 use Rattle.aut68.specs.Bytes.{Bytes, nameByte}
 use Rattle.aut68.specs.Source.{plain, inside}
@@ -74,6 +76,14 @@ used-outside l =
     }
 
 module _ {ks s : Bytes} {at start len : ℕ} (n : NameAt ks s at start len) where
+  -- a name stands inside the line
+  pub name-inside : len ≢ 0 → at ≤ length s
+  name-inside m = split (leb at (length s)) refl
+    where
+      split : (t : Bool) → leb at (length s) ≡ t → at ≤ length s
+      split true q = leb-true at (length s) q
+      split false q = absurd (m (n .outside (leb-false at (length s) q)))
+
   pub used-missing : len ≡ 0 → UsedAt ks s at 0 0 start 0
   unfolding aUsed
   used-missing e =

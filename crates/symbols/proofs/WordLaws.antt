@@ -177,6 +177,7 @@ module _ {ks s : Bytes} {at start end : ℕ} (p : PastSpaces s at start) (q : Wo
         from = p .from;
         ahead = λ b. p .rest;
         within = λ b. omega (arith, p .within b);
+        outside = λ o. refl;
         read = λ t b n. absurd (n refl);
         missing = λ t b e. f t b;
       }
@@ -187,13 +188,14 @@ module _ {ks s : Bytes} {at start end : ℕ} (p : PastSpaces s at start) (q : Wo
   pub name-reserved : reserved aut68 (slice start end s) ≡ true → NameAt ks s at start 0
   name-reserved r = no-name-at (λ t b. reserved-word p q t b r)
 
-  pub name-word : end - start ≤ nameLimit → reserved aut68 (slice start end s) ≡ false → NameAt ks s at start (end - start)
-  name-word l r =
+  pub name-word : at ≤ length s → end - start ≤ nameLimit → reserved aut68 (slice start end s) ≡ false → NameAt ks s at start (end - start)
+  name-word i l r =
       let ends : start + (end - start) ≡ end = omega (arith, q .from) in
       record {
         from = p .from;
         ahead = λ b. p .rest;
         within = λ b. omega (arith, q .within (p .within b));
+        outside = λ o. absurd (omega arith);
         read = λ t b n. rw ends (a-name p q t b n l r);
         missing = λ t b e. no-word p q t b e;
       }
@@ -204,6 +206,7 @@ name-outside l =
       from = omega arith;
       ahead = λ b. absurd (omega arith);
       within = λ b. absurd (omega arith);
+      outside = λ o. refl;
       read = λ t b n. absurd (n refl);
       missing = λ t b e. absurd (omega arith);
     }

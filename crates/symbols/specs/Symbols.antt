@@ -53,6 +53,7 @@ pub record NameAt (ks s : Bytes) (at start len : ℕ) : Type 0 where
   pub from : at ≤ start
   pub ahead : at ≤ length s → drop start s ≡ spaces (drop at s)
   pub within : at ≤ length s → start + len ≤ length s
+  pub outside : length s < at → len ≡ 0
   pub read : KindsTable ks → at ≤ length s → len ≢ 0 → aName aut68 (drop at s) ≡ done (slice start (start + len) s) (drop (start + len) s)
   pub missing : KindsTable ks → at ≤ length s → len ≡ 0 → aName aut68 (drop at s) ≡ stop malformed (drop at s)
 

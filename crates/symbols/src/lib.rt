@@ -235,23 +235,19 @@ pub fn used_at(line: &[u8], kinds: &[u8; 256], at: usize) -> UsedName
 pub fn used_plain_first(line: &[u8], kinds: &[u8; 256], at: usize) -> UsedName
     ensures { λ r. ⌜ UsedAt (now (kinds .entry)) (now (line .entry)) at (r .title) (r .size) (r .start) (r .len) ⌝ }
 {
-    if at > line.len() {
-        return used_at(line, kinds, at);
-    }
     let n = name_at(line, kinds, at);
     let start = n.start;
     let len = n.len;
-    if len == 0 {
-        return used_at(line, kinds, at);
-    }
-    let point = symbol(line, kinds, start + len, kinds::POINT);
-    if point > line.len() {
-        return UsedName {
-            title: 0,
-            size: 0,
-            start: start,
-            len: len,
-        };
+    if len != 0 {
+        let behind = symbol(line, kinds, start + len, kinds::POINT);
+        if behind > line.len() {
+            return UsedName {
+                title: 0,
+                size: 0,
+                start: start,
+                len: len,
+            };
+        }
     }
     used_at(line, kinds, at)
 }

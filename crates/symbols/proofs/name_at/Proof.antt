@@ -28,7 +28,7 @@ returns-4 : tie.Need-returns-4
 returns-4 c =
     let r = c .before .before .before .before in
     let part-is = part _ _ _ (r .word-end .ensures .from) in
-    name-word (r .before .spaces .ensures) (r .word-end .ensures) (omega arith)
+    name-word (r .before .spaces .ensures) (r .word-end .ensures) (r .before .before .if1 .left) (omega arith)
     (ap (reserved aut68) (sym part-is) ∙ sym (c .before .is-reserved .ensures) ∙ c .if3 .left)
 
 pub name-at-spec : {M : Type 1} → statement M
