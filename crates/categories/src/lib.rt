@@ -48,13 +48,6 @@ use typing::applied;
 use typing::argument_fits;
 use typing::stored_fits;
 
-// code 0: an argument of `extent` cells passed; else a refusal. The budget that is left.
-struct Fitted {
-    code: u32,
-    extent: usize,
-    budget: u32,
-}
-
 // The category of the expression at the start of e, which is the rest of the store from there on.
 pub fn category(
     table: &[u32],
@@ -140,7 +133,7 @@ fn arguments(
         let x = s[at];
         let f = if is_stored(table, x) {
             let u = (x / CELL_FACTOR) as usize;
-            let c = stored_fits(
+            stored_fits(
                 table,
                 terms,
                 w,
@@ -152,20 +145,10 @@ fn arguments(
                 base,
                 i,
                 starts,
-            );
-            Fitted {
-                code: c.code,
-                extent: 1,
-                budget: c.budget,
-            }
+            )
         } else {
             let g = category(table, terms, &s[at..], scope, w, limit, rest, level + 1);
-            let c = argument_fits(table, terms, w, limit, g, level, wanted, base, i, starts);
-            Fitted {
-                code: c.code,
-                extent: g.extent,
-                budget: c.budget,
-            }
+            argument_fits(table, terms, w, limit, g, level, wanted, base, i, starts)
         };
         rest = f.budget;
         let code = f.code;

@@ -1,4 +1,5 @@
 // An argument of a constant: its category against the wanted one.
+ghost use mathlib.Core.Path.{_≡_};
 ghost use Prim.Native.Nat.{_+_, _<_};
 ghost use Rattle.cells.specs.Layout.{levels};
 ghost use Rattle.typing.specs.FittingPosts.{WantedPost, StoredFitsPost, ArgumentFitsPost};
@@ -10,6 +11,7 @@ use constants::CATEGORY_START;
 use constants::Cell;
 use constants::TOO_LARGE;
 use instances::instantiate;
+use levels::Argued;
 use levels::Checked;
 use levels::Found;
 use levels::stored;
@@ -58,9 +60,9 @@ pub fn stored_fits(
     base: usize,
     count: usize,
     starts: &[Cell; 64],
-) -> Checked
+) -> Argued
     requires { ⌜ level + 2 < levels ⌝ }
-    ensures { λ r. ⌜ StoredFitsPost (now (table .entry)) (now (terms .entry)) (now (w .entry)) limit budget level v wanted base count (now (starts .entry)) (now (w .exit)) (r .code) (r .budget) ⌝ }
+    ensures { λ r. ⌜ StoredFitsPost (now (table .entry)) (now (terms .entry)) (now (w .entry)) limit budget level v wanted base count (now (starts .entry)) (now (w .exit)) (r .code) (r .budget) × (r .extent ≡ 1) ⌝ }
 {
     let at = field(table, v, CATEGORY_START);
     let end = field(table, v, CATEGORY_END);
@@ -81,8 +83,9 @@ pub fn stored_fits(
                 at,
                 end - at,
             ) {
-                return Checked {
+                return Argued {
                     code: 0,
+                    extent: 1,
                     budget: budget,
                 };
             }
@@ -90,12 +93,13 @@ pub fn stored_fits(
     }
     let f = stored(table, terms, w, limit, budget, level + 1, v);
     if f.code != 0 {
-        return Checked {
+        return Argued {
             code: f.code,
+            extent: 1,
             budget: f.budget,
         };
     }
-    compare_wanted(
+    let c = compare_wanted(
         table,
         terms,
         w,
@@ -106,7 +110,12 @@ pub fn stored_fits(
         base,
         count,
         starts,
-    )
+    );
+    Argued {
+        code: c.code,
+        extent: 1,
+        budget: c.budget,
+    }
 }
 
 // An argument of a constant whose category was found at the next level: the wanted category, of the context variable on line
@@ -122,14 +131,15 @@ pub fn argument_fits(
     base: usize,
     count: usize,
     starts: &[Cell; 64],
-) -> Checked
+) -> Argued
     requires { ⌜ level + 2 < levels ⌝ }
     ensures { λ r. ⌜ ArgumentFitsPost (now (table .entry)) (now (terms .entry)) (now (w .entry)) limit (found .code) (found .size) (found .budget) level wanted base count (now (starts .entry))
-        (now (w .exit)) (r .code) (r .budget) ⌝ }
+        (now (w .exit)) (r .code) (r .budget) × (r .extent ≡ found .extent) ⌝ }
 {
     if found.code != 0 {
-        return Checked {
+        return Argued {
             code: found.code,
+            extent: found.extent,
             budget: found.budget,
         };
     }
@@ -149,12 +159,13 @@ pub fn argument_fits(
         at,
         found.size,
     ) {
-        return Checked {
+        return Argued {
             code: 0,
+            extent: found.extent,
             budget: found.budget,
         };
     }
-    compare_wanted(
+    let c = compare_wanted(
         table,
         terms,
         w,
@@ -165,5 +176,10 @@ pub fn argument_fits(
         base,
         count,
         starts,
-    )
+    );
+    Argued {
+        code: c.code,
+        extent: found.extent,
+        budget: c.budget,
+    }
 }

@@ -360,12 +360,12 @@ arguments-fitted t c =
     let c7 = c .before .before .before .before .before .before .before in
     let c16 = c7 .before .before .before .before .before .before .before .before .before in
     ⊎-elim (λ a. (
-      rw (a .6, a .7) (argument-stored (a .3 .ensures)
+      rw (a .6, a .7, a .3 .ensures .1) (argument-stored (a .3 .ensures .0)
           (omega (arith, part-length (c16 .args .s .now) (c7 .loop .at), c .before .before .before .if1 .left))
           (sym (part-first (c16 .args .s .now) (c7 .loop .at))) refl (c .before .is-stored .ensures) (a .0 .taken)),
       omega (arith, ap length (a .6), a .4 .given),
     ))
-    (λ a. (rw (a .11, a .12) (argument-other (a .3 .ensures) (a .8 .ensures)), omega (arith, ap length (a .11), a .4 .given, a .9 .given)))
+    (λ a. (rw (a .11, a .12, a .8 .ensures .1) (argument-other (a .3 .ensures) (a .8 .ensures .0)), omega (arith, ap length (a .11), a .4 .given, a .9 .given)))
     (c .if2 .came)
 
 arguments-same-length-2 : (t : ℕ) → arguments-lts.Need-same-length-2 (claims-arguments t) (arguments-at t) arguments.Post arguments-Inv-loop arguments-μ-loop
