@@ -12,9 +12,11 @@ returns c = (fits-refused (c .if1 .taken), refl)
 returns-2 : tie.Need-returns-2
 returns-2 c =
     let c4 = c .before .before .before .before in
-    let c11 = c4 .before .before .before .before .before .before .before in
-    (fits-seen (c4 .before .before .if1 .left) (c4 .before .field .ensures .0) (c4 .field2 .ensures .0)
-    (λ h. c .before .before .before .level-at .ensures h (omega (arith, c11 .pre))) (c .before .is-instance .ensures) (c .if2 .taken), refl)
+    let c11 = c4 .before .before .before .before .before .before .before in (
+      fits-seen (c4 .before .before .if1 .left) (c4 .before .field .ensures .0) (c4 .field2 .ensures .0)
+          (λ h. c .before .before .before .level-at .ensures h (omega (arith, c11 .pre))) (c .before .is-instance .ensures) (c .if2 .taken),
+      refl,
+    )
 
 returns-3 : tie.Need-returns-3
 returns-3 c = (fits-compared (c .before .before .before .before .before .before .before .before .before .before .if1 .left) (c .before .before .compare-wanted .ensures), refl)

@@ -8,9 +8,11 @@ use Rattle.typing.proofs.arguments.stored_fits.Statement.{statement}
 returns : tie.Need-returns
 returns c =
     let c5 = c .before .before .before .before .before in
-    let c8 = c5 .before .before .before in
-    (stored-fits-same (c8 .field .ensures .0) (c5 .before .before .field2 .ensures .0) (c5 .before .field3 .ensures .0) (c5 .field4 .ensures .0) refl
-    (c .before .is-instance .ensures) (c .if3 .taken), refl)
+    let c8 = c5 .before .before .before in (
+      stored-fits-same (c8 .field .ensures .0) (c5 .before .before .field2 .ensures .0) (c5 .before .field3 .ensures .0) (c5 .field4 .ensures .0) refl
+          (c .before .is-instance .ensures) (c .if3 .taken),
+      refl,
+    )
 
 returns-2 : tie.Need-returns-2
 returns-2 c =
