@@ -1,7 +1,7 @@
 -- The sixteen outcomes that document 01 calls the proved ones, as one table under one theorem; books that tell its misreadings apart,
 -- under another; the example books in AUT-QE, under a third; those with omitted arguments, under a fourth; those with the cells of the
 -- index, under a fifth; those of closed blocks, under a sixth; those with paragraphs, under a seventh; the lines that a book of three
--- records; and the pages of books.
+-- records; the pages of books; and pairs under both comparisons.
 use mathlib.Core.Path.{_≡_, refl}
 use Prim.Native.Nat.{ℕ, zero, suc}
 use mathlib.Core.Bool.{true}
@@ -23,6 +23,7 @@ use Rattle.aut68.specs.Procedure.Lookup
 use Rattle.aut68.specs.Procedure.Resolve
 use Rattle.aut68.specs.Procedure.HeadStep
 use Rattle.aut68.specs.Procedure.Compare
+use Rattle.aut68.specs.Procedure.PartsFirst
 use Rattle.aut68.specs.Procedure.Category
 use Rattle.aut68.specs.Procedure.CheckLine
 use Rattle.aut68.specs.Procedure.CheckPiece
@@ -32,6 +33,7 @@ use Rattle.aut68.specs.Omitted.{sums, sumRows, sumCells, omittedArgument
 use Rattle.aut68.specs.Indexed.{sampleRows, sampleCells, sampleIndex, withIndex, indexCells}
 use Rattle.aut68.specs.ClosedBlocks.{blocks, closedBlocks}
 use Rattle.aut68.specs.ParagraphCases.{paragraphCases}
+use Rattle.aut68.specs.ComparisonCases.{comparedLines, around, answersAs, comparesAs, allCompare, pair, comparedPairs}
 use Rattle.aut68.specs.Printed.{printed, printsAs, allPrint, printedPages}
 use Rattle.aut68.specs.ExamplesQE.{naturals, families, examplesQE}
 
@@ -168,9 +170,9 @@ numberLines =
 
 -- ---- the tables, computed
 
-computed : (allHold (tableRows ++ fourOutcomes) ≡ true) × (allHold (misreadings ++ procedureOrder) ≡ true) × (allHold examplesQE ≡ true) × (allKeep omittedArguments ≡ true) × (allKeep indexCells ≡ true) × (allHold closedBlocks ≡ true) × (allKeep paragraphCases ≡ true) × (Run.recordedAt (Run.run aut68 numbers (lending 0 16 27 8 2048 16384)) .recorded ≡ numberLines)
-unfolding numbers numberLines allHold endsAs holds sameNumbers recordsAs keepsAs keeps allKeep under within usual sums sumRows sumCells omittedArguments sampleRows sampleCells sampleIndex withIndex indexCells blocks closedBlocks paragraphCases naturals families examplesQE sample longer tableRows fourOutcomes selfNamed swapped renumbered stepsRemain misreadings equality pairs repeated nested deep procedureOrder bytesOf
-    Answer.codeOf Answer.andThen Answer.when Answer.ensure Answer.aside
+computed : (allHold (tableRows ++ fourOutcomes) ≡ true) × (allHold (misreadings ++ procedureOrder) ≡ true) × (allHold examplesQE ≡ true) × (allKeep omittedArguments ≡ true) × (allKeep indexCells ≡ true) × (allHold closedBlocks ≡ true) × (allKeep paragraphCases ≡ true) × (Run.recordedAt (Run.run aut68 numbers (lending 0 16 27 8 2048 16384)) .recorded ≡ numberLines) × (allCompare comparedLines comparedPairs ≡ true)
+unfolding comparedLines around answersAs comparesAs allCompare pair comparedPairs numbers numberLines allHold endsAs holds sameNumbers recordsAs keepsAs keeps allKeep under within usual sums sumRows sumCells omittedArguments sampleRows sampleCells sampleIndex withIndex indexCells blocks closedBlocks paragraphCases naturals families examplesQE sample longer tableRows fourOutcomes selfNamed swapped renumbered stepsRemain misreadings equality pairs repeated nested deep procedureOrder bytesOf
+    Answer.codeOf Answer.codeIn Answer.restIn Answer.andThen Answer.when Answer.ensure Answer.aside
     Bytes.nameByte Bytes.opensExpression Bytes.sameBytes Bytes.wordType Bytes.wordPN Bytes.wordEB Bytes.wordProp Bytes.reserved Bytes.onto Bytes.lines
     Source.countSrcs
     Parse.spaces Parse.byte Parse.symbol Parse.starts Parse.wordOf Parse.afterWord Parse.wordAhead Parse.pastWord Parse.nameFits Parse.aName Parse.pointIfAny Parse.aUsed Parse.commaOrClose Parse.arguments Parse.argumentsIfAny Parse.named Parse.application Parse.abstraction Parse.anExpression Parse.anIndicator Parse.aMiddle Parse.propOrName Parse.wordAt Grammar.below Parse.bytesLeft Parse.lineEnd Parse.aLine Parse.aSignLine Parse.signed
@@ -183,11 +185,12 @@ unfolding numbers numberLines allHold endsAs holds sameNumbers recordsAs keepsAs
     Resolve.leftOut Resolve.member Resolve.isPlain Resolve.placeFrom Resolve.answered Resolve.lookUp Resolve.sought Resolve.wanted Resolve.build Resolve.resolve Resolve.resolveMiddle Resolve.indicatorLine Resolve.contextAt
     HeadStep.under HeadStep.headStep HeadStep.left
     Compare.choose Compare.next Compare.each Compare.endsAs Compare.hasSurplus Compare.compareParts Compare.sides Compare.compareAt Compare.compare
+    PartsFirst.differs PartsFirst.unlessEqual PartsFirst.stepTo PartsFirst.pass PartsFirst.passes PartsFirst.sidesFirst PartsFirst.partsFirstAt PartsFirst.partsFirst
     Category.nth Category.theLine Category.made Category.headForm Category.parts Category.toFunction Category.servesAsType Category.opens Category.secondChance Category.categoryAt Category.searches Category.category
     CheckLine.withinLimits CheckLine.middleWithinLimits CheckLine.readLine CheckLine.room CheckLine.store CheckLine.checkDomain CheckLine.checkSupertype CheckLine.checkWritten CheckLine.checkMiddle CheckLine.checkCategories CheckLine.checkLine
     CheckPiece.checkOpening CheckPiece.closing CheckPiece.checkClosing CheckPiece.checkPiece
     Run.codeAt Run.lineAt Run.stepsAt Run.recordedAt Run.over Run.tableEnd Run.termsEnd Run.workEnd Run.oneMore Run.elsewhere Run.afterPiece Run.atEnd Run.checkLines Run.nothing Run.run
-computed = (refl, refl, refl, refl, refl, refl, refl, refl)
+computed = (refl, refl, refl, refl, refl, refl, refl, refl, refl)
 
 pub outcomes : allHold (tableRows ++ fourOutcomes) ≡ true
 outcomes = computed .0
@@ -214,6 +217,10 @@ paragraph-cases = computed .6
 
 pub numbers-recorded : Run.recordedAt (Run.run aut68 numbers (lending 0 16 27 8 2048 16384)) .recorded ≡ numberLines
 numbers-recorded = computed .7
+
+-- code and steps of both comparisons
+pub comparison-cases : allCompare comparedLines comparedPairs ≡ true
+comparison-cases = computed .8
 
 -- the pages of books, byte for byte, and what is read back from them
 pub pages-printed : allPrint printedPages ≡ true

@@ -1,11 +1,11 @@
-// Comparison of a found category, on the left, with a wanted one.
+// Comparison of a found category, on the left, with a wanted one; and a second comparison, in another order.
 //
 // The sides at depth 1 to NESTING have two units each. A pair at one depth is made of parts of the pair above it, so opening it
 // copies upwards, and nothing at a lesser depth changes.
-ghost use mathlib.Core.Path.{_≡_};
-ghost use Prim.Native.Nat.{ℕ};
+mod parts_first;
+
 ghost use Rattle.comparison.specs.Posts.{Compares, ComparesParts};
-use cells::kids;
+pub use parts_first::compare_parts_first;
 use cells::side_at;
 use cells::skip;
 use constants::Cell;
@@ -13,6 +13,7 @@ use constants::LARGEST_LIMIT;
 use constants::MISMATCH;
 use constants::NESTING;
 use constants::TOO_LARGE;
+use sides::same_shape;
 use sides::settle;
 
 // code 0: equal; else a refusal. The budget that is left.
@@ -78,26 +79,14 @@ fn compare_parts(
 ) -> Compared
     ensures { λ x. ⌜ ComparesParts (now (table .entry)) (now (terms .entry)) (now (w .entry)) limit budget l r deeper (now (w .exit)) (x .code) (x .budget) ⌝ }
 {
-    if l >= w.len() {
+    let s = same_shape(table, w, l, r);
+    if !s.same {
         return Compared {
             code: MISMATCH,
             budget: budget,
         };
     }
-    if r >= w.len() {
-        return Compared {
-            code: MISMATCH,
-            budget: budget,
-        };
-    }
-    let x = w[l];
-    if x != w[r] {
-        return Compared {
-            code: MISMATCH,
-            budget: budget,
-        };
-    }
-    let mut parts = kids(table, x);
+    let mut parts = s.parts;
     let mut i = l + 1;
     let mut j = r + 1;
     let mut rest = budget;

@@ -2,7 +2,7 @@
 use mathlib.Core.Path.{_≡_, refl, ap, sym, _∙_, subst}
 use mathlib.Core.Logic.{_⊎_, inl, inr}
 use mathlib.Core.Bool.{Bool, true, false}
-use mathlib.Core.Option.{none, some}
+use mathlib.Core.Option.{some}
 use native.Mathlib.Omega.{arith}
 use Prim.Native.Nat.{ℕ, zero, suc}
 use lib.Dec.{eqb, leb}
@@ -10,17 +10,18 @@ use borrow.Author.Tests.{eqb-true, eqb-false}
 use Rattle.aut68.specs.Language.{Language, aut68, autQE, Extended, extended}
 use Rattle.aut68.specs.Sizes.{nesting}
 use Rattle.aut68.specs.Procedure.Answer.{Act, Answer, done, stop, give, refuse, mismatch, tooLarge, outOfBudget}
-use Rattle.aut68.specs.Expr.{Expr, Exprs, type, prop, var, bound, const, app, abs, nil, cons, size, firstCell, parts, identical, endsInType, endsInProp}
+use Rattle.aut68.specs.Expr.{Expr, Exprs, type, prop, var, bound, const, app, abs, nil, cons, size, firstCell, parts, endsInType, endsInProp}
 use Rattle.aut68.specs.Lines.{Lines}
 use Rattle.aut68.specs.Rules.Steps.{Reduces, Equal}
 use Rattle.aut68.specs.Rules.Serving.{Basic, aType, aProp, Ends, itself, before, Drops, Serves}
 use Rattle.aut68.specs.Rules.Serving
-use Rattle.aut68.specs.Procedure.HeadStep.{Head, noStep, beta, delta, headStep, left}
-use Rattle.aut68.specs.Procedure.Compare.{Next, same, byParts, stepLeft, stepRight, choose, next, Comparison, each, endsAs, hasSurplus, compareParts, sides, compareAt, compare}
+use Rattle.aut68.specs.Procedure.HeadStep.{headStep, left}
+use Rattle.aut68.specs.Procedure.Compare.{Next, same, byParts, stepLeft, stepRight, next, Comparison, each, endsAs, hasSurplus, compareParts, sides, compareAt, compare}
 use Rattle.aut68.specs.Rules.Resolved.{Scoped, ConstantOf}
 use Rattle.calculus.specs.Reductions.{steps-one, steps-eq}
 use Rattle.calculus.specs.Equality.{Equals, equalNone, equalMore, equal-path, equal-steps, equal-sym, equal-trans, abs-steps}
-use Rattle.calculus.specs.Shapes.{identical-same, decoded, decode, decoded-is, false-not-true}
+use Rattle.calculus.specs.Shapes.{decoded, decode, decoded-is, false-not-true}
+use Rattle.calculus.specs.Next.{NextIs, isSame, isParts, isLeft, isRight, next-is}
 use Rattle.calculus.specs.HeadForms.{HeadNormal, habs, hneutral, Neutral, ntype, nprop, nvar, nbound, nconst, napp, head-step, head-none, normal-steps, parts-equal, equal-parts}
 use Rattle.calculus.specs.Scoped.{ScopedCategory, scoped-category}
 use Rattle.calculus.specs.Resolved.{VariableLine, Known, AllKnown, KnownCategory, ResolvedLines, lines-closed}
@@ -83,38 +84,6 @@ basic-cell e aType q = sym (decoded-is e) ∙ ap (λ n. decoded n (parts e)) q
 basic-cell e aProp q = sym (decoded-is e) ∙ ap (λ n. decoded n (parts e)) q
 
 module _ (ls : Lines) where
-  -- what comes next, and why
-  data NextIs (l r : Expr) : Next → Type 0 where
-    isSame : l ≡ r → NextIs l r same
-    isParts : left (headStep ls l) ≡ none → left (headStep ls r) ≡ none → NextIs l r byParts
-    isLeft : {l′ : Expr} → left (headStep ls l) ≡ some l′ → NextIs l r (stepLeft l′)
-    isRight : {r′ : Expr} → left (headStep ls r) ≡ some r′ → NextIs l r (stepRight r′)
-
-  larger-line : {l r l′ r′ : Expr} (t : Bool) → left (headStep ls l) ≡ some l′ → left (headStep ls r) ≡ some r′
-      → NextIs l r (elim t [ true ↦ stepLeft l′ | false ↦ stepRight r′ ])
-  larger-line true p q = isLeft p
-  larger-line false p q = isRight q
-
-  choose-is : (l r : Expr) (h k : Head) → headStep ls l ≡ h → headStep ls r ≡ k → NextIs l r (choose h k)
-  unfolding choose left
-  choose-is l r noStep noStep p q = isParts (ap left p) (ap left q)
-  choose-is l r noStep (beta r′) p q = isRight (ap left q)
-  choose-is l r noStep (delta w r′) p q = isRight (ap left q)
-  choose-is l r (beta l′) noStep p q = isLeft (ap left p)
-  choose-is l r (beta l′) (beta r′) p q = isLeft (ap left p)
-  choose-is l r (beta l′) (delta w r′) p q = isLeft (ap left p)
-  choose-is l r (delta v l′) noStep p q = isLeft (ap left p)
-  choose-is l r (delta v l′) (beta r′) p q = isRight (ap left q)
-  choose-is l r (delta v l′) (delta w r′) p q = larger-line (leb w v) (ap left p) (ap left q)
-
-  next-if : (l r : Expr) (t : Bool) → identical l r ≡ t → NextIs l r (elim t [ true ↦ same | false ↦ choose (headStep ls l) (headStep ls r) ])
-  next-if l r true e = isSame (identical-same l r e)
-  next-if l r false e = choose-is l r (headStep ls l) (headStep ls r) refl refl
-
-  next-is : (l r : Expr) → NextIs l r (next ls l r)
-  unfolding next
-  next-is l r = next-if l r (identical l r) refl
-
   -- an answer to whether X holds
   abbrev pub Settles : Type 0 → Answer ℕ (Unit {0}) → Type 0
   Settles X = Judged (λ _. X) (Finding (¬ X))
@@ -298,9 +267,9 @@ module _ (ls : Lines) where
 
     sides-settle : (deeper : Comparison) → SettlesServes deeper → SettlesServes (sides language ls L deeper)
     unfolding sides
-    sides-settle deeper d l r w x zero = go (next ls l r) (next-is l r)
+    sides-settle deeper d l r w x zero = go (next ls l r) (next-is ls l r)
       where
-        go : (n : Next) → NextIs l r n
+        go : (n : Next) → NextIs ls l r n
             → Settles (Serves language ls l r) (elim n [
               | same ↦ done tt zero
               | byParts ↦ compareParts language deeper l r zero
@@ -311,9 +280,9 @@ module _ (ls : Lines) where
         go byParts (isParts p q) = parts-settle deeper d l r (head-none ls l p) (head-none ls r q) w x zero
         go (stepLeft l′) (isLeft p) = isStop spent
         go (stepRight r′) (isRight p) = isStop spent
-    sides-settle deeper d l r w x (suc b) = go (λ l r w x. sides-settle deeper d l r w x b) (next ls l r) (next-is l r)
+    sides-settle deeper d l r w x (suc b) = go (λ l r w x. sides-settle deeper d l r w x b) (next ls l r) (next-is ls l r)
       where
-        go : ((l r : Expr) → Categorical l → Categorical r → Settles (Serves language ls l r) (sides language ls L deeper l r b)) → (n : Next) → NextIs l r n
+        go : ((l r : Expr) → Categorical l → Categorical r → Settles (Serves language ls l r) (sides language ls L deeper l r b)) → (n : Next) → NextIs ls l r n
             → Settles (Serves language ls l r) (elim n [
               | same ↦ done tt (suc b)
               | byParts ↦ compareParts language deeper l r (suc b)

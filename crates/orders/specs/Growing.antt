@@ -1,109 +1,27 @@
--- Larger limits in comparison and categories: what they give or refuse by a verdict they do with any larger budget and limit, in both
--- languages.
-use mathlib.Core.Path.{_≡_, refl, ap, _∙_}
+-- Larger limits in categories and the checks of a line: what they give or refuse by a verdict they do with any larger budget and limit,
+-- in both languages.
+use mathlib.Core.Path.{_≡_, refl, ap}
 use mathlib.Core.Bool.{Bool, true, false}
 use mathlib.Core.Option.{Option, none, some}
 use mathlib.Core.List.{List, [], _∷_}
 use Prim.Native.Nat.{ℕ, zero, suc, _+_, _≤_}
 use native.Mathlib.Omega.{arith}
-use lib.Dec.{leb, ltb, eqb}
+use lib.Dec.{leb, ltb}
 use Rattle.aut68.specs.Language.{Language, aut68, autQE}
 use Rattle.aut68.specs.Sizes.{nesting}
-use Rattle.aut68.specs.Expr.{Expr, Exprs, type, prop, var, bound, const, app, abs, nil, cons, snoc, size, isSort, Shape, shape, abstraction, other, firstCell, parts, overBinding}
+use Rattle.aut68.specs.Expr.{Expr, Exprs, type, prop, var, bound, const, app, abs, nil, cons, snoc, size, isSort, Shape, shape, abstraction, other, parts, overBinding}
 use Rattle.aut68.specs.Substitution.{lift, substitute, instantiate}
 use Rattle.aut68.specs.Lines.{Line, Lines, Kind, variable, primitive, abbreviation}
 use Rattle.aut68.specs.Procedure.Answer.{Act, done, _>>=_, refuse, notFunction, notType, tooLarge}
 use Rattle.aut68.specs.Procedure.HeadStep.{headStep, left}
-use Rattle.aut68.specs.Procedure.Compare.{Next, same, byParts, stepLeft, stepRight, next, Comparison, each, hasSurplus, compareParts, sides, compareAt, compare}
+use Rattle.aut68.specs.Procedure.Compare.{compare}
 use Rattle.aut68.specs.Procedure.Category.{nth, theLine, made, headForm, toFunction, servesAsType, opens, Search, secondChance, categoryAt, arguments, searches, category}
 use Rattle.aut68.specs.Procedure.Category
 use Rattle.aut68.specs.Procedure.CheckLine.{checkDomain, checkSupertype, checkWritten, checkMiddle, checkCategories}
-use Rattle.lookup.specs.Answers.{large-undecided, spent-undecided, Kept, Grows, grows-give, grows-refuse, grows-then, grows-ensure, grows-test}
-use Rattle.lookup.specs.Answers.{larger}
-
--- ---- comparison
-
-grows-each : (deeper deeper′ : Comparison) → ((l r : Expr) → Grows (deeper l r) (deeper′ l r)) → (ls rs : Exprs) → Grows (each deeper ls rs) (each deeper′ ls rs)
-unfolding each
-grows-each deeper deeper′ h nil nil = grows-give
-grows-each deeper deeper′ h nil (cons r rs) = grows-refuse
-grows-each deeper deeper′ h (cons l ls) nil = grows-refuse
-grows-each deeper deeper′ h (cons l ls) (cons r rs) = grows-then (h l r) (λ _. grows-each deeper deeper′ h ls rs)
-
-grows-parts : (language : Language) (deeper deeper′ : Comparison) → ((l r : Expr) → Grows (deeper l r) (deeper′ l r)) → (l r : Expr)
-    → Grows (compareParts language deeper l r) (compareParts language deeper′ l r)
-unfolding compareParts
-grows-parts language deeper deeper′ h l r = sure (hasSurplus language l r) refl
-  where
-    at : hasSurplus language l r ≡ false → (t : Bool) → eqb (firstCell l) (firstCell r) ≡ t → Grows (compareParts language deeper l r) (compareParts language deeper′ l r)
-    at q true e = rw (q, e, compareParts) (grows-each deeper deeper′ h (parts l) (parts r))
-    at q false e = rw (q, e, compareParts) grows-refuse
-
-    sure : (t : Bool) → hasSurplus language l r ≡ t → Grows (compareParts language deeper l r) (compareParts language deeper′ l r)
-    sure true e = rw (e, compareParts) grows-give
-    sure false e = at e (eqb (firstCell l) (firstCell r)) refl
-
-module _ (language : Language) (ls : Lines) (L : ℕ) (deeper : Comparison) (l r : Expr) where
-  sides-same : (b : ℕ) → next ls l r ≡ same → sides language ls L deeper l r b ≡ done tt b
-  unfolding sides
-  sides-same zero q = rw (q, sides)
-  sides-same (suc b) q = rw (q, sides)
-
-  sides-parts : (b : ℕ) → next ls l r ≡ byParts → sides language ls L deeper l r b ≡ compareParts language deeper l r b
-  unfolding sides
-  sides-parts zero q = rw (q, sides)
-  sides-parts (suc b) q = rw (q, sides)
-
-  sides-left : (b : ℕ) {l′ : Expr} → next ls l r ≡ stepLeft l′ → leb (size l′) L ≡ true → sides language ls L deeper l r (suc b) ≡ sides language ls L deeper l′ r b
-  unfolding sides
-  sides-left b q t = rw (q, t, sides)
-
-  sides-right : (b : ℕ) {r′ : Expr} → next ls l r ≡ stepRight r′ → leb (size r′) L ≡ true → sides language ls L deeper l r (suc b) ≡ sides language ls L deeper l r′ b
-  unfolding sides
-  sides-right b q t = rw (q, t, sides)
+use Rattle.lookup.specs.Answers.{large-undecided, spent-undecided, Kept, Grows, grows-give, grows-refuse, grows-then, grows-ensure, grows-test, larger}
+use Rattle.agreement.specs.GrowingFirst.{grows-compare}
 
 module _ (language : Language) (ls : Lines) {L L′ : ℕ} (hL : L ≤ L′) where
-  module _ (deeper deeper′ : Comparison) (h : (l r : Expr) → Grows (deeper l r) (deeper′ l r)) where
-    sides-none : (c d : ℕ) → c ≡ 0 + d → (l r : Expr) (n : Next) → next ls l r ≡ n → Kept d (sides language ls L deeper l r zero) (sides language ls L′ deeper′ l r c)
-    unfolding sides
-    sides-none c d e l r same q = rw (q, sides) (sides-same language ls L′ deeper′ l r c q ∙ ap (done tt) e)
-    sides-none c d e l r byParts q = rw (q, sides-parts language ls L′ deeper′ l r c q, sides) ((grows-parts language deeper deeper′ h l r) .kept 0 c d e)
-    sides-none c d e l r (stepLeft l′) q = rw (q, sides) (λ v. absurd (spent-undecided v))
-    sides-none c d e l r (stepRight r′) q = rw (q, sides) (λ v. absurd (spent-undecided v))
-
-    sides-some : (b c d : ℕ) → suc c ≡ suc b + d → (l r : Expr) (n : Next) → next ls l r ≡ n
-        → ((l r : Expr) → Kept d (sides language ls L deeper l r b) (sides language ls L′ deeper′ l r c))
-        → Kept d (sides language ls L deeper l r (suc b)) (sides language ls L′ deeper′ l r (suc c))
-    unfolding sides
-    sides-some b c d e l r same q k = rw (q, sides) (ap (done tt) e)
-    sides-some b c d e l r byParts q k = rw (q, sides) ((grows-parts language deeper deeper′ h l r) .kept (suc b) (suc c) d e)
-    sides-some b c d e l r (stepLeft l′) q k = at (leb (size l′) L) refl
-      where
-        at : (t : Bool) → leb (size l′) L ≡ t → Kept d (sides language ls L deeper l r (suc b)) (sides language ls L′ deeper′ l r (suc c))
-        at true t = rw (sides-left language ls L deeper l r b q t, sides-left language ls L′ deeper′ l r c q (larger (size l′) hL t)) (k l′ r)
-        at false t = rw (q, t, sides) (λ v. absurd (large-undecided v))
-    sides-some b c d e l r (stepRight r′) q k = at (leb (size r′) L) refl
-      where
-        at : (t : Bool) → leb (size r′) L ≡ t → Kept d (sides language ls L deeper l r (suc b)) (sides language ls L′ deeper′ l r (suc c))
-        at true t = rw (sides-right language ls L deeper l r b q t, sides-right language ls L′ deeper′ l r c q (larger (size r′) hL t)) (k l r′)
-        at false t = rw (q, t, sides) (λ v. absurd (large-undecided v))
-
-    sides-kept : (b c d : ℕ) → c ≡ b + d → (l r : Expr) → Kept d (sides language ls L deeper l r b) (sides language ls L′ deeper′ l r c)
-    sides-kept zero c d e l r = sides-none c d e l r (next ls l r) refl
-    sides-kept (suc b) zero d e l r = absurd (omega arith)
-    sides-kept (suc b) (suc c) d e l r = sides-some b c d e l r (next ls l r) refl (sides-kept b c d (omega arith))
-
-  grows-compareAt : (d : ℕ) (l r : Expr) → Grows (compareAt language ls L d l r) (compareAt language ls L′ d l r)
-  unfolding compareAt
-  grows-compareAt zero l r = grows-refuse
-  grows-compareAt (suc d) l r = record { kept = λ b c x e. sides-kept (compareAt language ls L d) (compareAt language ls L′ d) (grows-compareAt d) b c x e l r }
-
-  grows-compare : (l r : Expr) → Grows (compare language ls L l r) (compare language ls L′ l r)
-  unfolding compare
-  grows-compare l r = grows-compareAt nesting l r
-
-  -- ---- categories
-
   grows-nth : {A : Type 0} (xs : List A) (n : ℕ) → Grows (nth xs n) (nth xs n)
   unfolding nth
   grows-nth [] n = grows-refuse
@@ -192,13 +110,13 @@ module _ (language : Language) (ls : Lines) {L L′ : ℕ} (hL : L ≤ L′) whe
         ])
     grows-application d sc a f cat cat′ h (abstraction p q) =
         grows-then h λ k.
-        grows-then (grows-compare k p) λ _.
+        grows-then (grows-compare language ls hL k p) λ _.
         grows-made (substitute a 0 q)
     grows-application d sc a f cat cat′ h other =
         grows-then (grows-second d sc f) λ g.
         grows-then (grows-toFunction g) λ x.
         grows-then h λ k.
-        grows-then (grows-compare k (x .domain)) λ _.
+        grows-then (grows-compare language ls hL k (x .domain)) λ _.
         grows-made (app a f)
 
     mutual
@@ -235,7 +153,7 @@ module _ (language : Language) (ls : Lines) {L L′ : ℕ} (hL : L ≤ L′) whe
           grows-then (grows-at a d sc) λ k.
           grows-then (grows-theLine v) λ l.
           grows-then (grows-made (instantiate context earlier 0 (l .category))) λ w.
-          grows-then (grows-compare k w) λ _.
+          grows-then (grows-compare language ls hL k w) λ _.
           grows-arguments xs d sc vs context (snoc earlier a)
 
   grows-searches : (n : ℕ) → GrowsSearch (searches language ls L n) (searches language ls L′ n)
@@ -275,7 +193,7 @@ module _ (language : Language) (ls : Lines) {L L′ : ℕ} (hL : L ≤ L′) whe
   unfolding checkMiddle
   grows-middle variable c = grows-give
   grows-middle primitive c = grows-give
-  grows-middle (abbreviation m) c = grows-then (grows-category 1 [] m) (λ k. grows-compare k c)
+  grows-middle (abbreviation m) c = grows-then (grows-category 1 [] m) (λ k. grows-compare language ls hL k c)
 
   pub grows-categories : (l : Line) → Grows (checkCategories language ls L l) (checkCategories language ls L′ l)
   unfolding checkCategories

@@ -4,4 +4,6 @@ pub mod Turns
 pub mod Heads
 pub mod Same
 pub mod Steps
+pub mod Opening
+pub mod Progress
 pub mod Settling

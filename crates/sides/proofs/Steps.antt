@@ -23,22 +23,24 @@ use Rattle.heads.specs.Posts.{HeadPost}
 use Rattle.heads.specs.declared.heads.Head.{Head}
 use Rattle.reduction.specs.Frames.{Framed, at-framed, framed-frame}
 use Rattle.reduction.specs.Posts.{StepPost}
-use Rattle.sides.specs.Posts.{Side, Pair, Placed, SaysIdentical, Chooses, Goes, identically, toParts, onward, tooFar, spent, Proceeds}
-use Rattle.sides.proofs.Turns.{Which, theLeft, theRight, number, pick, stepIn}
-use Rattle.sides.proofs.Turns.{sides-same, sides-parts, sides-spent, sides-step, sides-large, next-same, next-choice, Choice, neither, chosen, choice}
+use Rattle.sides.specs.Which.{Which, theLeft, theRight, number, pick, stepIn}
+use Rattle.sides.specs.Posts.{Side, Pair, Placed, SaysIdentical, Chooses, Turned, identically, toParts, onward, tooFar, spent, Turns}
+use Rattle.sides.proofs.Turns.{next-same, next-choice, Choice, neither, chosen, choice}
 use Rattle.sides.proofs.Heads.{head-numbered, head-some, StepIs, made, large, step-is}
 
-answered : {tb ts w : List ℕ} {limit l n r m : ℕ} {answer : Bool} → SaysIdentical w l n r m answer → (ls : Lines) (k : ℕ) (e f : Expr)
+pub answered : {tb ts w : List ℕ} {limit l n r m : ℕ} {answer : Bool} → SaysIdentical w l n r m answer → (ls : Lines) (k : ℕ) (e f : Expr)
     → Book ls limit tb ts → Pair ls limit k w l r e f → n ≡ size e → m ≡ size f → answer ≡ identical e f
 answered {tb} same ls k e f B P x y =
     same .means tb e f _ _ (category-wf (B .rows) k e (P .left .known)) (category-wf (B .rows) k f (P .right .known)) x y (P .left .at) (P .right .at)
 
 -- identical sides
 pub turn-same : {tb ts w : List ℕ} {limit budget l n r m : ℕ} {answer : Bool} → SaysIdentical w l n r m answer → answer ≡ true
-    → Proceeds tb ts w limit budget l n r m w 0 n m budget
-turn-same {limit = limit} {budget} same q = record {
+    → Turns tb ts w limit budget l n r m w 0 n m budget
+turn-same {limit = limit} same q = record {
+  spends = omega arith;
+  counts = λ z. absurd (omega arith);
   frame = λ _ _. outside-same;
-  means = λ ls k e f B h p P x y. identically refl λ d. sides-same ls limit e f budget d (next-same ls limit e f (sym (answered same ls k e f B P x y) ∙ q));
+  means = λ ls k e f B h p P x y. identically refl refl (next-same ls limit e f (sym (answered same ls k e f B P x y) ∙ q));
 }
 
 -- the sides differ, and the side of the next step is chosen
@@ -108,30 +110,40 @@ module _ (ts : List ℕ) (limit budget : ℕ) {tb w : List ℕ} {l n r m : ℕ} 
       }
 
   -- no side has a head step
-  pub turn-parts : side ≡ 0 → Proceeds tb ts w limit budget l n r m w 1 n m budget
-  turn-parts z = record { frame = λ _ _. outside-same; means = λ ls k e f B h p P x y. go ls k e f P (choices ls k e f B P x y) }
+  pub turn-parts : side ≡ 0 → Turns tb ts w limit budget l n r m w 1 n m budget
+  turn-parts z = record {
+    spends = omega arith;
+    counts = λ x. absurd (omega arith);
+    frame = λ _ _. outside-same;
+    means = λ ls k e f B h p P x y. go ls k e f P (choices ls k e f B P x y);
+  }
     where
       zero-none : (s : Which) → side ≡ number s → ⊥
       zero-none theLeft q = omega arith
       zero-none theRight q = omega arith
 
-      go : (ls : Lines) (k : ℕ) (e f : Expr) → Pair ls limit k w l r e f → Chosen ls l r hl hr side e f → Goes ls limit k w l r e f budget 1 n m budget
+      go : (ls : Lines) (k : ℕ) (e f : Expr) → Pair ls limit k w l r e f → Chosen ls l r hl hr side e f → Turned ls limit k w l r e f budget 1 n m budget
       go ls k e f P c = by (c .choiceIs)
         where
-          by : Choice (headStep ls e) (headStep ls f) side → Goes ls limit k w l r e f budget 1 n m budget
-          by (neither s q) = toParts e f refl P λ d. sides-parts ls limit e f budget d (c .nextIs ∙ q)
+          by : Choice (headStep ls e) (headStep ls f) side → Turned ls limit k w l r e f budget 1 n m budget
+          by (neither s q) = toParts refl refl (c .nextIs ∙ q) P
           by (chosen s g x h q) = absurd (zero-none s x)
 
   -- a step is past the budget
-  pub turn-spent : (side ≡ 0 → ⊥) → budget ≡ 0 → Proceeds tb ts w limit budget l n r m w 11 n m budget
-  turn-spent z o = record { frame = λ _ _. outside-same; means = λ ls k e f B h p P x y. go ls k e f (choices ls k e f B P x y) }
+  pub turn-spent : (side ≡ 0 → ⊥) → budget ≡ 0 → Turns tb ts w limit budget l n r m w 11 n m budget
+  turn-spent z o = record {
+    spends = omega arith;
+    counts = λ x. absurd (omega arith);
+    frame = λ _ _. outside-same;
+    means = λ ls k e f B h p P x y. go ls k e f (choices ls k e f B P x y);
+  }
     where
-      go : (ls : Lines) (k : ℕ) (e f : Expr) → Chosen ls l r hl hr side e f → Goes ls limit k w l r e f budget 11 n m budget
+      go : (ls : Lines) (k : ℕ) (e f : Expr) → Chosen ls l r hl hr side e f → Turned ls limit k w l r e f budget 11 n m budget
       go ls k e f c = by (c .choiceIs)
         where
-          by : Choice (headStep ls e) (headStep ls f) side → Goes ls limit k w l r e f budget 11 n m budget
+          by : Choice (headStep ls e) (headStep ls f) side → Turned ls limit k w l r e f budget 11 n m budget
           by (neither s q) = absurd (z s)
-          by (chosen s g x h q) = spent refl λ d. sides-spent ls limit e f budget s d g o (c .nextIs ∙ q)
+          by (chosen s g x h q) = spent s g refl refl o (c .nextIs ∙ q)
 
   -- ---- a step in a side
 
@@ -200,13 +212,13 @@ module _ (ts : List ℕ) (limit budget : ℕ) {tb w : List ℕ} {l n r m : ℕ} 
               (subst (λ (v : Which). choose (headStep ls e) (headStep ls f) ≡ stepIn v g) i y)
 
       goes-on : {budget′ : ℕ} → n ≡ size e → m ≡ size f → n′ ≤ limit → budget′ + 1 ≡ budget
-          → Goes ls limit k w′ l r e f budget 2 (pick s n′ n) (pick s m n′) budget′
+          → Turned ls limit k w′ l r e f budget 2 (pick s n′ n) (pick s m n′) budget′
       goes-on {budget′} x y t u = by taken
         where
-          by : Taken → Goes ls limit k w′ l r e f budget 2 (pick s n′ n) (pick s m n′) budget′
+          by : Taken → Turned ls limit k w′ l r e f budget 2 (pick s n′ n) (pick s m n′) budget′
           by T = of (T .stepIs)
             where
-              of : StepIs limit (pick s l r) (T .g) n′ w′ → Goes ls limit k w′ l r e f budget 2 (pick s n′ n) (pick s m n′) budget′
+              of : StepIs limit (pick s l r) (T .g) n′ w′ → Turned ls limit k w′ l r e f budget 2 (pick s n′ n) (pick s m n′) budget′
               of (made a v at′) =
                   let new : Side ls limit k w′ (pick s l r) (T .g) = record {
                     known = known-category-head ls (B .resolved) k (pick s e f) (T .g) (T .leaves) (side-of s P .known);
@@ -216,25 +228,31 @@ module _ (ts : List ℕ) (limit budget : ℕ) {tb w : List ℕ} {l n r m : ℕ} 
                   }
                   in
                   let q = sizes-of s e f (T .g) v x y in
-                  onward (pick s (T .g) e) (pick s f (T .g)) refl (pair-of s e f (T .g) new (stays s e f (S .framed) p P)) (q .0) (q .1) λ d.
-                  sides-step ls limit e f budget budget′ s d (T .g) u (T .nextIs) a
+                  onward s (T .g) refl u (T .nextIs) a (pair-of s e f (T .g) new (stays s e f (S .framed) p P)) (q .0) (q .1)
               of (large a v) = absurd (omega arith)
 
-      goes-large : limit < n′ → Goes ls limit k w′ l r e f budget 10 n m budget
+      goes-large : limit < n′ → Turned ls limit k w′ l r e f budget 10 n m budget
       goes-large t = by taken
         where
-          by : Taken → Goes ls limit k w′ l r e f budget 10 n m budget
+          by : Taken → Turned ls limit k w′ l r e f budget 10 n m budget
           by T = of (T .stepIs)
             where
-              of : StepIs limit (pick s l r) (T .g) n′ w′ → Goes ls limit k w′ l r e f budget 10 n m budget
+              of : StepIs limit (pick s l r) (T .g) n′ w′ → Turned ls limit k w′ l r e f budget 10 n m budget
               of (made a v at′) = absurd (omega arith)
-              of (large a v) = tooFar refl λ d. sides-large ls limit e f budget s d (T .g) o (T .nextIs) a
+              of (large a v) = tooFar s (T .g) refl refl o (T .nextIs) a
 
-    pub turn-step : {budget′ : ℕ} → n′ ≤ limit → budget′ + 1 ≡ budget → Proceeds tb ts w limit budget l n r m w′ 2 (pick s n′ n) (pick s m n′) budget′
+    pub turn-step : {budget′ : ℕ} → n′ ≤ limit → budget′ + 1 ≡ budget → Turns tb ts w limit budget l n r m w′ 2 (pick s n′ n) (pick s m n′) budget′
     turn-step t u = record {
+      spends = omega arith;
+      counts = λ _. u;
       frame = frame-step;
       means = λ ls k e f B h p P x y. goes-on ls k e f B h p P (choices ls k e f B P x y) x y t u;
     }
 
-    pub turn-large : limit < n′ → Proceeds tb ts w limit budget l n r m w′ 10 n m budget
-    turn-large t = record { frame = frame-step; means = λ ls k e f B h p P x y. goes-large ls k e f B h p P (choices ls k e f B P x y) t }
+    pub turn-large : limit < n′ → Turns tb ts w limit budget l n r m w′ 10 n m budget
+    turn-large t = record {
+      spends = omega arith;
+      counts = λ x. absurd (omega arith);
+      frame = frame-step;
+      means = λ ls k e f B h p P x y. goes-large ls k e f B h p P (choices ls k e f B P x y) t;
+    }

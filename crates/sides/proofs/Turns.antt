@@ -11,26 +11,9 @@ use Rattle.aut68.specs.Expr.{Expr, size, identical}
 use Rattle.aut68.specs.Lines.{Lines}
 use Rattle.aut68.specs.Procedure.Answer.{done, stop, tooLarge, outOfBudget}
 use Rattle.aut68.specs.Procedure.HeadStep.{Head, noStep, beta, delta, headStep, left}
-use Rattle.aut68.specs.Procedure.Compare.{Next, same, byParts, stepLeft, stepRight, choose, next, Comparison, compareParts, sides}
+use Rattle.aut68.specs.Procedure.Compare.{same, byParts, stepLeft, stepRight, choose, next, Comparison, compareParts, sides}
+use Rattle.sides.specs.Which.{Which, theLeft, theRight, number, pick, stepIn}
 use Rattle.sides.specs.Posts.{Chooses}
-
--- ---- one of the two sides
-
-pub data Which : Type 0 where
-  theLeft theRight : Which
-
--- its number in the code
-abbrev pub number : Which → ℕ
-number theLeft = 1
-number theRight = 2
-
-abbrev pub pick : {A : Type 0} → Which → A → A → A
-pick theLeft x y = x
-pick theRight x y = y
-
-abbrev pub stepIn : Which → Expr → Next
-stepIn theLeft = stepLeft
-stepIn theRight = stepRight
 
 -- ---- by what comes next
 

@@ -1,3 +1,4 @@
 -- What is said of a pair of sides.
+pub mod Which
 pub mod Posts
 pub mod Sides

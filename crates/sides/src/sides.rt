@@ -1,7 +1,5 @@
 // Head steps in two sides until they are identical or neither has one.
-ghost use mathlib.Core.Path.{_≡_};
-ghost use Prim.Native.Nat.{ℕ, _+_};
-ghost use Rattle.sides.specs.Posts.{SaysIdentical, SaysSame, Chooses, Proceeds, Settles};
+ghost use Rattle.sides.specs.Posts.{SaysIdentical, SaysSame, SaysShape, Opens, Chooses, Turns, Settles};
 use cells::extent;
 use cells::kids;
 use constants::Cell;
@@ -19,6 +17,19 @@ pub struct Progress {
     pub left: usize,
     pub right: usize,
     pub budget: u32,
+}
+
+// Whether the expressions of a pair are identical; else the sizes of the sides.
+pub struct Opening {
+    pub same: bool,
+    pub left: usize,
+    pub right: usize,
+}
+
+// Whether two sides have one shape, and then how many parts each has.
+pub struct Shape {
+    pub same: bool,
+    pub parts: usize,
 }
 
 // Are the sides of n and m cells at l and r identical?
@@ -59,6 +70,57 @@ pub fn same_expression(table: &[u32], w: &[Cell], a: usize, b: usize) -> bool
     true
 }
 
+// Have the sides at l and r one shape?
+pub fn same_shape(table: &[u32], w: &[Cell], l: usize, r: usize) -> Shape
+    ensures { λ x. ⌜ SaysShape (now (table .entry)) (now (w .entry)) l r (x .same) (x .parts) ⌝ }
+{
+    if l >= w.len() {
+        return Shape {
+            same: false,
+            parts: 0,
+        };
+    }
+    if r >= w.len() {
+        return Shape {
+            same: false,
+            parts: 0,
+        };
+    }
+    let x = w[l];
+    if x != w[r] {
+        return Shape {
+            same: false,
+            parts: 0,
+        };
+    }
+    Shape {
+        same: true,
+        parts: kids(table, x),
+    }
+}
+
+// The expressions at a and b, put at l and r as the sides unless they are identical.
+pub fn open_pair(table: &[u32], w: &mut [Cell], a: usize, b: usize, l: usize, r: usize) -> Opening
+    ensures { λ x. ⌜ Opens (now (table .entry)) (now (w .entry)) a b l r (now (w .exit)) (x .same) (x .left) (x .right) ⌝ }
+{
+    if same_expression(table, w, a, b) {
+        return Opening {
+            same: true,
+            left: 0,
+            right: 0,
+        };
+    }
+    let left = extent(table, w, a);
+    let right = extent(table, w, b);
+    move_cells(w, a, l, left);
+    move_cells(w, b, r, right);
+    Opening {
+        same: false,
+        left: left,
+        right: right,
+    }
+}
+
 // The side of the next head step, by the kind and the line of each side's: 0 none, 1 left, 2 right (choose).
 pub fn choose(kind: u32, line: usize, other_kind: u32, other_line: usize) -> u32
     ensures { λ x. ⌜ Chooses kind line «other_kind» «other_line» x ⌝ }
@@ -96,8 +158,7 @@ pub fn turn(
     r: usize,
     m: usize,
 ) -> Progress
-    ensures { λ x. ⌜ (x .state ≡ 2 → x .budget + 1 ≡ budget)
-        × Proceeds (now (table .entry)) (now (terms .entry)) (now (w .entry)) limit budget l n r m (now (w .exit)) (x .state) (x .left) (x .right) (x .budget) ⌝ }
+    ensures { λ x. ⌜ Turns (now (table .entry)) (now (terms .entry)) (now (w .entry)) limit budget l n r m (now (w .exit)) (x .state) (x .left) (x .right) (x .budget) ⌝ }
 {
     if identical(w, l, n, r, m) {
         return Progress {
@@ -175,7 +236,8 @@ pub fn settle(
 ) -> Progress
     ensures { λ x. ⌜ Settles (now (table .entry)) (now (terms .entry)) (now (w .entry)) limit budget a b l r (now (w .exit)) (x .state) (x .budget) ⌝ }
 {
-    if same_expression(table, w, a, b) {
+    let o = open_pair(table, w, a, b, l, r);
+    if o.same {
         return Progress {
             state: 0,
             left: 0,
@@ -183,12 +245,8 @@ pub fn settle(
             budget: budget,
         };
     }
-    let n = extent(table, w, a);
-    let m = extent(table, w, b);
-    move_cells(w, a, l, n);
-    move_cells(w, b, r, m);
-    let mut left = n;
-    let mut right = m;
+    let mut left = o.left;
+    let mut right = o.right;
     let mut rest = budget;
     loop {
         let t = turn(table, terms, w, limit, rest, l, left, r, right);

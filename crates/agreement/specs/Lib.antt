@@ -1,0 +1,9 @@
+-- The two comparisons: they find equality, so they agree where both end; larger limits; the loop of the second.
+pub mod First
+pub mod GrowingFirst
+pub mod Attempts
+pub mod Passes
+pub mod Turns
+pub mod Settled
+pub mod Growing
+pub mod Claims

@@ -1,0 +1,2 @@
+// Theorems about the two comparisons; nothing runs here.
+pub fn nothing() {}
