@@ -1,4 +1,5 @@
 -- The two comparisons: they find equality, so they agree where both end; larger limits; the loop of the second.
+pub mod Which
 pub mod First
 pub mod GrowingFirst
 pub mod Attempts

@@ -103,8 +103,10 @@ pair l r b code steps code′ steps′ = record {
 
 unfoldable pub comparedPairs : List Compared
 comparedPairs =
+    -- depth 33: the second opens the parts of applications, the first contracts them
+    pair (around 31 (app one constantly)) (around 31 (app (next one) constantly)) 1000 0 2 10 0
     -- the arguments agree after one step; with a budget of 1 only the second ends
-    pair (big two) (big (next one)) 1000 0 11 0 1
+    ∷ pair (big two) (big (next one)) 1000 0 11 0 1
     ∷ pair (big two) (big (next one)) 1 11 1 0 1
     -- identical sides
     ∷ pair (big two) (big two) 1000 0 0 0 0
@@ -132,6 +134,4 @@ comparedPairs =
     -- `type` alone
     ∷ pair type type 1000 0 0 0 0
     ∷ pair type nat 1000 9 0 9 0
-    -- depth 33: the second opens the parts of applications, the first contracts them
-    ∷ pair (around 31 (app one constantly)) (around 31 (app (next one) constantly)) 1000 0 2 10 0
     ∷ []

@@ -1,3 +1,5 @@
--- Laws of the comparison.
+-- Laws of the two comparisons.
 pub mod Depths
 pub mod Parts
+pub mod Pairs
+pub mod Attempts

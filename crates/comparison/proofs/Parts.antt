@@ -1,4 +1,4 @@
--- Laws: the parts of two sides, from left to right.
+-- Laws: the parts of two sides, from left to right, by any procedure.
 use mathlib.Core.Path.{_≡_, refl, sym, ap, subst, _∙_}
 use mathlib.Core.Bool.{Bool, true, false}
 use mathlib.Core.List.{List, _++_}
@@ -11,7 +11,7 @@ use Rattle.aut68.specs.Language.{aut68}
 use Rattle.aut68.specs.Expr.{Expr, Exprs, nil, cons, size, sizes, cells, cellss, countExprs, firstCell, parts}
 use Rattle.aut68.specs.Lines.{Lines}
 use Rattle.aut68.specs.Procedure.Answer.{Act, Answer, done, stop, andThen, refuse, codeOf, mismatch}
-use Rattle.aut68.specs.Procedure.Compare.{Comparison, each, hasSurplus, compareParts, compareAt}
+use Rattle.aut68.specs.Procedure.Compare.{Comparison, each, hasSurplus, compareParts}
 use Rattle.calculus.specs.Resolved.{KnownCategory}
 use Rattle.cells.specs.Cells.{At, Outside, AnyVariable, partsAfter, AllFormed}
 use Rattle.cells.specs.Forests.{size-is-length, sizes-is-length, cells-split, parts-count, at-inside, at-first, at-parts, at-front, at-second, at-one, cells-one, cells-long}
@@ -21,10 +21,10 @@ use Rattle.lookup.specs.Answers.{code-nonzero}
 use Rattle.cells.specs.Results.{Result, passed, refused, then-refused}
 use Rattle.cells.specs.Stores.{outside-same, outside-then, outside-more, outside-below}
 use Rattle.heads.specs.Book.{Book, category-wf}
-use Rattle.sides.specs.Posts.{Side, Pair}
+use Rattle.sides.specs.Posts.{Side, Pair, SaysShape}
 use Rattle.sides.proofs.Heads.{EachKnown, known-parts}
 use Rattle.sides.proofs.Places.{at-whole}
-use Rattle.comparison.specs.Posts.{Compares, ComparesParts}
+use Rattle.comparison.specs.Posts.{Levels, ComparesBy, ComparesPartsBy}
 use Rattle.comparison.proofs.Depths.{result-is}
 
 -- where the sides of the parts begin: the sides themselves lie below
@@ -61,20 +61,20 @@ pub record PartString (ls : Lines) (limit k : ℕ) (s : List ℕ) (count i : ℕ
   pub at : At s i (cellss es) rest
 
 -- the strings of e's and f's parts from i and j on are left, with the budget `rest`
-pub record PartsLeft (ls : Lines) (limit k deeper : ℕ) (s : List ℕ) (e f : Expr) (budget count i j rest : ℕ) : Type 0 where
+pub record PartsLeft (procedure : Levels) (ls : Lines) (limit k deeper : ℕ) (s : List ℕ) (e f : Expr) (budget count i j rest : ℕ) : Type 0 where
   pub es : Exprs
   pub fs : Exprs
   pub left : PartString ls limit (suc k) s count i es
   pub right : PartString ls limit (suc k) s count j fs
-  pub goes : compareParts aut68 (compareAt aut68 ls limit deeper) e f budget ≡ each (compareAt aut68 ls limit deeper) es fs rest
+  pub goes : compareParts aut68 (procedure ls limit deeper) e f budget ≡ each (procedure ls limit deeper) es fs rest
 
 -- the same for every two sides that lie at l and r below the deeper frame
-pub record PartsInvariant (tb ts w₀ : List ℕ) (limit budget l r deeper : ℕ) (w : List ℕ) (count i j rest : ℕ) : Type 0 where
+pub record PartsInvariant (procedure : Levels) (tb ts w₀ : List ℕ) (limit budget l r deeper : ℕ) (w : List ℕ) (count i j rest : ℕ) : Type 0 where
   pub long : length w ≡ length w₀
   pub frame : limit ≤ largestLimit → deeper ≤ nesting → Outside (below limit deeper) (length w₀) w₀ w
   pub means : (ls : Lines) (k : ℕ) (e f : Expr) → Book ls limit tb ts → k + deeper < 2 * nesting → deeper ≤ nesting → workUnits * limit ≤ length w₀
       → Pair ls limit k (take (below limit deeper) w₀) l r e f
-      → PartsLeft ls limit k deeper (take (below limit deeper) w₀) e f budget count i j rest
+      → PartsLeft procedure ls limit k deeper (take (below limit deeper) w₀) e f budget count i j rest
 
 -- ---- before the first part
 
@@ -98,38 +98,31 @@ module _ (w : List ℕ) (n : ℕ) {ls : Lines} {limit k i : ℕ} {e : Expr} (X :
     at = at-parts e (X .at);
   }
 
-module _ {tb ts w : List ℕ} {limit budget l r deeper : ℕ} where
-  -- no side lies there
-  pub outside-left : length w ≤ l → ComparesParts tb ts w limit budget l r deeper w 9 budget
-  outside-left h = record { frame = λ _ _. outside-same; means = λ ls k e f B d d′ n P. absurd (omega (arith, inside w (below limit deeper) (P .left))) }
-
-  pub outside-right : length w ≤ r → ComparesParts tb ts w limit budget l r deeper w 9 budget
-  outside-right h = record { frame = λ _ _. outside-same; means = λ ls k e f B d d′ n P. absurd (omega (arith, inside w (below limit deeper) (P .right))) }
-
+module _ {procedure : Levels} {tb ts w : List ℕ} {limit budget l r deeper count : ℕ} {answer : Bool} (shape : SaysShape tb w l r answer count) where
   -- the shapes differ
-  pub shapes-differ : (getD w l 0 ≡ getD w r 0 → ⊥) → ComparesParts tb ts w limit budget l r deeper w 9 budget
+  pub shapes-differ : answer ≡ false → ComparesPartsBy procedure tb ts w limit budget l r deeper w 9 budget
   unfolding codeOf
-  shapes-differ n = record {
+  shapes-differ z = record {
     frame = λ _ _. outside-same;
     means = λ ls k e f B d d′ h P.
         result-is
-        (parts-differ (compareAt aut68 ls limit deeper) e f budget λ q.
-        n (first-cell w (below limit deeper) (P .left) ∙ q ∙ sym (first-cell w (below limit deeper) (P .right)))) (refused {r = mismatch} refl);
+        (parts-differ (procedure ls limit deeper) e f budget λ q.
+        shape .differs z (inside w (below limit deeper) (P .left)) (inside w (below limit deeper) (P .right))
+        (first-cell w (below limit deeper) (P .left) ∙ q ∙ sym (first-cell w (below limit deeper) (P .right)))) (refused {r = mismatch} refl);
   }
 
   -- they match
-  pub parts-start : {count : ℕ} → getD w l 0 ≡ getD w r 0 → count ≡ partsAfter tb (getD w l 0)
-      → PartsInvariant tb ts w limit budget l r deeper w count (l + 1) (r + 1) budget
-  parts-start {count} q c = record {
+  pub parts-start : answer ≡ true → PartsInvariant procedure tb ts w limit budget l r deeper w count (l + 1) (r + 1) budget
+  parts-start z = let q = shape .matches z .2 in record {
     long = refl;
     frame = λ _ _. outside-same;
     means = λ ls k e f B d d′ h P. record {
       es = parts e;
       fs = parts f;
-      left = parts-of w (below limit deeper) (P .left) B c;
-      right = parts-of w (below limit deeper) (P .right) B (c ∙ ap (partsAfter tb) q);
+      left = parts-of w (below limit deeper) (P .left) B (shape .matches z .3);
+      right = parts-of w (below limit deeper) (P .right) B (shape .matches z .3 ∙ ap (partsAfter tb) q);
       goes =
-          parts-matched (compareAt aut68 ls limit deeper) e f budget
+          parts-matched (procedure ls limit deeper) e f budget
           (sym (first-cell w (below limit deeper) (P .left)) ∙ q ∙ first-cell w (below limit deeper) (P .right));
     };
   }
@@ -141,9 +134,9 @@ passed-is : {code rest : ℕ} {m : Answer ℕ (Unit {0})} → code ≡ 0 → Res
 passed-is z (passed e h) = refl
 passed-is z (refused {r} e) = absurd (code-nonzero r (sym e ∙ z))
 
-module _ {tb ts w₀ w : List ℕ} {limit budget l r deeper count i j rest : ℕ} (I : PartsInvariant tb ts w₀ limit budget l r deeper w count i j rest) where
+module _ {procedure : Levels} {tb ts w₀ w : List ℕ} {limit budget l r deeper count i j rest : ℕ} (I : PartsInvariant procedure tb ts w₀ limit budget l r deeper w count i j rest) where
   -- none is left
-  pub parts-done : count ≡ 0 → ComparesParts tb ts w₀ limit budget l r deeper w 0 rest
+  pub parts-done : count ≡ 0 → ComparesPartsBy procedure tb ts w₀ limit budget l r deeper w 0 rest
   unfolding each
   parts-done z = record { frame = I .frame; means = λ ls k e f B d d′ h P. go (I .means ls k e f B d d′ h P) }
     where
@@ -152,12 +145,12 @@ module _ {tb ts w₀ w : List ℕ} {limit budget l r deeper count i j rest : ℕ
       none-left inner nil (cons y ys) p q = absurd (omega (arith, count-cons y ys))
       none-left inner (cons x xs) fs p q = absurd (omega (arith, count-cons x xs))
 
-      go : {ls : Lines} {k : ℕ} {e f : Expr} {s : List ℕ} → PartsLeft ls limit k deeper s e f budget count i j rest
-          → Result (λ _. Unit {0}) 0 rest (compareParts aut68 (compareAt aut68 ls limit deeper) e f budget)
-      go {ls} L = result-is (L .goes) (none-left (compareAt aut68 ls limit deeper) (L .es) (L .fs) (L .left .counted ∙ z) (L .right .counted ∙ z))
+      go : {ls : Lines} {k : ℕ} {e f : Expr} {s : List ℕ} → PartsLeft procedure ls limit k deeper s e f budget count i j rest
+          → Result (λ _. Unit {0}) 0 rest (compareParts aut68 (procedure ls limit deeper) e f budget)
+      go {ls} L = result-is (L .goes) (none-left (procedure ls limit deeper) (L .es) (L .fs) (L .left .counted ∙ z) (L .right .counted ∙ z))
 
   -- the next one is compared
-  module _ {w₁ : List ℕ} {code rest₁ : ℕ} (more : 0 < count) (C : Compares tb ts w limit rest i j deeper w₁ code rest₁)
+  module _ {w₁ : List ℕ} {code rest₁ : ℕ} (more : 0 < count) (C : ComparesBy procedure tb ts w limit rest i j deeper w₁ code rest₁)
       (same-length : length w₁ ≡ length w) where
     frame₁ : limit ≤ largestLimit → deeper ≤ nesting → Outside (below limit deeper) (length w₀) w₀ w₁
     frame₁ h d = outside-then (I .frame h d) (outside-more (omega arith) (omega (arith, I .long)) (C .frame h d))
@@ -179,25 +172,25 @@ module _ {tb ts w₀ w : List ℕ} {limit budget l r deeper count i j rest : ℕ
 
       compared : (x y : Expr) (es fs : Exprs) → PartString ls limit (suc k) (take (below limit deeper) w₀) count i (cons x es)
           → PartString ls limit (suc k) (take (below limit deeper) w₀) count j (cons y fs)
-          → Result (λ _. Unit {0}) code rest₁ (compareAt aut68 ls limit deeper x y rest)
+          → Result (λ _. Unit {0}) code rest₁ (procedure ls limit deeper x y rest)
       compared x y es fs S T =
           C .means ls (suc k) x y B (omega arith) d′ (omega (arith, I .long)) (record { left = first-of x es S; right = first-of y fs T })
 
       stopped : (es fs : Exprs) → (code ≡ 0 → ⊥) → PartString ls limit (suc k) (take (below limit deeper) w₀) count i es
           → PartString ls limit (suc k) (take (below limit deeper) w₀) count j fs
-          → Result (λ _. Unit {0}) code rest₁ (each (compareAt aut68 ls limit deeper) es fs rest)
+          → Result (λ _. Unit {0}) code rest₁ (each (procedure ls limit deeper) es fs rest)
       unfolding each countExprs
       stopped nil fs n S T = absurd (omega (arith, S .counted))
       stopped (cons x es) nil n S T = absurd (omega (arith, T .counted))
-      stopped (cons x es) (cons y fs) n S T = then-refused (λ _. each (compareAt aut68 ls limit deeper) es fs) n (compared x y es fs S T)
+      stopped (cons x es) (cons y fs) n S T = then-refused (λ _. each (procedure ls limit deeper) es fs) n (compared x y es fs S T)
 
     -- it is refused
-    pub parts-stopped : (code ≡ 0 → ⊥) → ComparesParts tb ts w₀ limit budget l r deeper w₁ code rest₁
+    pub parts-stopped : (code ≡ 0 → ⊥) → ComparesPartsBy procedure tb ts w₀ limit budget l r deeper w₁ code rest₁
     parts-stopped n = record { frame = frame₁; means = λ ls k e f B d d′ h P. go ls k B d d′ h (I .means ls k e f B d d′ h P) }
       where
         go : (ls : Lines) (k : ℕ) {e f : Expr} → Book ls limit tb ts → k + deeper < 2 * nesting → deeper ≤ nesting → workUnits * limit ≤ length w₀
-            → PartsLeft ls limit k deeper (take (below limit deeper) w₀) e f budget count i j rest
-            → Result (λ _. Unit {0}) code rest₁ (compareParts aut68 (compareAt aut68 ls limit deeper) e f budget)
+            → PartsLeft procedure ls limit k deeper (take (below limit deeper) w₀) e f budget count i j rest
+            → Result (λ _. Unit {0}) code rest₁ (compareParts aut68 (procedure ls limit deeper) e f budget)
         go ls k B d d′ h L = result-is (L .goes) (stopped ls k B d d′ h (L .es) (L .fs) n (L .left) (L .right))
 
     -- it is equal: the next ones lie behind it
@@ -230,8 +223,8 @@ module _ {tb ts w₀ w : List ℕ} {limit budget l r deeper count i j rest : ℕ
 
         goes-on : {e f : Expr} (es fs : Exprs) → PartString ls limit (suc k) (take (below limit deeper) w₀) count i es
             → PartString ls limit (suc k) (take (below limit deeper) w₀) count j fs
-            → compareParts aut68 (compareAt aut68 ls limit deeper) e f budget ≡ each (compareAt aut68 ls limit deeper) es fs rest
-            → PartsLeft ls limit k deeper (take (below limit deeper) w₀) e f budget (count - 1) i₁ j₁ rest₁
+            → compareParts aut68 (procedure ls limit deeper) e f budget ≡ each (procedure ls limit deeper) es fs rest
+            → PartsLeft procedure ls limit k deeper (take (below limit deeper) w₀) e f budget (count - 1) i₁ j₁ rest₁
         unfolding each countExprs andThen
         goes-on nil fs S T g = absurd (omega (arith, S .counted))
         goes-on (cons x es) nil S T g = absurd (omega (arith, T .counted))
@@ -240,10 +233,10 @@ module _ {tb ts w₀ w : List ℕ} {limit budget l r deeper count i j rest : ℕ
           fs = fs;
           left = others-lie first x es S;
           right = others-lie second y fs T;
-          goes = g ∙ ap (andThen (λ _. each (compareAt aut68 ls limit deeper) es fs)) (passed-is z (compared ls k B d d′ h x y es fs S T));
+          goes = g ∙ ap (andThen (λ _. each (procedure ls limit deeper) es fs)) (passed-is z (compared ls k B d d′ h x y es fs S T));
         }
 
-      pub parts-next : PartsInvariant tb ts w₀ limit budget l r deeper w₁ (count - 1) i₁ j₁ rest₁
+      pub parts-next : PartsInvariant procedure tb ts w₀ limit budget l r deeper w₁ (count - 1) i₁ j₁ rest₁
       parts-next = record {
         long = same-length ∙ I .long;
         frame = frame₁;

@@ -3,6 +3,7 @@ pub mod Places
 pub mod Turns
 pub mod Heads
 pub mod Same
+pub mod Shapes
 pub mod Steps
 pub mod Opening
 pub mod Progress

@@ -15,7 +15,7 @@ use Rattle.sides.specs.Posts.{Opens, Turned, Turns, Goes, Settles}
 use Rattle.sides.specs.Posts
 use Rattle.sides.proofs.Places.{at-whole}
 use Rattle.sides.proofs.Turns.{sides-same, sides-parts, sides-spent, sides-step, sides-large, next-same}
-use Rattle.sides.proofs.Progress.{Went, Progressed, frame-again, placed-again, progress-then}
+use Rattle.sides.proofs.Progress.{Went, Progressed, progress-then, PutInPlace, placed-from, went-from, below-from}
 
 -- the first comparison of two sides under a limit, its parts compared by `inner`
 abbrev pub sidesUnder : ℕ → Lines → Comparison → Comparison
@@ -34,12 +34,11 @@ settled-same {w = w} {limit = limit} {budget} {l = l} O q = record {
       (at-whole w l e (P .left .at)) (at-whole w l f (P .right .at))));
 }
 
-module _ {tb ts w w₁ w₂ : List ℕ} {limit budget a b l r n m rest state n′ m′ rest′ : ℕ}
-    (p : Progressed (sidesUnder limit) (2 * nesting) tb ts w limit budget a b l r w₁ n m rest) (long : length w₂ ≡ length w₁)
-    (T : Turns tb ts w₁ limit rest l n r m w₂ state n′ m′ rest′) where
+module _ {tb ts w₀ w₁ w₂ : List ℕ} {limit budget l n₀ r m₀ n m rest state n′ m′ rest′ : ℕ}
+    (p : Progressed (sidesUnder limit) (2 * nesting) tb ts w₀ limit budget l n₀ r m₀ w₁ n m rest) (T : Turns tb ts w₁ limit rest l n r m w₂ state n′ m′ rest′) where
   -- a step was taken
-  pub settle-on : state ≡ 2 → Progressed (sidesUnder limit) (2 * nesting) tb ts w limit budget a b l r w₂ n′ m′ rest′
-  settle-on z = progress-then (sidesUnder limit) p long (T .frame) λ ls k e f B h q P x y. go ls k e f (T .means ls k e f B h q P x y)
+  pub settle-on : length w₂ ≡ length w₁ → state ≡ 2 → Progressed (sidesUnder limit) (2 * nesting) tb ts w₀ limit budget l n₀ r m₀ w₂ n′ m′ rest′
+  settle-on long z = progress-then (sidesUnder limit) p long (T .frame) λ ls k e f B h q P x y. go ls k e f (T .means ls k e f B h q P x y)
     where
       go : (ls : Lines) (k : ℕ) (e f : Expr) → Turned ls limit k w₂ l r e f rest state n′ m′ rest′ → Went (sidesUnder limit) ls limit k w₂ l r e f rest n′ m′ rest′
       go ls k e f (Posts.identically o u q) = absurd (omega arith)
@@ -50,25 +49,27 @@ module _ {tb ts w w₁ w₂ : List ℕ} {limit budget a b l r n m rest state n�
       go ls k e f (Posts.spent s g o u v q) = absurd (omega arith)
 
   -- no step follows
-  pub settle-ended : (state ≡ 2 → ⊥) → Settles tb ts w limit budget a b l r w₂ state rest′
-  settle-ended z = record {
-    frame = frame-again (sidesUnder limit) p long (T .frame);
-    means = λ ls k e f B h q P.
-        let x = p .means ls k e f B h q P in
-        goes-from (x .goes) (go ls k (x .e′) (x .f′) (T .means ls k (x .e′) (x .f′) B h (placed-again (sidesUnder limit) p long q) (x .pair) (x .sizeLeft) (x .sizeRight)));
-  }
-    where
-      -- the same procedure from an earlier pair of sides
-      goes-from : {ls : Lines} {k : ℕ} {e f g h : Expr} {c : ℕ} → ((inner : Comparison) → sides aut68 ls limit inner e f budget ≡ sides aut68 ls limit inner g h c)
-          → Goes ls limit k w₂ l r g h c state rest′ → Goes ls limit k w₂ l r e f budget state rest′
-      goes-from q (Posts.Goes.identically z p) = Posts.Goes.identically z λ d. q d ∙ p d
-      goes-from q (Posts.Goes.toParts e f z P p) = Posts.Goes.toParts e f z P λ d. q d ∙ p d
-      goes-from q (Posts.Goes.tooFar z p) = Posts.Goes.tooFar z λ d. q d ∙ p d
-      goes-from q (Posts.Goes.spent z p) = Posts.Goes.spent z λ d. q d ∙ p d
+  module _ {w : List ℕ} {a b : ℕ} (Z : PutInPlace tb w a b l r w₀ n₀ m₀) where
+    pub settle-ended : (state ≡ 2 → ⊥) → Settles tb ts w limit budget a b l r w₂ state rest′
+    settle-ended z = record {
+      frame = below-from (sidesUnder limit) p Z (T .frame);
+      means = λ ls k e f B h q P.
+          let x = went-from (sidesUnder limit) p Z ls k e f B h q P in
+          goes-from (x .goes)
+          (go ls k (x .e′) (x .f′) (T .means ls k (x .e′) (x .f′) B h (placed-from (sidesUnder limit) p Z q) (x .pair) (x .sizeLeft) (x .sizeRight)));
+    }
+      where
+        -- the same procedure from an earlier pair of sides
+        goes-from : {ls : Lines} {k : ℕ} {e f g h : Expr} {c : ℕ} → ((inner : Comparison) → sides aut68 ls limit inner e f budget ≡ sides aut68 ls limit inner g h c)
+            → Goes ls limit k w₂ l r g h c state rest′ → Goes ls limit k w₂ l r e f budget state rest′
+        goes-from q (Posts.Goes.identically z p) = Posts.Goes.identically z λ d. q d ∙ p d
+        goes-from q (Posts.Goes.toParts e f z P p) = Posts.Goes.toParts e f z P λ d. q d ∙ p d
+        goes-from q (Posts.Goes.tooFar z p) = Posts.Goes.tooFar z λ d. q d ∙ p d
+        goes-from q (Posts.Goes.spent z p) = Posts.Goes.spent z λ d. q d ∙ p d
 
-      go : (ls : Lines) (k : ℕ) (e f : Expr) → Turned ls limit k w₂ l r e f rest state n′ m′ rest′ → Goes ls limit k w₂ l r e f rest state rest′
-      go ls k e f (Posts.identically o u q) = Posts.Goes.identically o λ d. rw u (sides-same ls limit e f rest d q)
-      go ls k e f (Posts.toParts o u q P) = Posts.Goes.toParts e f o P λ d. rw u (sides-parts ls limit e f rest d q)
-      go ls k e f (Posts.onward s g o u q h P x y) = absurd (z o)
-      go ls k e f (Posts.tooFar s g o u v q h) = Posts.Goes.tooFar o λ d. rw u (sides-large ls limit e f rest s d g v q h)
-      go ls k e f (Posts.spent s g o u v q) = Posts.Goes.spent o λ d. rw u (sides-spent ls limit e f rest s d g v q)
+        go : (ls : Lines) (k : ℕ) (e f : Expr) → Turned ls limit k w₂ l r e f rest state n′ m′ rest′ → Goes ls limit k w₂ l r e f rest state rest′
+        go ls k e f (Posts.identically o u q) = Posts.Goes.identically o λ d. rw u (sides-same ls limit e f rest d q)
+        go ls k e f (Posts.toParts o u q P) = Posts.Goes.toParts e f o P λ d. rw u (sides-parts ls limit e f rest d q)
+        go ls k e f (Posts.onward s g o u q h P x y) = absurd (z o)
+        go ls k e f (Posts.tooFar s g o u v q h) = Posts.Goes.tooFar o λ d. rw u (sides-large ls limit e f rest s d g v q h)
+        go ls k e f (Posts.spent s g o u v q) = Posts.Goes.spent o λ d. rw u (sides-spent ls limit e f rest s d g v q)

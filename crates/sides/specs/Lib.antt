@@ -1,4 +1,3 @@
 -- What is said of a pair of sides.
-pub mod Which
 pub mod Posts
 pub mod Sides

@@ -14,7 +14,7 @@ use Rattle.calculus.specs.Resolved.{KnownCategory}
 use Rattle.cells.specs.Cells.{Wf, At, Outside, partsAfter}
 use Rattle.cells.specs.Layout.{unitAt, scratchUnit}
 use Rattle.heads.specs.Book.{Book}
-use Rattle.sides.specs.Which.{Which, pick, stepIn}
+use Rattle.agreement.specs.Which.{Which, pick, stepIn}
 
 -- ---- two expressions in one store
 

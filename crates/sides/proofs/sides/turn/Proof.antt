@@ -1,7 +1,7 @@
 -- `turn`: identical sides, no step, no budget, or a step in the chosen side. cN is c, N steps before.
 use native.Mathlib.Omega.{arith}
 use Rattle.sides.proofs.Steps.{Decided, turn-same, turn-parts, turn-spent, turn-step, turn-large}
-use Rattle.sides.specs.Which.{theLeft, theRight}
+use Rattle.agreement.specs.Which.{theLeft, theRight}
 use borrow.Author.Needs.{needs}
 use Rattle.sides.proofs.sides.turn.Statement.{statement}
 use Rattle.sides.proofs.sides.turn.Tie as tie
