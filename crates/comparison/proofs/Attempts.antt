@@ -7,9 +7,9 @@ use Prim.Native.Nat.{ℕ, suc, _+_, _*_, _-_, _≤_}
 use native.Mathlib.Omega.{arith}
 use lib.ListN.{length, take}
 use borrow.Author.Tests.{ne-eqb}
-use Rattle.aut68.specs.Sizes.{workUnits, nesting}
+use Rattle.aut68.specs.Sizes.{nesting}
 use Rattle.aut68.specs.Language.{aut68}
-use Rattle.aut68.specs.Expr.{Expr, size, identical}
+use Rattle.aut68.specs.Expr.{Expr, size}
 use Rattle.aut68.specs.Lines.{Lines}
 use Rattle.aut68.specs.Procedure.Answer.{Answer, done, stop, codeOf, mismatch, tooLarge}
 use Rattle.aut68.specs.Procedure.Compare.{Next, next, Comparison, compareParts}
@@ -17,17 +17,17 @@ use Rattle.aut68.specs.Procedure.PartsFirst.{differs, partsFirstAt}
 use Rattle.lookup.specs.Answers.{code-injective}
 use Rattle.agreement.specs.Turns.{Other, next-other, turn-same, turn-equal, turn-stands, turn-different, turn-spent, turn-large, turn-onward}
 use Rattle.cells.specs.Cells.{Outside}
-use Rattle.cells.specs.Layout.{unitAt, sideUnit, scratchUnit}
+use Rattle.cells.specs.Layout.{unitAt, sideUnit}
 use Rattle.cells.specs.Results.{Result, passed, refused}
-use Rattle.cells.specs.Stores.{outside-then, outside-more}
+use Rattle.cells.specs.Stores.{outside-same, outside-then, outside-more}
 use Rattle.heads.specs.Book.{Book, category-wf}
 use Rattle.sides.specs.Posts.{Pair, Placed, SaysIdentical, Opens, Turned, Turns}
 use Rattle.sides.specs.Posts
 use Rattle.sides.proofs.Places.{at-whole}
 use Rattle.sides.proofs.Turns.{next-same}
 use Rattle.sides.proofs.Steps.{answered}
-use Rattle.sides.proofs.Progress.{Went, Progressed, progress-none, frame-again, placed-again, progress-then}
-use Rattle.comparison.specs.Posts.{ComparesBy, ComparesFirst, AttemptsParts}
+use Rattle.sides.proofs.Progress.{Below, PutInPlace, Went, Progressed, progress-none, progress-then, placed-from, went-from, below-from}
+use Rattle.comparison.specs.Posts.{ComparesFirst, AttemptsParts}
 use Rattle.comparison.proofs.Depths.{result-is, Opened, placed, pair-frame, deeper-unit, pair-below, pair-kept}
 
 pub partsFirst-none : (ls : Lines) (L : ℕ) (e f : Expr) (b : ℕ) → Result (λ _. Unit {0}) 10 b (partsFirstAt ls L 0 e f b)
@@ -57,15 +57,13 @@ module _ (ls : Lines) (L d : ℕ) (e f : Expr) (b : ℕ) {code rest : ℕ} where
 
 -- ---- the loop
 
--- steps were taken, with attempts before each of them
-pub record PassInvariant (deeper : ℕ) (tb ts w : List ℕ) (limit budget a b l r : ℕ) (w′ : List ℕ) (n m rest : ℕ) : Type 0 where
+-- steps were taken in the sides, with an attempt before each
+pub record Passed (deeper : ℕ) (tb ts w : List ℕ) (limit budget l n r m : ℕ) (w′ : List ℕ) (n′ m′ rest : ℕ) : Type 0 where
   pub spends : rest ≤ budget
-  pub progressed : Progressed (second limit deeper) (2 * nesting - deeper) tb ts w limit budget a b l r w′ n m rest
+  pub progressed : Progressed (second limit deeper) (2 * nesting - deeper) tb ts w limit budget l n r m w′ n′ m′ rest
 
--- the other comparison of what is said
-compares-first : {tb ts w w′ : List ℕ} {limit budget a b deeper code rest : ℕ} → rest ≤ budget → ComparesBy partsFirstAt tb ts w limit budget a b deeper w′ code rest
-    → ComparesFirst tb ts w limit budget a b deeper w′ code rest
-compares-first h c = record { spends = h; compares = c }
+pub passed-none : (deeper : ℕ) {tb ts w : List ℕ} {limit budget l n r m : ℕ} → Passed deeper tb ts w limit budget l n r m w n m budget
+passed-none deeper {limit = limit} = record { spends = omega arith; progressed = progress-none (second limit deeper) }
 
 module _ {limit deeper l r : ℕ} (O : Opened limit deeper l r) where
   -- its levels, with one opened
@@ -78,46 +76,48 @@ module _ {limit deeper l r : ℕ} (O : Opened limit deeper l r) where
   module _ {tb ts w w₁ : List ℕ} {budget a b n m : ℕ} {answer : Bool} (X : Opens tb w a b l r w₁ answer n m) where
     -- identical expressions
     pub first-same : answer ≡ true → ComparesFirst tb ts w limit budget a b deeper w₁ 0 budget
-    first-same q = compares-first (omega arith) (record {
-      frame = λ _ _. pair-frame O λ h _. X .frame h;
-      means = λ ls k e f B d d′ h P.
-          result-is
-          (opens ls e f budget
-          ∙ turn-same ls limit (deeper - 1) e f budget
-          (next-same ls limit e f
-          (X .identically q e f _ _ (category-wf (B .rows) k e (P .left .known)) (category-wf (B .rows) k f (P .right .known))
-          (at-whole w (unitAt limit (sideUnit deeper)) e (P .left .at)) (at-whole w (unitAt limit (sideUnit deeper)) f (P .right .at)))))
-          (passed refl tt);
-    })
+    first-same q = record {
+      spends = omega arith;
+      compares = record {
+        frame = λ _ _. pair-frame O λ h _. X .frame h;
+        means = λ ls k e f B d d′ h P.
+            result-is
+            (opens ls e f budget
+            ∙ turn-same ls limit (deeper - 1) e f budget
+            (next-same ls limit e f
+            (X .identically q e f _ _ (category-wf (B .rows) k e (P .left .known)) (category-wf (B .rows) k f (P .right .known))
+            (at-whole w (unitAt limit (sideUnit deeper)) e (P .left .at)) (at-whole w (unitAt limit (sideUnit deeper)) f (P .right .at)))))
+            (passed refl tt);
+      };
+    }
 
-    pub pass-none : answer ≡ false → length w₁ ≡ length w → PassInvariant deeper tb ts w limit budget a b l r w₁ n m budget
-    pass-none q long = record { spends = omega arith; progressed = progress-none (second limit deeper) X q long }
-
-  module _ {tb ts w w₁ : List ℕ} {budget a b n m rest : ℕ} (I : PassInvariant deeper tb ts w limit budget a b l r w₁ n m rest) where
-    -- the sides now
-    now-at : (ls : Lines) (k : ℕ) (e f : Expr) → Book ls limit tb ts → k + deeper ≤ 2 * nesting → workUnits * limit ≤ length w
-        → Pair ls limit k (take (unitAt limit (sideUnit deeper)) w) a b e f → Went (second limit deeper) ls limit k w₁ l r e f budget n m rest
-    now-at ls k e f B d h P =
-        I .progressed .means ls k e f B (omega arith) (placed O (length w) h) (subst (λ (i : ℕ). Pair ls limit k (take i w) a b e f) (sym (O .left)) P)
-
-    -- what is said of them is said of the pair
-    from-now : {w₂ : List ℕ} {code rest₂ : ℕ} → rest₂ ≤ rest → (l ≤ r → l ≤ unitAt limit scratchUnit → Outside l (length w) w w₂)
+  module _ {tb ts w w₀ w₁ : List ℕ} {budget a b n₀ m₀ n m rest : ℕ} (Z : PutInPlace tb w a b l r w₀ n₀ m₀)
+      (I : Passed deeper tb ts w₀ limit budget l n₀ r m₀ w₁ n m rest) where
+    -- what is said of the sides now is said of the pair
+    from-now : {w₂ : List ℕ} {code rest₂ : ℕ} → rest₂ ≤ rest → Below limit l r w₁ w₂
         → ((ls : Lines) (k : ℕ) (e f : Expr) → Book ls limit tb ts → k + deeper ≤ 2 * nesting → Placed limit (length w₁) l r → Pair ls limit k w₁ l r e f → n ≡ size e → m ≡ size f
         → Result (λ _. Unit {0}) code rest₂ (partsFirstAt ls limit (suc (deeper - 1)) e f rest))
         → ComparesFirst tb ts w limit budget a b deeper w₂ code rest₂
-    from-now s frame g = compares-first (omega (arith, I .spends)) (record {
-      frame = λ _ _. pair-frame O frame;
-      means = λ ls k e f B d d′ h P.
-          let x = now-at ls k e f B d h P in
-          result-is (x .goes tt ∙ opens ls (x .e′) (x .f′) rest)
-          (g ls k (x .e′) (x .f′) B d (placed O (length w₁) (omega (arith, I .progressed .long))) (x .pair) (x .sizeLeft) (x .sizeRight));
-    })
+    from-now s frame g = record {
+      spends = omega (arith, I .spends);
+      compares = record {
+        frame = λ _ _. pair-frame O (below-from (second limit deeper) (I .progressed) Z frame);
+        means = λ ls k e f B d d′ h P.
+            let p = placed O (length w) h in
+            let x =
+            went-from (second limit deeper) (I .progressed) Z ls k e f B (omega arith) p
+            (subst (λ (i : ℕ). Pair ls limit k (take i w) a b e f) (sym (O .left)) P)
+            in
+            result-is (x .goes tt ∙ opens ls (x .e′) (x .f′) rest)
+            (g ls k (x .e′) (x .f′) B d (placed-from (second limit deeper) (I .progressed) Z p) (x .pair) (x .sizeLeft) (x .sizeRight));
+      };
+    }
 
     module _ {answer : Bool} (S : SaysIdentical w₁ l n r m answer) where
       -- they are identical
       pub pass-same : answer ≡ true → ComparesFirst tb ts w limit budget a b deeper w₁ 0 rest
       pass-same q =
-          from-now (omega arith) (I .progressed .frame) λ ls k e f B d p P x y.
+          from-now (omega arith) (λ _ _. outside-same) λ ls k e f B d p P x y.
           result-is (turn-same ls limit (deeper - 1) e f rest (next-same ls limit e f (sym (answered S ls k e f B P x y) ∙ q))) (passed refl tt)
 
       -- they are not: their parts are compared
@@ -135,13 +135,13 @@ module _ {limit deeper l r : ℕ} (O : Opened limit deeper l r) where
         deeper-frame : Outside (unitAt limit (sideUnit (deeper - 1))) (length w₁) w₁ w₂
         deeper-frame = A .compares .frame (O .small) (omega (arith, O .few))
 
-        side-frame : l ≤ r → l ≤ unitAt limit scratchUnit → Outside l (length w₁) w₁ w₂
+        side-frame : Below limit l r w₁ w₂
         side-frame h t = outside-more (omega (arith, O .right, deeper-unit O)) (omega arith) deeper-frame
 
         -- all but 9 stands
         pub pass-stands : (code ≡ 9 → ⊥) → ComparesFirst tb ts w limit budget a b deeper w₂ code rest₂
         pass-stands q =
-            from-now (A .spends) (frame-again (second limit deeper) (I .progressed) side-frame) λ ls k e f B d p P x y.
+            from-now (A .spends) side-frame λ ls k e f B d p P x y.
             stands ls limit (deeper - 1) e f rest (next ls e f) refl (other ls k e f B P x y) q _ refl (attempted ls k e f B d p P)
 
         -- after 9, a turn
@@ -156,11 +156,8 @@ module _ {limit deeper l r : ℕ} (O : Opened limit deeper l r) where
           turned ls k e f B d p P x y =
               T .means ls k e f B (omega arith) (record { next = p .next; below = p .below; long = omega (arith, p .long) }) (pair-kept O deeper-frame P) x y
 
-          both-frame : l ≤ r → l ≤ unitAt limit scratchUnit → Outside l (length w₁) w₁ w₃
-          both-frame h t = outside-then (side-frame h t) (outside-more (omega arith) (omega arith) (T .frame h t))
-
-          turn-frame : l ≤ r → l ≤ unitAt limit scratchUnit → Outside l (length w) w w₃
-          turn-frame = frame-again (second limit deeper) (I .progressed) both-frame
+          turn-frame : Below limit l r w₁ w₃
+          turn-frame h t = outside-then (side-frame h t) (outside-more (omega arith) (omega arith) (T .frame h t))
 
           -- no side has a head step: that 9 stands
           pub pass-different : state ≡ 1 → ComparesFirst tb ts w limit budget a b deeper w₃ code rest₂
@@ -192,11 +189,11 @@ module _ {limit deeper l r : ℕ} (O : Opened limit deeper l r) where
               go ls k e f i c (Posts.spent s g o u v q) = rw u (result-is (turn-spent ls limit (deeper - 1) e f rest s g q rest₂ c v) (refused o))
 
           -- it is taken
-          pub pass-next : state ≡ 2 → PassInvariant deeper tb ts w limit budget a b l r w₃ n₃ m₃ rest₃
+          pub pass-next : state ≡ 2 → Passed deeper tb ts w₀ limit budget l n₀ r m₀ w₃ n₃ m₃ rest₃
           pass-next z = record {
             spends = omega (arith, I .spends, A .spends, T .spends);
             progressed =
-                progress-then (second limit deeper) (I .progressed) (long₃ ∙ long₂) both-frame λ ls k e f B h p P x y.
+                progress-then (second limit deeper) (I .progressed) (long₃ ∙ long₂) turn-frame λ ls k e f B h p P x y.
                 let d : k + deeper ≤ 2 * nesting = omega (arith, O .few) in
                 go ls k e f (differs-so ls k e f B d p P) (turned ls k e f B d p P x y);
           }

@@ -21,7 +21,7 @@ use Rattle.lookup.specs.Answers.{code-nonzero}
 use Rattle.cells.specs.Results.{Result, passed, refused, then-refused}
 use Rattle.cells.specs.Stores.{outside-same, outside-then, outside-more, outside-below}
 use Rattle.heads.specs.Book.{Book, category-wf}
-use Rattle.sides.specs.Posts.{Side, Pair, SaysShape}
+use Rattle.sides.specs.Posts.{Side, Pair, SaysShapes}
 use Rattle.sides.proofs.Heads.{EachKnown, known-parts}
 use Rattle.sides.proofs.Places.{at-whole}
 use Rattle.comparison.specs.Posts.{Levels, ComparesBy, ComparesPartsBy}
@@ -98,29 +98,29 @@ module _ (w : List ℕ) (n : ℕ) {ls : Lines} {limit k i : ℕ} {e : Expr} (X :
     at = at-parts e (X .at);
   }
 
-module _ {procedure : Levels} {tb ts w : List ℕ} {limit budget l r deeper count : ℕ} {answer : Bool} (shape : SaysShape tb w l r answer count) where
+module _ {procedure : Levels} {tb ts w : List ℕ} {limit budget l r deeper count : ℕ} {answer : Bool} (shapes : SaysShapes tb w l r answer count) where
   -- the shapes differ
-  pub shapes-differ : answer ≡ false → ComparesPartsBy procedure tb ts w limit budget l r deeper w 9 budget
+  pub shapes-differ : answer ≡ true → ComparesPartsBy procedure tb ts w limit budget l r deeper w 9 budget
   unfolding codeOf
   shapes-differ z = record {
     frame = λ _ _. outside-same;
     means = λ ls k e f B d d′ h P.
         result-is
         (parts-differ (procedure ls limit deeper) e f budget λ q.
-        shape .differs z (inside w (below limit deeper) (P .left)) (inside w (below limit deeper) (P .right))
+        shapes .differ z (inside w (below limit deeper) (P .left)) (inside w (below limit deeper) (P .right))
         (first-cell w (below limit deeper) (P .left) ∙ q ∙ sym (first-cell w (below limit deeper) (P .right)))) (refused {r = mismatch} refl);
   }
 
   -- they match
-  pub parts-start : answer ≡ true → PartsInvariant procedure tb ts w limit budget l r deeper w count (l + 1) (r + 1) budget
-  parts-start z = let q = shape .matches z .2 in record {
+  pub parts-start : answer ≡ false → PartsInvariant procedure tb ts w limit budget l r deeper w count (l + 1) (r + 1) budget
+  parts-start z = let q = shapes .match z .2 in record {
     long = refl;
     frame = λ _ _. outside-same;
     means = λ ls k e f B d d′ h P. record {
       es = parts e;
       fs = parts f;
-      left = parts-of w (below limit deeper) (P .left) B (shape .matches z .3);
-      right = parts-of w (below limit deeper) (P .right) B (shape .matches z .3 ∙ ap (partsAfter tb) q);
+      left = parts-of w (below limit deeper) (P .left) B (shapes .match z .3);
+      right = parts-of w (below limit deeper) (P .right) B (shapes .match z .3 ∙ ap (partsAfter tb) q);
       goes =
           parts-matched (procedure ls limit deeper) e f budget
           (sym (first-cell w (below limit deeper) (P .left)) ∙ q ∙ first-cell w (below limit deeper) (P .right));

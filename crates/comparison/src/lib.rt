@@ -13,8 +13,8 @@ use constants::LARGEST_LIMIT;
 use constants::MISMATCH;
 use constants::NESTING;
 use constants::TOO_LARGE;
-use sides::same_shape;
 use sides::settle;
+use sides::shapes_of;
 
 // code 0: equal; else a refusal. The budget that is left.
 pub struct Compared {
@@ -79,8 +79,8 @@ fn compare_parts(
 ) -> Compared
     ensures { λ x. ⌜ ComparesParts (now (table .entry)) (now (terms .entry)) (now (w .entry)) limit budget l r deeper (now (w .exit)) (x .code) (x .budget) ⌝ }
 {
-    let s = same_shape(table, w, l, r);
-    if !s.same {
+    let s = shapes_of(table, w, l, r);
+    if s.differ {
         return Compared {
             code: MISMATCH,
             budget: budget,

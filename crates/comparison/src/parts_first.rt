@@ -14,7 +14,7 @@ use constants::NESTING;
 use constants::TOO_LARGE;
 use sides::identical;
 use sides::open_pair;
-use sides::same_shape;
+use sides::shapes_of;
 use sides::turn;
 
 // The expressions at a and b of w, a pair that may go `deeper` levels deeper (partsFirstAt): NESTING for a first pair; with none it is
@@ -102,8 +102,8 @@ fn attempt(
 ) -> Compared
     ensures { λ x. ⌜ AttemptsParts (now (table .entry)) (now (terms .entry)) (now (w .entry)) limit budget l r deeper (now (w .exit)) (x .code) (x .budget) ⌝ }
 {
-    let s = same_shape(table, w, l, r);
-    if !s.same {
+    let s = shapes_of(table, w, l, r);
+    if s.differ {
         return Compared {
             code: MISMATCH,
             budget: budget,

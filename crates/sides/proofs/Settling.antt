@@ -1,16 +1,16 @@
 -- Laws: all head steps of the first comparison.
-use mathlib.Core.Path.{_≡_, refl, sym, subst, _∙_}
+use mathlib.Core.Path.{_≡_, refl, _∙_}
 use mathlib.Core.Bool.{Bool, true}
 use mathlib.Core.List.{List}
-use Prim.Native.Nat.{ℕ, _≤_, _*_}
+use Prim.Native.Nat.{ℕ, _*_}
 use native.Mathlib.Omega.{arith}
 use lib.ListN.{length}
 use Rattle.aut68.specs.Sizes.{nesting}
 use Rattle.aut68.specs.Language.{aut68}
-use Rattle.aut68.specs.Expr.{Expr, size}
+use Rattle.aut68.specs.Expr.{Expr}
 use Rattle.aut68.specs.Lines.{Lines}
 use Rattle.aut68.specs.Procedure.Compare.{Comparison, sides}
-use Rattle.heads.specs.Book.{Book, category-wf}
+use Rattle.heads.specs.Book.{category-wf}
 use Rattle.sides.specs.Posts.{Opens, Turned, Turns, Goes, Settles}
 use Rattle.sides.specs.Posts
 use Rattle.sides.proofs.Places.{at-whole}

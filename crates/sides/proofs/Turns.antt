@@ -11,7 +11,7 @@ use Rattle.aut68.specs.Expr.{Expr, size, identical}
 use Rattle.aut68.specs.Lines.{Lines}
 use Rattle.aut68.specs.Procedure.Answer.{done, stop, tooLarge, outOfBudget}
 use Rattle.aut68.specs.Procedure.HeadStep.{Head, noStep, beta, delta, headStep, left}
-use Rattle.aut68.specs.Procedure.Compare.{same, byParts, stepLeft, stepRight, choose, next, Comparison, compareParts, sides}
+use Rattle.aut68.specs.Procedure.Compare.{same, byParts, choose, next, Comparison, compareParts, sides}
 use Rattle.agreement.specs.Which.{Which, theLeft, theRight, number, pick, stepIn}
 use Rattle.sides.specs.Posts.{Chooses}
 

@@ -68,10 +68,10 @@ pub record Opens (tb w : List ℕ) (a b l r : ℕ) (w′ : List ℕ) (answer : B
   pub opened : answer ≡ false → {ts : List ℕ} {limit : ℕ} (ls : Lines) (k : ℕ) (e f : Expr) → Book ls limit tb ts → Placed limit (length w) l r
       → Pair ls limit k (take l w) a b e f → Pair ls limit k w′ l r e f × (n ≡ size e) × (m ≡ size f)
 
--- the sides at l and r have one shape, and so many parts each; else their shapes differ, or no side lies there
-pub record SaysShape (tb w : List ℕ) (l r : ℕ) (answer : Bool) (parts : ℕ) : Type 0 where
-  pub matches : answer ≡ true → (l < length w) × (r < length w) × (getD w l 0 ≡ getD w r 0) × (parts ≡ partsAfter tb (getD w l 0))
-  pub differs : answer ≡ false → l < length w → r < length w → getD w l 0 ≡ getD w r 0 → ⊥
+-- the shapes of the sides at l and r differ, or no side lies there; else each has so many parts
+pub record SaysShapes (tb w : List ℕ) (l r : ℕ) (answer : Bool) (parts : ℕ) : Type 0 where
+  pub differ : answer ≡ true → l < length w → r < length w → getD w l 0 ≡ getD w r 0 → ⊥
+  pub match : answer ≡ false → (l < length w) × (r < length w) × (getD w l 0 ≡ getD w r 0) × (parts ≡ partsAfter tb (getD w l 0))
 
 -- ---- one head step
 

@@ -4,11 +4,11 @@ mod sides;
 
 pub use sides::Opening;
 pub use sides::Progress;
-pub use sides::Shape;
+pub use sides::Shapes;
 pub use sides::choose;
 pub use sides::identical;
 pub use sides::open_pair;
 pub use sides::same_expression;
-pub use sides::same_shape;
 pub use sides::settle;
+pub use sides::shapes_of;
 pub use sides::turn;

@@ -1,5 +1,5 @@
 // Head steps in two sides until they are identical or neither has one.
-ghost use Rattle.sides.specs.Posts.{SaysIdentical, SaysSame, SaysShape, Opens, Chooses, Turns, Settles};
+ghost use Rattle.sides.specs.Posts.{SaysIdentical, SaysSame, SaysShapes, Opens, Chooses, Turns, Settles};
 use cells::extent;
 use cells::kids;
 use constants::Cell;
@@ -26,9 +26,9 @@ pub struct Opening {
     pub right: usize,
 }
 
-// Whether two sides have one shape, and then how many parts each has.
-pub struct Shape {
-    pub same: bool,
+// Whether the shapes of two sides differ; else how many parts each has.
+pub struct Shapes {
+    pub differ: bool,
     pub parts: usize,
 }
 
@@ -70,31 +70,31 @@ pub fn same_expression(table: &[u32], w: &[Cell], a: usize, b: usize) -> bool
     true
 }
 
-// Have the sides at l and r one shape?
-pub fn same_shape(table: &[u32], w: &[Cell], l: usize, r: usize) -> Shape
-    ensures { λ x. ⌜ SaysShape (now (table .entry)) (now (w .entry)) l r (x .same) (x .parts) ⌝ }
+// The shapes of the sides at l and r, by their first cells.
+pub fn shapes_of(table: &[u32], w: &[Cell], l: usize, r: usize) -> Shapes
+    ensures { λ x. ⌜ SaysShapes (now (table .entry)) (now (w .entry)) l r (x .differ) (x .parts) ⌝ }
 {
     if l >= w.len() {
-        return Shape {
-            same: false,
+        return Shapes {
+            differ: true,
             parts: 0,
         };
     }
     if r >= w.len() {
-        return Shape {
-            same: false,
+        return Shapes {
+            differ: true,
             parts: 0,
         };
     }
     let x = w[l];
     if x != w[r] {
-        return Shape {
-            same: false,
+        return Shapes {
+            differ: true,
             parts: 0,
         };
     }
-    Shape {
-        same: true,
+    Shapes {
+        differ: false,
         parts: kids(table, x),
     }
 }

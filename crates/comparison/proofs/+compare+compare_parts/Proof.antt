@@ -2,8 +2,11 @@
 use native.Mathlib.Omega.{arith}
 use Prim.Native.Nat.{ℕ, _+_, _*_, _<_}
 use mathlib.Core.Path.{refl, _∙_}
-use Rattle.comparison.proofs.Depths.{no-levels, many-levels, no-units, Opened, side-small, compare-ended, compare-parted}
-use Rattle.comparison.proofs.Parts.{PartsInvariant, outside-left, outside-right, shapes-differ, parts-start, parts-done, parts-stopped, parts-next}
+use Rattle.aut68.specs.Language.{aut68}
+use Rattle.aut68.specs.Procedure.Compare.{compareAt}
+use Rattle.comparison.proofs.Depths.{no-levels, many-levels, no-units, Opened, side-small}
+use Rattle.comparison.proofs.Pairs.{compareAt-none, compare-ended, compare-parted}
+use Rattle.comparison.proofs.Parts.{PartsInvariant, shapes-differ, parts-start, parts-done, parts-stopped, parts-next}
 use borrow.Fn.Kinds.{In}
 use borrow.Fn.PlainCycle.{Measures, is, falls, and}
 use Rattle.comparison.proofs.compare.Reads as compare
@@ -13,8 +16,8 @@ use Rattle.comparison.proofs.compare_parts.Reads as compare-parts
 use Rattle.comparison.proofs.compare_parts.Kinds as compare-parts-kinds
 use Rattle.comparison.proofs.+compare+compare_parts.Lts-compare_parts as compare-parts-lts
 use Rattle.cells.proofs.side_at.Reads as side-at-reads
-use Rattle.cells.proofs.kids.Reads as kids-reads
 use Rattle.cells.proofs.skip.Reads as skip-reads
+use Rattle.sides.proofs.shapes_of.Reads as shapes-of-reads
 use Rattle.sides.proofs.settle.Reads as settle-reads
 use Rattle.comparison.proofs.+compare+compare_parts.{statement}
 use Rattle.comparison.proofs.+compare+compare_parts.Tie.{close}
@@ -47,10 +50,10 @@ abbrev claims-compare : ℕ → compare-lts.Claims
 claims-compare t = (side-at-reads.Asked, side-at-reads.Learnt, settle-reads.Asked, settle-reads.Learnt, compare-parts-below t, compare-parts.Post)
 
 abbrev claims-compare-parts : ℕ → compare-parts-lts.Claims
-claims-compare-parts t = (kids-reads.Asked, kids-reads.Learnt, compare-below t, compare.Post, skip-reads.Asked, skip-reads.Learnt)
+claims-compare-parts t = (shapes-of-reads.Asked, shapes-of-reads.Learnt, compare-below t, compare.Post, skip-reads.Asked, skip-reads.Learnt)
 
 compare-returns : (t : ℕ) → compare-lts.Need-returns (claims-compare t) (compare-at t) compare.Post
-compare-returns t c = no-levels (omega (arith, c .if1 .taken))
+compare-returns t c = no-levels (λ ls e f. compareAt-none ls _ e f _) (omega (arith, c .if1 .taken))
 
 compare-returns-2 : (t : ℕ) → compare-lts.Need-returns-2 (claims-compare t) (compare-at t) compare.Post
 compare-returns-2 t c = many-levels (c .if2 .taken)
@@ -98,47 +101,48 @@ compare-returns-5 : (t : ℕ) → compare-lts.Need-returns-5 (claims-compare t) 
 compare-returns-5 t c = compare-ended (opened t (c .before .before .before .before .before .before)) (c .before .before .before .before .settle .ensures) (c .if4 .left)
 
 abbrev compare-parts-Inv-loop : compare-parts-lts.InvT-loop
-compare-parts-Inv-loop table terms w₀ limit budget l r deeper x parts₀ i₀ j₀ rest₀ w parts i j rest = PartsInvariant table terms w₀ limit budget l r deeper w parts i j rest
+compare-parts-Inv-loop table terms w₀ limit budget l r deeper parts₀ i₀ j₀ rest₀ w parts i j rest =
+    PartsInvariant (compareAt aut68) table terms w₀ limit budget l r deeper w parts i j rest
 
 abbrev compare-parts-μ-loop : compare-parts-lts.MeasureT-loop
-compare-parts-μ-loop table terms w₀ limit budget l r deeper x parts₀ i₀ j₀ rest₀ w parts i j rest = parts
+compare-parts-μ-loop table terms w₀ limit budget l r deeper parts₀ i₀ j₀ rest₀ w parts i j rest = parts
 
 compare-parts-returns : (t : ℕ) → compare-parts-lts.Need-returns (claims-compare-parts t) (compare-parts-at t) compare-parts.Post compare-parts-Inv-loop compare-parts-μ-loop
-compare-parts-returns t c = outside-left (c .if1 .taken)
+compare-parts-returns t c = shapes-differ (c .before .shapes-of .ensures) (c .if1 .taken)
 
-compare-parts-returns-2 : (t : ℕ) → compare-parts-lts.Need-returns-2 (claims-compare-parts t) (compare-parts-at t) compare-parts.Post compare-parts-Inv-loop compare-parts-μ-loop
-compare-parts-returns-2 t c = outside-right (c .if2 .taken)
+compare-parts-add-i : (t : ℕ) → compare-parts-lts.Need-add-i (claims-compare-parts t) (compare-parts-at t) compare-parts.Post compare-parts-Inv-loop compare-parts-μ-loop
+compare-parts-add-i t c = let m = c .before .shapes-of .ensures .match (c .if1 .left) in omega (arith, m .0)
 
-compare-parts-returns-3 : (t : ℕ) → compare-parts-lts.Need-returns-3 (claims-compare-parts t) (compare-parts-at t) compare-parts.Post compare-parts-Inv-loop compare-parts-μ-loop
-compare-parts-returns-3 t c = shapes-differ (c .if3 .taken)
+compare-parts-add-j : (t : ℕ) → compare-parts-lts.Need-add-j (claims-compare-parts t) (compare-parts-at t) compare-parts.Post compare-parts-Inv-loop compare-parts-μ-loop
+compare-parts-add-j t c = let m = c .before .shapes-of .ensures .match (c .if1 .left) in omega (arith, m .1)
 
 compare-parts-loop-holds : (t : ℕ) → compare-parts-lts.Need-loop-holds (claims-compare-parts t) (compare-parts-at t) compare-parts.Post compare-parts-Inv-loop compare-parts-μ-loop
-compare-parts-loop-holds t c = parts-start (c .before .if3 .left) (c .kids .ensures .0)
+compare-parts-loop-holds t c = parts-start (c .before .shapes-of .ensures) (c .if1 .left)
 
 compare-parts-compare-requires : (t : ℕ) → compare-parts-lts.Need-compare-requires (claims-compare-parts t) (compare-parts-at t) compare-parts.Post compare-parts-Inv-loop compare-parts-μ-loop
-compare-parts-compare-requires t c κs = (omega (arith, c .before .before .before .before .before .before .before .before .before .before .before .before .pre .0), tt)
+compare-parts-compare-requires t c κs = (omega (arith, c .before .before .before .before .before .before .before .before .before .pre .0), tt)
 
-compare-parts-same-length : (t : ℕ) → compare-parts-lts.Need-same-length (claims-compare-parts t) (compare-parts-at t) compare-parts.Post compare-parts-Inv-loop compare-parts-μ-loop
-compare-parts-same-length t c = c .before .before .before .before .compare .kept .1 .1 .0 ∙ c .before .before .before .before .before .before .before .loop .inv .long
+compare-parts-same-length-2 : (t : ℕ) → compare-parts-lts.Need-same-length-2 (claims-compare-parts t) (compare-parts-at t) compare-parts.Post compare-parts-Inv-loop compare-parts-μ-loop
+compare-parts-same-length-2 t c = c .before .before .before .before .compare .kept .1 .1 .0 ∙ c .before .before .before .before .before .before .before .loop .inv .long
 
-compare-parts-returns-4 : (t : ℕ) → compare-parts-lts.Need-returns-4 (claims-compare-parts t) (compare-parts-at t) compare-parts.Post compare-parts-Inv-loop compare-parts-μ-loop
-compare-parts-returns-4 t c =
+compare-parts-returns-2 : (t : ℕ) → compare-parts-lts.Need-returns-2 (claims-compare-parts t) (compare-parts-at t) compare-parts.Post compare-parts-Inv-loop compare-parts-μ-loop
+compare-parts-returns-2 t c =
     let c4 = c .before .before .before .before in
     let c7 = c4 .before .before .before in
-    parts-stopped (c7 .loop .inv) (c4 .before .before .loop-test .taken) (c4 .compare .ensures) (c4 .compare .kept .1 .1 .0) (c .if4 .taken)
+    parts-stopped (c7 .loop .inv) (c4 .before .before .loop-test .taken) (c4 .compare .ensures) (c4 .compare .kept .1 .1 .0) (c .if2 .taken)
 
 compare-parts-loop-again : (t : ℕ) → compare-parts-lts.Need-loop-again (claims-compare-parts t) (compare-parts-at t) compare-parts.Post compare-parts-Inv-loop compare-parts-μ-loop
 compare-parts-loop-again t c =
     let c4 = c .before .before .before .before in
     let c8 = c4 .before .before .before .before in
     let c11 = c8 .before .before .before in
-    parts-next (c11 .loop .inv) (c8 .before .before .loop-test .taken) (c8 .compare .ensures) (c8 .compare .kept .1 .1 .0) (c4 .if4 .left) (c .before .before .skip .ensures) (c .skip2 .ensures)
+    parts-next (c11 .loop .inv) (c8 .before .before .loop-test .taken) (c8 .compare .ensures) (c8 .compare .kept .1 .1 .0) (c4 .if2 .left) (c .before .before .skip .ensures) (c .skip2 .ensures)
 
-compare-parts-same-length-2 : (t : ℕ) → compare-parts-lts.Need-same-length-2 (claims-compare-parts t) (compare-parts-at t) compare-parts.Post compare-parts-Inv-loop compare-parts-μ-loop
-compare-parts-same-length-2 t c = c .before .loop .inv .long
+compare-parts-same-length-3 : (t : ℕ) → compare-parts-lts.Need-same-length-3 (claims-compare-parts t) (compare-parts-at t) compare-parts.Post compare-parts-Inv-loop compare-parts-μ-loop
+compare-parts-same-length-3 t c = c .before .loop .inv .long
 
-compare-parts-returns-5 : (t : ℕ) → compare-parts-lts.Need-returns-5 (claims-compare-parts t) (compare-parts-at t) compare-parts.Post compare-parts-Inv-loop compare-parts-μ-loop
-compare-parts-returns-5 t c = parts-done (c .before .loop .inv) (omega (arith, c .loop-test .left))
+compare-parts-returns-3 : (t : ℕ) → compare-parts-lts.Need-returns-3 (claims-compare-parts t) (compare-parts-at t) compare-parts.Post compare-parts-Inv-loop compare-parts-μ-loop
+compare-parts-returns-3 t c = parts-done (c .before .loop .inv) (omega (arith, c .loop-test .left))
 
 pub +compare+compare-parts-spec : {M : Type 1} → statement M
 +compare+compare-parts-spec = close μ-compare μ-compare-parts (λ t. compare-lts.spec (claims-compare t)
@@ -146,16 +150,7 @@ pub +compare+compare-parts-spec : {M : Type 1} → statement M
     compare.Post (compare-returns t) (compare-returns-2 t) (compare-returns-3 t) (λ c κs. tt) (compare-add-r t) (λ c κs. tt)
     (compare-sub-compare-parts t) (compare-compare-parts-requires t) (compare-same-length t) (compare-returns-4 t) (compare-same-length-2 t)
     (compare-returns-5 t))
-    λ t. compare-parts-lts.spec (
-      kids-reads.Asked,
-      kids-reads.Learnt,
-      compare-below t,
-      compare.Post,
-      skip-reads.Asked,
-      skip-reads.Learnt,
-    ) (compare-parts-at t)
-    compare-parts.Post compare-parts-Inv-loop compare-parts-μ-loop (compare-parts-returns t) (compare-parts-returns-2 t) (λ c. omega arith)
-    (λ c. omega arith) (λ c. omega arith) (λ c. omega arith) (compare-parts-returns-3 t) (λ c κs. tt) (λ c. omega arith) (λ c. omega arith)
-    (compare-parts-loop-holds t) (compare-parts-compare-requires t) (compare-parts-same-length t) (compare-parts-returns-4 t) (λ c κs. tt)
-    (λ c κs. tt) (λ c. omega arith) (λ c. omega arith) (compare-parts-loop-again t) (compare-parts-same-length-2 t)
-    (compare-parts-returns-5 t)
+    λ t. compare-parts-lts.spec (claims-compare-parts t) (compare-parts-at t) compare-parts.Post compare-parts-Inv-loop compare-parts-μ-loop
+    (λ c κs. tt) (λ c. omega arith) (compare-parts-returns t) (compare-parts-add-i t) (compare-parts-add-j t) (compare-parts-loop-holds t)
+    (compare-parts-compare-requires t) (compare-parts-same-length-2 t) (compare-parts-returns-2 t) (λ c κs. tt) (λ c κs. tt) (λ c. omega arith)
+    (λ c. omega arith) (compare-parts-loop-again t) (compare-parts-same-length-3 t) (compare-parts-returns-3 t)

@@ -1,5 +1,5 @@
 -- `settle`: identical expressions, else the sides put in place and turns until no step follows. cN is c, N steps before.
-use mathlib.Core.Path.{_≡_, refl, _∙_}
+use mathlib.Core.Path.{_∙_}
 use Prim.Native.Nat.{_*_}
 use native.Mathlib.Omega.{arith}
 use borrow.Author.Needs.{needs}
