@@ -1,5 +1,5 @@
 -- Larger budgets and limits keep 0 and 9, with the same steps.
-use mathlib.Core.Path.{_≡_, refl, ap, subst}
+use mathlib.Core.Path.{_≡_, refl, ap}
 use mathlib.Core.Bool.{Bool, true, false}
 use Prim.Native.Nat.{ℕ, zero, suc, _+_, _-_, _≤_, _<_}
 use native.Mathlib.Omega.{arith}
@@ -7,7 +7,7 @@ use lib.Dec.{leb}
 use borrow.Author.Tests.{eqb-true}
 use Rattle.aut68.specs.Language.{aut68}
 use Rattle.aut68.specs.Sizes.{nesting}
-use Rattle.aut68.specs.Procedure.Answer.{Act, Answer, done, stop, restIn, isVerdict, codeOf, Refusal, mismatch}
+use Rattle.aut68.specs.Procedure.Answer.{Act, Answer, done, stop, restIn, isVerdict, codeOf, mismatch}
 use Rattle.aut68.specs.Expr.{Expr, size}
 use Rattle.aut68.specs.Lines.{Lines}
 use Rattle.aut68.specs.Procedure.Compare.{Next, same, byParts, stepLeft, stepRight, next, Comparison}
@@ -74,22 +74,3 @@ module _ (ls : Lines) {L L′ : ℕ} (hL : L ≤ L′) where
   pub grows-partsFirst : (l r : Expr) → Grows (partsFirst ls L l r) (partsFirst ls L′ l r)
   unfolding partsFirst
   grows-partsFirst l r = grows-partsFirstAt nesting l r
-
-kept-done : (d b : ℕ) (x x′ : Answer ℕ (Unit {0})) → Kept d x x′ → x ≡ done tt b → x′ ≡ done tt (b + d)
-kept-done d b x x′ k e = subst (λ y. Kept d y x′) e k
-
-kept-stop : (d b : ℕ) (x x′ : Answer ℕ (Unit {0})) (r : Refusal) → Kept d x x′ → x ≡ stop r b → Decides r → x′ ≡ stop r (b + d)
-kept-stop d b x x′ r k e = subst (λ y. Kept d y x′) e k
-
--- "Larger N and L keep 0 and 9 with the same steps": the steps are the budget less what is left of it.
-module _ (ls : Lines) (l r : Expr) (L L′ N N′ b : ℕ) (hL : L ≤ L′) (hN : N ≤ N′) where
-  pub larger-equal : partsFirst ls L l r N ≡ done tt b → (b′ : ℕ) × (partsFirst ls L′ l r N′ ≡ done tt b′) × (N′ - b′ ≡ N - b)
-  larger-equal e =
-      let k : Kept (N′ - N) (partsFirst ls L l r N) (partsFirst ls L′ l r N′) = (grows-partsFirst ls hL l r) .kept N N′ (N′ - N) (omega arith) in
-      (b + (N′ - N), kept-done _ _ _ _ k e, omega arith)
-
-  pub larger-different : partsFirst ls L l r N ≡ stop mismatch b → (b′ : ℕ) × (partsFirst ls L′ l r N′ ≡ stop mismatch b′) × (N′ - b′ ≡ N - b)
-  unfolding isVerdict
-  larger-different e =
-      let k : Kept (N′ - N) (partsFirst ls L l r N) (partsFirst ls L′ l r N′) = (grows-partsFirst ls hL l r) .kept N N′ (N′ - N) (omega arith) in
-      (b + (N′ - N), kept-stop _ _ _ _ _ k e refl, omega arith)

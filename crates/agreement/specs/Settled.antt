@@ -1,5 +1,4 @@
--- The second comparison finds equality: what it calls equal has a common reduct, what it calls different has none. So the
--- two comparisons agree on each pair where both give 0 or 9.
+-- The second comparison finds equality: what it calls equal has a common reduct, what it calls different has none.
 use mathlib.Core.Path.{_≡_, refl}
 use mathlib.Core.Bool.{Bool, true, false}
 use Prim.Native.Nat.{ℕ, zero, suc}
@@ -7,17 +6,17 @@ use lib.Dec.{eqb, leb}
 use borrow.Author.Tests.{eqb-true}
 use Rattle.aut68.specs.Language.{aut68}
 use Rattle.aut68.specs.Sizes.{nesting}
-use Rattle.aut68.specs.Procedure.Answer.{codeOf, codeIn, Act, Answer, done, stop, refuse, mismatch}
+use Rattle.aut68.specs.Procedure.Answer.{codeOf, Act, Answer, done, refuse, mismatch}
 use Rattle.aut68.specs.Expr.{Expr, size, firstCell, parts}
 use Rattle.aut68.specs.Lines.{Lines}
 use Rattle.aut68.specs.Rules.Steps.{Equal}
-use Rattle.aut68.specs.Procedure.Compare.{Next, same, byParts, stepLeft, stepRight, next, Comparison, each, hasSurplus, compareParts, compare}
+use Rattle.aut68.specs.Procedure.Compare.{Next, same, byParts, stepLeft, stepRight, next, Comparison, each, hasSurplus, compareParts}
 use Rattle.calculus.specs.Parallel.{ClosedMiddles}
 use Rattle.calculus.specs.Equality.{equal-path}
 use Rattle.calculus.specs.HeadForms.{head-none, parts-equal}
 use Rattle.calculus.specs.Next.{NextIs, isSame, isParts, isLeft, isRight, next-is}
-use Rattle.lookup.specs.Answers.{Judged, isDone, isStop, judged-done, judged-stop, judged-map, judged-sized}
-use Rattle.agreement.specs.First.{Refused, differ, large, spent, refused-map, refused-differ, Settles, SettlesEqual, each-settles, parts-settle, left-settles, right-settles, compare-equal}
+use Rattle.lookup.specs.Answers.{Judged, isDone, isStop, judged-map, judged-sized}
+use Rattle.agreement.specs.First.{Refused, differ, large, spent, refused-map, Settles, SettlesEqual, each-settles, parts-settle, left-settles, right-settles}
 use Rattle.aut68.specs.Procedure.PartsFirst.{differs, unlessEqual, stepTo, pass, passes, sidesFirst, partsFirstAt, partsFirst}
 
 -- an attempt that tells that X holds if it does, and whatever is gone on with settles X
@@ -74,47 +73,3 @@ module _ (ls : Lines) where
     pub partsFirst-settles : SettlesEqual ls (partsFirst ls L)
     unfolding partsFirst
     partsFirst-settles = partsFirstAt-settles nesting
-
-    -- in the words of the claims
-    pub partsFirst-sound : (l r : Expr) (b b′ : ℕ) → partsFirst ls L l r b ≡ done tt b′ → Equal ls l r
-    partsFirst-sound l r b b′ e = judged-done (partsFirst-settles l r b) e
-
-    pub partsFirst-complete : (l r : Expr) (b b′ : ℕ) → partsFirst ls L l r b ≡ stop mismatch b′ → ¬ Equal ls l r
-    partsFirst-complete l r b b′ e = refused-differ (judged-stop (partsFirst-settles l r b) e)
-
--- an answer that settles, with its code: 0 and X, 9 and not X, 10, 11
-pub data Coded (X : Type 0) : ℕ → Type 0 where
-  coded0 : X → Coded X 0
-  coded9 : ¬ X → Coded X 9
-  coded10 : Coded X 10
-  coded11 : Coded X 11
-
-pub settles-code : {X : Type 0} {m : Answer ℕ (Unit {0})} → Settles X m → Coded X (codeIn m)
-unfolding codeIn codeOf
-settles-code (isDone x) = coded0 x
-settles-code (isStop (differ n)) = coded9 n
-settles-code (isStop large) = coded10
-settles-code (isStop spent) = coded11
-
--- a comparison that came to an end: neither size nor budget stopped it
-abbrev pub Ended : ℕ → Type 0
-Ended n = ¬ (n ≡ 10) × ¬ (n ≡ 11)
-
-coded-agree : {X : Type 0} {m n : ℕ} → Coded X m → Coded X n → Ended m → Ended n → m ≡ n
-coded-agree (coded0 x) (coded0 y) p q = refl
-coded-agree (coded0 x) (coded9 y) p q = absurd (y x)
-coded-agree (coded0 x) coded10 p q = absurd (q .0 refl)
-coded-agree (coded0 x) coded11 p q = absurd (q .1 refl)
-coded-agree (coded9 x) (coded0 y) p q = absurd (x y)
-coded-agree (coded9 x) (coded9 y) p q = refl
-coded-agree (coded9 x) coded10 p q = absurd (q .0 refl)
-coded-agree (coded9 x) coded11 p q = absurd (q .1 refl)
-coded-agree coded10 k p q = absurd (p .0 refl)
-coded-agree coded11 k p q = absurd (p .1 refl)
-
--- "On each pair for which both end without 10 or 11 they must give one answer", whatever their budgets and limits.
-pub one-answer : (ls : Lines) → ClosedMiddles ls → (l r : Expr) (L L′ b b′ : ℕ)
-    → Ended (codeIn (compare aut68 ls L l r b)) → Ended (codeIn (partsFirst ls L′ l r b′))
-    → codeIn (compare aut68 ls L l r b) ≡ codeIn (partsFirst ls L′ l r b′)
-one-answer ls closed l r L L′ b b′ p q =
-    coded-agree (settles-code (compare-equal ls closed L l r b)) (settles-code (partsFirst-settles ls closed L′ l r b′)) p q

@@ -20,10 +20,10 @@ use Rattle.cells.specs.Cells.{Outside}
 use Rattle.cells.specs.Layout.{unitAt, sideUnit}
 use Rattle.cells.specs.Results.{Result, passed, refused}
 use Rattle.cells.specs.Stores.{outside-same, outside-then, outside-more}
-use Rattle.heads.specs.Book.{Book, category-wf}
+use Rattle.heads.specs.Book.{Book}
 use Rattle.sides.specs.Posts.{Pair, Placed, SaysIdentical, Opens, Turned, Turns}
 use Rattle.sides.specs.Posts
-use Rattle.sides.proofs.Places.{at-whole}
+use Rattle.sides.proofs.Opening.{opened-identical}
 use Rattle.sides.proofs.Turns.{next-same}
 use Rattle.sides.proofs.Steps.{answered}
 use Rattle.sides.proofs.Progress.{Below, PutInPlace, Went, Progressed, progress-none, progress-then, placed-from, went-from, below-from}
@@ -84,9 +84,7 @@ module _ {limit deeper l r : ℕ} (O : Opened limit deeper l r) where
             result-is
             (opens ls e f budget
             ∙ turn-same ls limit (deeper - 1) e f budget
-            (next-same ls limit e f
-            (X .identically q e f _ _ (category-wf (B .rows) k e (P .left .known)) (category-wf (B .rows) k f (P .right .known))
-            (at-whole w (unitAt limit (sideUnit deeper)) e (P .left .at)) (at-whole w (unitAt limit (sideUnit deeper)) f (P .right .at)))))
+            (next-same ls limit e f (opened-identical (unitAt limit (sideUnit deeper)) X q ls k e f B P)))
             (passed refl tt);
       };
     }

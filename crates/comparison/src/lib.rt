@@ -5,7 +5,6 @@
 mod parts_first;
 
 ghost use Rattle.comparison.specs.Posts.{Compares, ComparesParts};
-pub use parts_first::compare_parts_first;
 use cells::side_at;
 use cells::skip;
 use constants::Cell;
@@ -13,6 +12,7 @@ use constants::LARGEST_LIMIT;
 use constants::MISMATCH;
 use constants::NESTING;
 use constants::TOO_LARGE;
+pub use parts_first::compare_parts_first;
 use sides::settle;
 use sides::shapes_of;
 

@@ -6,7 +6,7 @@ use mathlib.Core.List.{List}
 use Prim.Native.Nat.{ℕ, _+_, _≤_}
 use native.Mathlib.Omega.{arith}
 use lib.ListN.{length, take, drop}
-use Rattle.aut68.specs.Expr.{Expr, size, cells}
+use Rattle.aut68.specs.Expr.{Expr, size, cells, identical}
 use Rattle.aut68.specs.Lines.{Lines}
 use Rattle.cells.specs.Cells.{At, Outside, moveCells}
 use Rattle.cells.specs.Forests.{size-is-length}
@@ -25,6 +25,13 @@ open-same same q = record {
   identically = λ _ e f re rf we wf p s. sym (same .means e f re rf we wf p s) ∙ q;
   opened = λ z. let x : _≡_ {A = ℕ} 0 1 = cc in absurd (omega arith);
 }
+
+-- what that says of a pair in the first i cells
+pub opened-identical : {tb ts w w′ : List ℕ} {limit a b l r n m : ℕ} {answer : Bool} (i : ℕ) → Opens tb w a b l r w′ answer n m → answer ≡ true
+    → (ls : Lines) (k : ℕ) (e f : Expr) → Book ls limit tb ts → Pair ls limit k (take i w) a b e f → identical e f ≡ true
+opened-identical {w = w} i X q ls k e f B P =
+    X .identically q e f _ _ (category-wf (B .rows) k e (P .left .known)) (category-wf (B .rows) k f (P .right .known))
+    (at-whole w i e (P .left .at)) (at-whole w i f (P .right .at))
 
 -- an expression of n cells, moved up behind its end
 moved : (w : List ℕ) (from n to : ℕ) (e : Expr) {rest : List ℕ} → n ≡ size e → At w from (cells e) rest → from + n ≤ to → to + n ≤ length w

@@ -10,10 +10,9 @@ use Rattle.aut68.specs.Language.{aut68}
 use Rattle.aut68.specs.Expr.{Expr}
 use Rattle.aut68.specs.Lines.{Lines}
 use Rattle.aut68.specs.Procedure.Compare.{Comparison, sides}
-use Rattle.heads.specs.Book.{category-wf}
 use Rattle.sides.specs.Posts.{Opens, Turned, Turns, Goes, Settles}
 use Rattle.sides.specs.Posts
-use Rattle.sides.proofs.Places.{at-whole}
+use Rattle.sides.proofs.Opening.{opened-identical}
 use Rattle.sides.proofs.Turns.{sides-same, sides-parts, sides-spent, sides-step, sides-large, next-same}
 use Rattle.sides.proofs.Progress.{Went, Progressed, progress-then, PutInPlace, placed-from, went-from, below-from}
 
@@ -24,14 +23,10 @@ sidesUnder limit ls inner = sides aut68 ls limit inner
 -- identical expressions
 pub settled-same : {tb ts w w′ : List ℕ} {limit budget a b l r n m : ℕ} {answer : Bool} → Opens tb w a b l r w′ answer n m → answer ≡ true
     → Settles tb ts w limit budget a b l r w′ 0 budget
-settled-same {w = w} {limit = limit} {budget} {l = l} O q = record {
+settled-same {limit = limit} {budget} {l = l} O q = record {
   frame = λ h _. O .frame h;
   means = λ ls k e f B h p P.
-      Posts.Goes.identically refl λ d.
-      sides-same ls limit e f budget d
-      (next-same ls limit e f
-      (O .identically q e f _ _ (category-wf (B .rows) k e (P .left .known)) (category-wf (B .rows) k f (P .right .known))
-      (at-whole w l e (P .left .at)) (at-whole w l f (P .right .at))));
+      Posts.Goes.identically refl λ d. sides-same ls limit e f budget d (next-same ls limit e f (opened-identical l O q ls k e f B P));
 }
 
 module _ {tb ts w₀ w₁ w₂ : List ℕ} {limit budget l n₀ r m₀ n m rest state n′ m′ rest′ : ℕ}

@@ -142,7 +142,7 @@ opened t c = record {
   some = c .before .before .before .if1 .left;
   few = c .before .before .if2 .left;
   small = c .before .if3 .left;
-  left = c .side-at .ensures (c .before .if3 .left) (c .before .before .if2 .left);
+  left = c .side-at .ensures (c .before .if3 .left) (omega (arith, c .before .before .if2 .left));
   right = refl;
 }
 
