@@ -15,11 +15,20 @@ pub const LARGEST_LIMIT: u32 = 4_096;
 /// Working cells for each cell of the limit.
 pub const WORK_UNITS: usize = 128;
 
+/// In units of the limit: where the sides of a pair are put, and from where on their comparison may write.
+pub const LEFT_UNIT: usize = 24;
+pub const RIGHT_UNIT: usize = 25;
+pub const COMPARISON_UNIT: usize = 62;
+
 /// Table cells for each line.
 pub const ROW_WIDTH: usize = 9;
 
-/// Where the kind of a line, the end of its cells and the number of its paragraph stand in its row.
+/// Where the indicator and the kind of a line, the places of its middle and its category, the end of its cells and the number of its
+/// paragraph stand in its row.
+pub const INDICATOR: usize = 2;
 pub const KIND: usize = 4;
+pub const MIDDLE: usize = 5;
+pub const CATEGORY: usize = 6;
 pub const TERMS_END: usize = 7;
 pub const PARAGRAPH: usize = 8;
 

@@ -1,6 +1,6 @@
 //! The stores that are lent to a call.
 
-use crate::sizes::{Cell, ROW_WIDTH, TERMS_END};
+use crate::sizes::{Cell, CATEGORY, MIDDLE, ROW_WIDTH, TERMS_END};
 
 #[derive(Default, PartialEq)]
 pub struct Stores {
@@ -13,7 +13,18 @@ pub struct Stores {
 impl Stores {
     /// How many cells of the term store the first lines take.
     pub fn recorded_cells(&self, lines: usize) -> usize {
-        lines.checked_sub(1).map_or(0, |last| self.table[ROW_WIDTH * last + TERMS_END] as usize)
+        lines.checked_sub(1).map_or(0, |last| self.row(last)[TERMS_END] as usize)
+    }
+
+    /// The row of a recorded line; lines count from 0 here.
+    pub fn row(&self, line: usize) -> &[u32] {
+        &self.table[ROW_WIDTH * line..][..ROW_WIDTH]
+    }
+
+    /// The middle of a recorded line, empty if it has none, and its category.
+    pub fn parts(&self, line: usize) -> [&[Cell]; 2] {
+        let row = self.row(line);
+        [MIDDLE, CATEGORY].map(|part| &self.terms[row[part] as usize..row[part + 1] as usize])
     }
 
     /// How many cells of the index the entries of the first lines take.

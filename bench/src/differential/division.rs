@@ -3,11 +3,8 @@
 use super::calls::{Call, USUAL_LIMIT};
 use super::comparison::Comparison;
 use super::divided::Divided;
-use crate::sizes::{KIND, PARAGRAPH, ROW_WIDTH};
+use crate::sizes::{INDICATOR, PARAGRAPH, ROW_WIDTH};
 use crate::verified;
-
-/// Where the indicator stands in a row: this cell and those up to the paragraph are not touched by a division.
-const INDICATOR: usize = KIND - 2;
 
 impl Comparison {
     /// An accepted book that is divided with care keeps its outcome, its cells and its index, and of its rows all but identifiers and
@@ -21,6 +18,7 @@ impl Comparison {
             return;
         }
         let behind = verified::check(&divided.book, call.budget, call.limit, &mut self.theirs);
+        // From the indicator on, up to the paragraph, the cells of a row are not touched.
         let kept = |at: &usize| (INDICATOR..PARAGRAPH).contains(&(at % ROW_WIDTH));
         let rows = (0..ROW_WIDTH * before.recorded()).filter(kept).all(|at| self.ours.table[at] == self.theirs.table[at]);
         let alike = rows && self.ours.terms == self.theirs.terms && self.ours.index == self.theirs.index;

@@ -5,7 +5,7 @@ use std::collections::HashSet;
 use super::mutate::{lines, symbols, WORDS};
 use super::place::{identifier, paragraph_line, Named, Place};
 use crate::baseline::Notes;
-use crate::sizes::{KIND, MOST_OPEN, PARAGRAPH, ROW_WIDTH, SMALLEST_LIMIT};
+use crate::sizes::{KIND, MOST_OPEN, PARAGRAPH, SMALLEST_LIMIT};
 use crate::stores::Stores;
 use crate::Outcome;
 
@@ -168,7 +168,7 @@ fn note_points(line: &[u8], place: &Place, stores: &Stores, points: &mut [bool; 
         let [paragraph, _, name, behind] = window else { continue };
         let named = place.closed(paragraph).and_then(|closed| closed.line(name));
         let takes = named.is_some_and(|line| {
-            let row = &stores.table[ROW_WIDTH * line..][..ROW_WIDTH];
+            let row = stores.row(line);
             row[KIND] != 0 && row[KIND - 1] > 0
         });
         let (indicator, arguments) = (behind == b"*", behind == b"(");
@@ -179,7 +179,7 @@ fn note_points(line: &[u8], place: &Place, stores: &Stores, points: &mut [bool; 
 
 /// Whether a line names one that stands many paragraphs outward. Each paragraph's depth is given.
 fn names_far(count: usize, depths: &[usize], stores: &Stores) -> bool {
-    let depth = |line: usize| depths[stores.table[ROW_WIDTH * line + PARAGRAPH] as usize];
+    let depth = |line: usize| depths[stores.row(line)[PARAGRAPH] as usize];
     let mut at = 0;
     (0..count).any(|line| {
         let named = &stores.index[at + 1..][..stores.index[at] as usize];
