@@ -4,10 +4,11 @@
 //! code in view. Expressions are cells in prefix order, as in the term store; temporary
 //! expressions lie in vectors that are reused from line to line.
 
+mod accepted;
 mod admission;
 mod bytes;
 mod category;
-mod cells;
+pub mod cells;
 mod comparison;
 mod dependencies;
 mod hash;
@@ -20,12 +21,14 @@ mod scope;
 mod source;
 mod widths;
 
+use crate::pairs::Order;
 use crate::sizes::{LARGEST_LIMIT, MOST_BYTES, SMALLEST_LIMIT, WORK_UNITS};
 use crate::stores::Stores;
 use crate::{Answer, Outcome};
+pub use accepted::Accepted;
 use admission::Admission;
 pub use dependencies::primitives;
-pub use notes::Notes;
+pub use notes::{Notes, PairNotes};
 pub use pages::{page_length, read_back, text_lengths};
 pub use widths::{narrow, widen};
 
@@ -57,6 +60,15 @@ pub fn check(book: &[u8], budget: u32, limit: u32, stores: &mut Stores) -> Outco
 }
 
 pub fn check_noting(book: &[u8], budget: u32, limit: u32, stores: &mut Stores, notes: &mut Notes) -> Outcome {
+    check_in_order(Order::StepsFirst, book, budget, limit, stores, notes)
+}
+
+/// The check with the second comparison in the place of the first.
+pub fn check_parts_first(book: &[u8], budget: u32, limit: u32, stores: &mut Stores) -> Outcome {
+    check_in_order(Order::PartsFirst, book, budget, limit, stores, &mut Notes::default())
+}
+
+fn check_in_order(order: Order, book: &[u8], budget: u32, limit: u32, stores: &mut Stores, notes: &mut Notes) -> Outcome {
     let early = |refusal: Refusal| Outcome { code: refusal as u32, line: 0, steps: 0 };
     if !(SMALLEST_LIMIT..=LARGEST_LIMIT).contains(&limit) {
         return early(Refusal::LimitOutOfRange);
@@ -69,7 +81,7 @@ pub fn check_noting(book: &[u8], budget: u32, limit: u32, stores: &mut Stores, n
     if book.len() > MOST_BYTES {
         return early(Refusal::OutOfSpace);
     }
-    let mut admission = Admission::new(budget, limit, stores, notes);
+    let mut admission = Admission::new(budget, limit, order, stores, notes);
     let refusal = admission.book(book).err();
     let (lines, steps) = (admission.lines() as u32, u64::from(admission.steps()));
     match refusal {

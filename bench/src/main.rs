@@ -3,6 +3,7 @@
 mod baseline;
 mod differential;
 mod generate;
+mod pairs;
 mod random;
 mod sizes;
 mod stores;

@@ -8,6 +8,7 @@ use super::notes::Notes;
 use super::reader::Reader;
 use super::source::{Line, ParagraphLine};
 use super::Refusal;
+use crate::pairs::Order;
 use crate::sizes::{Cell, MOST_LINES, ROW_WIDTH};
 use crate::stores::Stores;
 
@@ -25,9 +26,10 @@ pub struct Admission<'b, 's> {
 }
 
 impl<'b, 's> Admission<'b, 's> {
-    pub fn new(budget: u32, limit: usize, stores: &'s mut Stores, notes: &'s mut Notes) -> Self {
+    pub fn new(budget: u32, limit: usize, order: Order, stores: &'s mut Stores, notes: &'s mut Notes) -> Self {
         let (lines, names, dependencies) = (Lines::new(), Names::default(), Dependencies::default());
-        Admission { limit, stores, notes, lines, names, dependencies, checker: Checker::new(budget, limit), used: 0, indexed: 0 }
+        let checker = Checker::new(budget, limit, order);
+        Admission { limit, stores, notes, lines, names, dependencies, checker, used: 0, indexed: 0 }
     }
 
     pub fn lines(&self) -> usize {

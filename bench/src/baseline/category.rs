@@ -1,9 +1,10 @@
 //! The category of an expression, and the checks of a line.
 
 use super::cells::{self, Output};
-use super::comparison::{abstraction, compare, Book, Budget, Levels, Versions};
+use super::comparison::{abstraction, Book, Budget, Comparer, Versions};
 use super::lines::Lines;
 use super::Refusal;
+use crate::pairs::Order;
 use crate::sizes::{Cell, NESTING};
 
 /// A category: cells that lie in the term store or the line, or that were written behind an output.
@@ -36,7 +37,7 @@ struct Frame {
 pub struct Checker {
     budget: Budget,
     limit: usize,
-    levels: Levels,
+    comparer: Comparer,
     frames: Vec<Frame>,
     out: Vec<Cell>,
     /// The starts and ends of the arguments that are being checked.
@@ -46,11 +47,11 @@ pub struct Checker {
 }
 
 impl Checker {
-    pub fn new(budget: u32, limit: usize) -> Self {
+    pub fn new(budget: u32, limit: usize, order: Order) -> Self {
         Checker {
-            budget: Budget { steps: 0, most: budget },
+            budget: Budget::new(budget),
             limit,
-            levels: Levels::new(),
+            comparer: Comparer::new(order),
             frames: (0..NESTING).map(|_| Frame::default()).collect(),
             out: Vec::new(),
             arguments: Vec::new(),
@@ -64,11 +65,11 @@ impl Checker {
 
     /// The written category, the middle, their comparison. The first `middle` cells are the middle's.
     pub fn line(&mut self, lines: &Lines, terms: &[Cell], cells: &[Cell], middle: usize) -> Result<(), Refusal> {
-        let Checker { budget, limit, levels, frames, out, arguments, domains } = self;
+        let Checker { budget, limit, comparer, frames, out, arguments, domains } = self;
         arguments.clear();
         domains.clear();
         let book = Book { lines, terms, limit: *limit };
-        let mut check = Check { book, cells, budget, levels, arguments, domains };
+        let mut check = Check { book, cells, budget, comparer, arguments, domains };
         let written = &cells[middle..];
         if written[0] != cells::TYPE {
             check.is_type(middle, out, frames)?;
@@ -87,14 +88,14 @@ struct Check<'a, 'b> {
     book: Book<'a>,
     cells: &'a [Cell],
     budget: &'b mut Budget,
-    levels: &'b mut Levels,
+    comparer: &'b mut Comparer,
     arguments: &'b mut Vec<(u32, u32)>,
     domains: &'b mut Vec<(u32, u32)>,
 }
 
 impl<'a> Check<'a, '_> {
     fn compare(&mut self, found: &[Cell], wanted: &[Cell]) -> Result<(), Refusal> {
-        compare(found, wanted, self.levels, &self.book, self.budget)
+        self.comparer.compare(found, wanted, &self.book, self.budget)
     }
 
     /// The category of the expression at `at`, made behind `out` if it is not stored, and the expression's end.

@@ -2,7 +2,9 @@
 
 use super::cells::{self, Output};
 use super::lines::{Kind, Lines};
+use super::notes::PairNotes;
 use super::Refusal;
+use crate::pairs::Order;
 use crate::sizes::{Cell, NESTING};
 
 /// The accepted lines with their cells, and the size that an expression may have.
@@ -13,10 +15,17 @@ pub struct Book<'a> {
     pub limit: usize,
 }
 
-/// The head steps that were made, of those allowed.
+/// The head steps that were made, of those allowed, and what was met in comparisons.
 pub struct Budget {
     pub steps: u32,
     pub most: u32,
+    pub notes: PairNotes,
+}
+
+impl Budget {
+    pub fn new(most: u32) -> Self {
+        Budget { steps: 0, most, notes: PairNotes::default() }
+    }
 }
 
 /// The head step that an expression has, `at` the cell where it begins.
@@ -126,47 +135,76 @@ pub fn abstraction<'s>(
     Ok((&cells[1..body], &cells[body..]))
 }
 
-/// The stores of a comparison, a pair of sides for each depth.
-pub struct Levels {
+/// One of the two comparisons, with its stores.
+pub struct Comparer {
+    order: Order,
+    /// A pair of sides for each depth.
     levels: Vec<(Versions, Versions)>,
 }
 
-impl Levels {
-    pub fn new() -> Self {
-        Levels { levels: (0..NESTING).map(|_| Default::default()).collect() }
+impl Comparer {
+    pub fn new(order: Order) -> Self {
+        Comparer { order, levels: (0..NESTING).map(|_| Default::default()).collect() }
+    }
+
+    pub fn compare(&mut self, left: &[Cell], right: &[Cell], book: &Book, budget: &mut Budget) -> Result<(), Refusal> {
+        if left == right {
+            return Ok(());
+        }
+        match self.order {
+            Order::StepsFirst => differing::<false>(left, right, &mut self.levels, book, budget),
+            Order::PartsFirst => differing::<true>(left, right, &mut self.levels, book, budget),
+        }
     }
 }
 
-pub fn compare(left: &[Cell], right: &[Cell], levels: &mut Levels, book: &Book, budget: &mut Budget) -> Result<(), Refusal> {
-    if left == right { Ok(()) } else { differing(left, right, &mut levels.levels, book, budget) }
-}
-
 /// Compares sides that are not identical.
-fn differing(
+fn differing<const PARTS_FIRST: bool>(
     left: &[Cell], right: &[Cell], levels: &mut [(Versions, Versions)], book: &Book, budget: &mut Budget,
 ) -> Result<(), Refusal> {
     let ((lefts, rights), deeper) = levels.split_first_mut().unwrap();
     let mut left = Side::new(left, lefts, book.lines);
     let mut right = Side::new(right, rights, book.lines);
-    loop {
-        let side = match (left.head, right.head) {
-            (Head::None, Head::None) => break,
-            (Head::Contract { .. }, _) => &mut left,
-            (_, Head::Contract { .. }) => &mut right,
-            (Head::Unfold { .. }, Head::None) => &mut left,
-            (Head::None, Head::Unfold { .. }) => &mut right,
-            (Head::Unfold { line: l, .. }, Head::Unfold { line: r, .. }) => if l >= r { &mut left } else { &mut right },
-        };
+    while let Some(left_steps) = left_steps(left.head, right.head) {
+        // As a side has a head step, these are two uses of one abbreviation or two applications.
+        if PARTS_FIRST && left.cells()[0] == right.cells()[0] {
+            let before = budget.steps;
+            match parts::<PARTS_FIRST>(left.cells(), right.cells(), deeper, book, budget) {
+                Err(Refusal::Mismatch) => budget.notes.fail(budget.steps - before),
+                answer => return answer,
+            }
+        }
+        let side = if left_steps { &mut left } else { &mut right };
         side.step(book, budget)?;
         if left.cells() == right.cells() {
             return Ok(());
         }
     }
-    let (left, right) = (left.cells(), right.cells());
-    if left[0] != right[0] {
+    if left.cells()[0] != right.cells()[0] {
         return Err(Refusal::Mismatch);
     }
+    parts::<PARTS_FIRST>(left.cells(), right.cells(), deeper, book, budget)
+}
+
+/// Whether the next head step is the left side's, if there is one.
+#[inline]
+fn left_steps(left: Head, right: Head) -> Option<bool> {
+    match (left, right) {
+        (Head::None, Head::None) => None,
+        (Head::Contract { .. }, _) => Some(true),
+        (_, Head::Contract { .. }) => Some(false),
+        (Head::Unfold { .. }, Head::None) => Some(true),
+        (Head::None, Head::Unfold { .. }) => Some(false),
+        (Head::Unfold { line: l, .. }, Head::Unfold { line: r, .. }) => Some(l >= r),
+    }
+}
+
+/// Compares the parts of sides that are not identical and have the same first cell.
+fn parts<const PARTS_FIRST: bool>(
+    left: &[Cell], right: &[Cell], deeper: &mut [(Versions, Versions)], book: &Book, budget: &mut Budget,
+) -> Result<(), Refusal> {
     if deeper.is_empty() {
+        budget.notes.too_deep = true;
         return Err(Refusal::TooLarge);
     }
     let (mut l, mut r) = (1, 1);
@@ -174,7 +212,7 @@ fn differing(
         let left_end = cells::end(left, l, book.lines);
         let right_end = cells::end(right, r, book.lines);
         if left[l..left_end] != right[r..right_end] {
-            differing(&left[l..left_end], &right[r..right_end], deeper, book, budget)?;
+            differing::<PARTS_FIRST>(&left[l..left_end], &right[r..right_end], deeper, book, budget)?;
         }
         (l, r) = (left_end, right_end);
     }

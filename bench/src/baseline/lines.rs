@@ -1,6 +1,6 @@
 //! What is kept of the accepted lines, and their contexts.
 
-use crate::sizes::Cell;
+use crate::sizes::{Cell, ROW_WIDTH};
 
 #[derive(Clone, Copy, Debug, PartialEq, Eq)]
 #[repr(u8)]
@@ -8,6 +8,12 @@ pub enum Kind {
     Variable = 0,
     Primitive = 1,
     Abbreviation = 2,
+}
+
+impl Kind {
+    fn of_row(cell: u32) -> Self {
+        [Kind::Variable, Kind::Primitive, Kind::Abbreviation][cell as usize]
+    }
 }
 
 struct Line {
@@ -49,6 +55,17 @@ impl Lines {
     pub fn new() -> Self {
         let none = Line { middle: 0, category: 0, end: 0, context: 0, extended: NOWHERE };
         Lines { lines: vec![none], kinds: vec![Kind::Primitive], lengths: vec![0], contexts: Vec::new() }
+    }
+
+    /// The lines that have these rows.
+    pub fn of_rows(rows: &[u32]) -> Self {
+        let mut lines = Lines::new();
+        for row in rows.as_chunks::<ROW_WIDTH>().0 {
+            let [_, _, indicator, _, kind, middle, category, end, _] = *row;
+            let context = lines.extend(indicator);
+            lines.push(Kind::of_row(kind), context, [middle, category, end].map(|place| place as usize));
+        }
+        lines
     }
 
     pub fn count(&self) -> usize {

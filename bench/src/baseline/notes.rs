@@ -27,6 +27,24 @@ pub struct Faults {
     pub constant_indicator: bool,
 }
 
+/// What was met in comparisons of expressions.
+#[derive(Clone, Copy, Debug, Default)]
+pub struct PairNotes {
+    /// Attempts of the second comparison, at parts ahead of a head step, that failed.
+    pub failed: u32,
+    /// Those of them in which head steps were made.
+    pub failed_with_steps: u32,
+    /// Whether a pair would have been opened too deep.
+    pub too_deep: bool,
+}
+
+impl PairNotes {
+    pub(super) fn fail(&mut self, steps: u32) {
+        self.failed += 1;
+        self.failed_with_steps += u32::from(steps > 0);
+    }
+}
+
 impl Notes {
     /// Notes a line that is refused for the first of these faults.
     pub(super) fn refused(&mut self, refusal: Refusal, faults: &[Option<Refusal>], line: &Line, limit: usize) {
