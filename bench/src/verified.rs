@@ -1,6 +1,7 @@
-//! The verified program, linked from its archive.
+//! The verified program, linked from its archives.
 
-use crate::sizes::{Cell, NarrowCell};
+use crate::pairs::{Compared, Order};
+use crate::sizes::{Cell, NarrowCell, LEFT_UNIT, RIGHT_UNIT};
 use crate::stores::Stores;
 use crate::{Answer, Outcome};
 
@@ -34,6 +35,20 @@ extern "C" {
     ) -> Answer;
     fn aut68_widen(source: *const NarrowCell, source_length: usize, target: *mut Cell, target_length: usize) -> Answer;
     fn aut68_narrow(source: *const Cell, source_length: usize, target: *mut NarrowCell, target_length: usize) -> Answer;
+    fn comparison_first(
+        table: *const u32, table_length: usize,
+        terms: *const Cell, terms_length: usize,
+        work: *mut Cell, work_length: usize,
+        limit: usize, budget: u32,
+        left: usize, right: usize,
+    ) -> Compared;
+    fn comparison_parts_first(
+        table: *const u32, table_length: usize,
+        terms: *const Cell, terms_length: usize,
+        work: *mut Cell, work_length: usize,
+        limit: usize, budget: u32,
+        left: usize, right: usize,
+    ) -> Compared;
 }
 
 pub fn check(book: &[u8], budget: u32, limit: u32, stores: &mut Stores) -> Outcome {
@@ -80,4 +95,20 @@ pub fn widen(source: &[NarrowCell], target: &mut [Cell]) -> Answer {
 pub fn narrow(source: &[Cell], target: &mut [NarrowCell]) -> Answer {
     // Sound: as above.
     unsafe { aut68_narrow(source.as_ptr(), source.len(), target.as_mut_ptr(), target.len()) }
+}
+
+/// Compares two expressions that stand in the working store, over what the check of an accepted book left.
+pub fn compare(order: Order, limit: usize, budget: u32, stores: &mut Stores) -> Compared {
+    let Stores { table, terms, work, .. } = stores;
+    let comparison = match order {
+        Order::StepsFirst => comparison_first,
+        Order::PartsFirst => comparison_parts_first,
+    };
+    // Sound: as above.
+    unsafe {
+        comparison(
+            table.as_ptr(), table.len(), terms.as_ptr(), terms.len(), work.as_mut_ptr(), work.len(), limit, budget,
+            LEFT_UNIT * limit, RIGHT_UNIT * limit,
+        )
+    }
 }
