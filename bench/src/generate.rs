@@ -2,6 +2,7 @@
 
 mod deep;
 mod names;
+mod pairs;
 mod paragraphs;
 mod sections;
 mod steps;
@@ -11,6 +12,7 @@ use std::borrow::Borrow;
 
 use crate::random::Random;
 use crate::sizes::MOST_BYTES;
+pub use pairs::PairKind;
 
 /// What stands outside the paragraphs of a book, ahead of them.
 const NUMBERS: &str = "

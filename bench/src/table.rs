@@ -5,12 +5,12 @@ mod turns;
 
 use std::time::{Duration, Instant};
 
-use crate::generate::{self, Kind};
+use crate::generate::{self, Kind, PairKind};
 use crate::sizes::{LARGEST_LIMIT, MOST_LINES, NARROW_LINES, PAGE_ROW};
 use crate::stores::Stores;
 use crate::Outcome;
-use measure::{Checked, Given};
-use turns::{least, median, milliseconds, timed, Repetition};
+use measure::{Checked, Comparing, Given};
+use turns::{least, median, milliseconds, timed};
 
 const SEED: u64 = 1;
 
@@ -23,14 +23,19 @@ const CALLED_LINES: usize = 8_000;
 const LIMITS: [u32; 6] = [4_096, 2_048, 1_024, 512, 256, 128];
 const LIMITED: [(Kind, usize); 4] =
     [(Kind::Theories, 11_000), (Kind::Theories, MOST_LINES), (Kind::Paragraphs, 11_000), (Kind::Sections, 11_000)];
-const FEW: Repetition = Repetition { time: Duration::from_millis(600), least: 3, most: 21 };
+
+/// The lengths of the pairs that are compared, and their budget.
+const PAIR_LENGTHS: [usize; 6] = [4, 8, 12, 16, 20, 24];
+const PAIR_BUDGET: u32 = 1_000_000;
+const PAIR_LIMIT: u32 = 1_024;
+
 const TIME_TO_PROFILE: Duration = Duration::from_secs(2);
 
 pub type Check = fn(&[u8], u32, u32, &mut Stores) -> Outcome;
 
 /// Prints the tables; false if some book is not accepted by both with the same rows and cells.
 pub fn print() -> bool {
-    [ratios, lengths, limits, resting, printing].iter().all(|table| table().is_some())
+    [ratios, lengths, limits, resting, printing, pairs, orders].iter().all(|table| table().is_some())
 }
 
 /// The book of a kind with so many lines, or as many as there is room for, and how many it has.
@@ -125,7 +130,7 @@ fn limits() -> Option<()> {
         let (book, lines) = book(kind, lines);
         let mut columns = Columns::default();
         for limit in LIMITS {
-            let checked = measure::check(&Given { title: kind.title(), book: &book, lines, limit }, &FEW)?;
+            let checked = measure::check(&Given { title: kind.title(), book: &book, lines, limit }, &measure::FEW)?;
             columns.add(limit as usize, lines, &checked, [Duration::ZERO; 2]);
         }
         columns.print(kind.title(), &format!("{lines}, L"));
@@ -159,6 +164,40 @@ fn printing() -> Option<()> {
             milliseconds(m.verified.second), m.verified.ratio, m.verified.surplus, m.baseline.surplus,
             m.verified.surplus / m.baseline.surplus,
         );
+    }
+    Some(())
+}
+
+/// What each comparison takes on pairs of growing length.
+fn pairs() -> Option<()> {
+    println!("\npairs by the first comparison and by the second, L = {PAIR_LIMIT}, at most {PAIR_BUDGET} steps; us verified, and its");
+    println!("ratio to the baseline");
+    println!("pair       length{}", "  code    steps          us   ratio".repeat(2));
+    for kind in PairKind::ALL {
+        for length in PAIR_LENGTHS {
+            let book = kind.book(length);
+            let lines = generate::count_lines(&book);
+            let comparings = measure::pair(&Given { title: kind.title(), book: &book, lines, limit: PAIR_LIMIT }, PAIR_BUDGET)?;
+            print!("{:<11}{length:>6}", kind.title());
+            for Comparing { compared, turns, calls } in comparings {
+                let time = milliseconds(turns.first) * 1e3 / f64::from(calls);
+                print!("{:>6}{:>9}{time:>12.3}{:>8.2}", compared.code, PAIR_BUDGET - compared.budget, turns.ratio);
+            }
+            println!();
+        }
+    }
+    Some(())
+}
+
+/// What the check of a book would take with the second comparison.
+fn orders() -> Option<()> {
+    println!("\nsteps of the check, and of the baseline's with the second comparison in the place of the first, and its code");
+    println!("book         lines    first   second  quotient  code");
+    for kind in Kind::short() {
+        let (book, lines) = book(kind, NARROW_LINES);
+        let [first, second] = measure::orders(&Given { title: kind.title(), book: &book, lines, limit: kind.limit() })?;
+        let quotient = if first.steps == 0 { 1.0 } else { second.steps as f64 / first.steps as f64 };
+        println!("{:<11}{lines:>7}{:>9}{:>9}{quotient:>10.2}{:>6}", kind.title(), first.steps, second.steps, second.code);
     }
     Some(())
 }

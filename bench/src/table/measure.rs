@@ -1,12 +1,16 @@
 //! The measured calls. Both programs must agree before a time is taken.
 
-use std::time::Duration;
+use std::hint::black_box;
+use std::time::{Duration, Instant};
 
-use super::turns::{by_turns, cut, stores, timed, Repetition, Turns};
+use super::turns::{by_turns, cut, repeated, stores, timed, Repetition, Turns};
+use crate::baseline::Accepted;
+use crate::pairs::{Compared, Order, Pair};
 use crate::stores::Stores;
 use crate::{baseline, verified, Outcome};
 
 pub const MANY: Repetition = Repetition { time: Duration::from_millis(1_200), least: 11, most: 101 };
+pub const FEW: Repetition = Repetition { time: Duration::from_millis(600), least: 3, most: 21 };
 /// A check that takes longer is not repeated.
 const LONGEST_REPEATED: Duration = Duration::from_secs(2);
 
@@ -31,6 +35,20 @@ impl Given<'_> {
         baseline::check(self.book, u32::MAX, self.limit, stores)
     }
 
+    /// What both checks leave, and their times, if they agree and the book is accepted.
+    fn checked(&self) -> Option<(Outcome, [Stores; 2], [Duration; 2])> {
+        let mut ours = self.stores();
+        let mut theirs = self.stores();
+        let (outcome, our_time) = timed(&mut ours, |s| self.verified(s));
+        let (other, their_time) = timed(&mut theirs, |s| self.baseline(s));
+        let alike = ours == theirs;
+        if outcome != other || !alike || outcome.code != 0 {
+            self.differs("check", format!("{outcome:?} verified, {other:?} baseline, stores alike: {alike}"));
+            return None;
+        }
+        Some((outcome, [ours, theirs], [our_time, their_time]))
+    }
+
     fn differs(&self, what: &str, how: String) {
         println!("{}, {} lines, limit {}, {what}: {how}", self.title, self.lines, self.limit);
     }
@@ -44,15 +62,7 @@ pub struct Checked {
 
 /// Checks that both agree on the book, then times them by turns.
 pub fn check(given: &Given, repetition: &Repetition) -> Option<Checked> {
-    let mut ours = given.stores();
-    let mut theirs = given.stores();
-    let (outcome, our_time) = timed(&mut ours, |s| given.verified(s));
-    let (other, their_time) = timed(&mut theirs, |s| given.baseline(s));
-    if outcome != other || ours != theirs || outcome.code != 0 {
-        let alike = ours == theirs;
-        given.differs("check", format!("{outcome:?} verified, {other:?} baseline, stores alike: {alike}"));
-        return None;
-    }
+    let (outcome, [mut ours, _], [our_time, their_time]) = given.checked()?;
     if our_time > LONGEST_REPEATED {
         return Some(Checked { outcome, turns: Turns::of(&[(our_time, their_time)]) });
     }
@@ -120,4 +130,54 @@ pub fn pages(given: &Given) -> Option<Printing> {
         &MANY, &mut ours, |s| baseline::pages(book, u32::MAX, limit, s, &mut page), |s| given.baseline(s),
     );
     Some(Printing { length: answer.length, verified, baseline })
+}
+
+/// A comparison by both programs.
+pub struct Comparing {
+    pub compared: Compared,
+    pub turns: Turns,
+    /// So many calls are made in a turn.
+    pub calls: u32,
+}
+
+/// A turn has as many calls as take this long, or this many.
+const TURN: Duration = Duration::from_micros(500);
+const MOST_CALLS: u128 = 4_096;
+
+/// Checks that both agree on the middles of the book's last two lines, then times them by turns; by each comparison.
+pub fn pair(given: &Given, budget: u32) -> Option<[Comparing; 2]> {
+    let (_, [mut ours, theirs], _) = given.checked()?;
+    let limit = given.limit as usize;
+    let pair = Pair::of_last_lines(given.lines, &theirs);
+    pair.put(&mut ours.work, limit);
+    let mut accepted = Accepted::new(given.lines, &theirs);
+    let [first, second] = Order::BOTH.map(|order| {
+        let mut verified = || verified::compare(order, limit, budget, &mut ours);
+        let mut baseline = || accepted.compare(order, &pair, limit, budget).0;
+        let start = Instant::now();
+        let (compared, other) = (verified(), baseline());
+        let calls = (TURN.as_nanos() / start.elapsed().as_nanos().max(1)).clamp(1, MOST_CALLS) as u32;
+        if compared != other {
+            given.differs("pair", format!("{order:?}: {compared:?} verified, {other:?} baseline"));
+            return None;
+        }
+        let turns = repeated(&FEW, || (timed_calls(calls, &mut verified), timed_calls(calls, &mut baseline)));
+        Some(Comparing { compared, turns, calls })
+    });
+    Some([first?, second?])
+}
+
+fn timed_calls(calls: u32, mut call: impl FnMut() -> Compared) -> Duration {
+    let start = Instant::now();
+    for _ in 0..calls {
+        black_box(call());
+    }
+    start.elapsed()
+}
+
+/// The check of a book, which both programs agree on, and its check with the second comparison in the place of the first.
+pub fn orders(given: &Given) -> Option<[Outcome; 2]> {
+    let (outcome, [_, mut stores], _) = given.checked()?;
+    let (other, _) = timed(&mut stores, |s| baseline::check_parts_first(given.book, u32::MAX, given.limit, s));
+    Some([outcome, other])
 }
