@@ -6,20 +6,24 @@ mod closed;
 mod comparison;
 mod divided;
 mod division;
+mod expressions;
 mod flat;
 mod largest;
 mod layout;
 mod many;
 mod mutate;
+mod pairs;
 mod place;
 mod printed;
 mod situations;
 mod spoiled;
+mod stored;
 mod text;
 mod theory;
 mod trees;
 mod typed;
 mod widths;
+mod worked;
 
 use std::path::Path;
 use std::time::{Duration, Instant};
@@ -37,8 +41,8 @@ const LONGEST: Duration = Duration::from_secs(110);
 /// So many books are made from one.
 const BOOKS_FROM_ONE: usize = 15;
 
-/// Prints how often each code, and each situation of refused and of completed lines, of paragraphs, of lists, of pages and of narrowed
-/// shelves, was met; false if there was a difference, or one of these was not met.
+/// Prints how often each code, and each situation of refused and of completed lines, of paragraphs, of lists, of pages, of narrowed
+/// shelves and of pairs, was met; false if there was a difference, or one of these was not met.
 pub fn run() -> bool {
     let start = Instant::now();
     let mut comparison = Comparison::default();
@@ -51,6 +55,8 @@ pub fn run() -> bool {
         comparison.whole_pages(&book, &call, &outcome);
     }
     comparison.shelves();
+    comparison.worked_pairs();
+    comparison.pairs_of_table();
     let written = written_books();
     let mut books = 0;
     while books < BOOKS && start.elapsed() < LONGEST {

@@ -43,7 +43,8 @@ pub fn narrow_pattern(at: usize) -> NarrowCell {
     cell_pattern(at) as NarrowCell
 }
 
-fn filled<T>(store: &mut Vec<T>, length: usize, pattern: fn(usize) -> T) {
+/// Makes a store so long and puts in every cell what stands there before a call.
+pub fn filled<T>(store: &mut Vec<T>, length: usize, pattern: fn(usize) -> T) {
     store.clear();
     store.extend((0..length).map(pattern));
 }

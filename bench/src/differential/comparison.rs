@@ -1,6 +1,7 @@
 //! The verified program and the baseline on the same calls, and what they leave in every cell.
 
 use super::calls::{pattern, Call, Question};
+use super::pairs::Pairs;
 use super::printed::Printed;
 use super::situations::Situations;
 use super::widths::Widths;
@@ -37,15 +38,17 @@ pub struct Comparison {
     unfit: usize,
     pub(super) printed: Printed,
     pub(super) widths: Widths,
+    pub(super) pairs: Pairs,
     steps: u64,
     differences: usize,
 }
 
 impl Comparison {
-    /// Compares the checks of a book, then on some books what a line rests on, and their pages.
+    /// Compares the checks of a book, then on some books pairs of expressions, what a line rests on, and their pages.
     pub fn compare(&mut self, random: &mut Random, book: &[u8], call: &Call) {
         let outcome = self.check(book, call);
         self.shelf_of_some_books(&outcome);
+        self.pairs_of_some_books(book, &outcome);
         if random.once_in(if outcome.code == 0 { 2 } else { REFUSED_ASKED }) {
             let question = Question::new(random, &outcome, &self.theirs);
             self.rests_on(book, call, &outcome, question);
@@ -118,7 +121,7 @@ impl Comparison {
 
     /// Prints the counts; true if there was no difference and each code and each situation was met.
     pub fn report(&self) -> bool {
-        println!("code    check rests_on    pages    widen   narrow");
+        println!("code    check rests_on    pages    widen   narrow    first   second");
         for code in 0..CODES {
             print!("{code:>4}");
             self.calls().iter().for_each(|(counts, _)| print!(" {:>8}", counts[code]));
@@ -134,7 +137,7 @@ impl Comparison {
         println!("5 for a constant as indicator: {}", self.constant_indicators);
         let divisions = ("accepted books divided into paragraphs, with the same cells", self.divisions);
         let others = self.situations.counts().chain([divisions]).chain(self.printed.counts()).chain(self.widths.counts());
-        let others: Vec<_> = others.collect();
+        let others: Vec<_> = others.chain(self.pairs.counts()).collect();
         for (what, count) in &others {
             println!("{what}: {count}");
         }
@@ -145,13 +148,15 @@ impl Comparison {
     }
 
     /// How often each call gave each code, and the codes that it can give.
-    fn calls(&self) -> [(&[usize; CODES], fn(usize) -> bool); 5] {
+    fn calls(&self) -> [(&[usize; CODES], fn(usize) -> bool); 7] {
         [
             (&self.codes, |code| code <= 12 || code == 14 || code == 17),
             (&self.answers, |code| code <= 14 || code == 17),
             (&self.printed.codes, |code| code <= 12 || code == 14 || code == 15 || code == 17),
             (&self.widths.widened, |code| code == 0 || code == 15),
             (&self.widths.narrowed, |code| code == 0 || code == 15 || code == 16),
+            (&self.pairs.codes[0], |code| matches!(code, 0 | 9 | 10 | 11)),
+            (&self.pairs.codes[1], |code| matches!(code, 0 | 9 | 10 | 11)),
         ]
     }
 

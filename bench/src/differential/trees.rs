@@ -32,6 +32,45 @@ impl Tree {
         }
     }
 
+    /// How many cells it has.
+    pub fn size(&self) -> usize {
+        match self {
+            Constant(_, arguments) => 1 + arguments.iter().map(Tree::size).sum::<usize>(),
+            Application(a, b) | Abstraction(a, b) => 1 + a.size() + b.size(),
+            _ => 1,
+        }
+    }
+
+    /// The part whose first cell has this number, and how many bindings are around it. Where there is none, the number is left as one
+    /// behind the tree.
+    pub fn part(&mut self, number: &mut usize, depth: usize) -> Option<(&mut Tree, usize)> {
+        if *number == 0 {
+            return Some((self, depth));
+        }
+        *number -= 1;
+        match self {
+            Constant(_, arguments) => arguments.iter_mut().find_map(|a| a.part(number, depth)),
+            Application(a, b) => a.part(number, depth).or_else(|| b.part(number, depth)),
+            Abstraction(a, b) => a.part(number, depth).or_else(|| b.part(number, depth + 1)),
+            _ => None,
+        }
+    }
+
+    /// Whether all its bound variables are bound in it.
+    pub fn is_closed(&self) -> bool {
+        self.closed_within(0)
+    }
+
+    fn closed_within(&self, depth: usize) -> bool {
+        match self {
+            Bound(i) => *i < depth,
+            Constant(_, arguments) => arguments.iter().all(|a| a.closed_within(depth)),
+            Application(a, b) => a.closed_within(depth) && b.closed_within(depth),
+            Abstraction(a, b) => a.closed_within(depth) && b.closed_within(depth + 1),
+            _ => true,
+        }
+    }
+
     pub fn lift(&self, by: usize) -> Tree {
         self.map(0, &|t, depth| match t {
             Bound(i) if *i >= depth => Bound(i + by),

@@ -1,0 +1,103 @@
+//! Pairs whose codes and steps were worked out by hand.
+
+use super::calls::Call;
+use super::comparison::Comparison;
+use super::pairs::Bounds;
+use crate::baseline::{cells, Accepted};
+use crate::pairs::{Order, Pair};
+use crate::sizes::{Cell, NESTING};
+
+const BOOK: &str = "\
+*nat:=PN:type
+*one:=PN:nat
+*n:=EB:nat
+n*suc:=PN:nat
+*two:=suc(one):nat
+n*dbl:=suc(suc(n)):nat
+n*big:=dbl(dbl(dbl(dbl(n)))):nat
+*F:=[x,nat]nat:type
+*add2:=[x,nat]suc(suc(x)):F
+n*k:=one:nat
+n*m:=EB:nat
+m*fst:=n:nat
+*f:=EB:F
+f*tw:=[x,nat]<<x>f>f:F
+";
+const LIMIT: u32 = 128;
+
+/// A pair, one word a cell; the budget; and the code and the steps of the first comparison, then of the second.
+struct Worked {
+    left: String,
+    right: String,
+    budget: u32,
+    ends: [(u32, u32); 2],
+}
+
+fn pairs() -> Vec<Worked> {
+    let worked = |left: &str, right: &str, budget, ends| Worked { left: left.to_string(), right: right.to_string(), budget, ends };
+    let deep = |inner: &str| "suc ".repeat(NESTING - 1) + inner;
+    let endless = |domain: &str| format!("< [ {domain} < x x [ {domain} < x x");
+    vec![
+        // The arguments agree after one step.
+        worked("big two", "big suc one", 1000, [(0, 11), (0, 1)]),
+        worked("big two", "big suc one", 1, [(11, 1), (0, 1)]),
+        worked("big two", "big two", 1000, [(0, 0), (0, 0)]),
+        // The argument is ignored; the step of the attempt that fails stays counted.
+        worked("k one", "k two", 1000, [(0, 2), (0, 3)]),
+        worked("k one", "k two", 2, [(0, 2), (11, 2)]),
+        worked("dbl one", "dbl two", 1000, [(9, 3), (9, 4)]),
+        worked("fst two one", "fst suc one two", 1000, [(0, 3), (0, 5)]),
+        worked("< two add2", "< suc one add2", 1000, [(0, 5), (0, 1)]),
+        worked("< one [ nat one", "< two [ nat one", 1000, [(0, 2), (0, 3)]),
+        // Neither side has a head step.
+        worked("< one f", "< suc one f", 1000, [(9, 0), (9, 0)]),
+        worked("< one f", "< two f", 1000, [(9, 1), (9, 1)]),
+        worked("dbl one", "< one add2", 1000, [(0, 3), (0, 3)]),
+        // An attempt inside an attempt.
+        worked("dbl k one", "dbl k two", 1000, [(0, 4), (0, 3)]),
+        worked(&endless("nat"), &endless("nat"), 1000, [(0, 0), (0, 0)]),
+        worked(&endless("nat"), &endless("F"), 50, [(11, 50), (11, 50)]),
+        worked("type", "type", 1000, [(0, 0), (0, 0)]),
+        worked("type", "nat", 1000, [(9, 0), (9, 0)]),
+        // The second opens depth 33.
+        worked(&deep("< one [ nat one"), &deep("< suc one [ nat one"), 1000, [(0, 2), (10, 0)]),
+    ]
+}
+
+fn cell(word: &str) -> Cell {
+    let named = |(line, text): (usize, &str)| {
+        let (_, rest) = text.split_once('*')?;
+        let (_, behind) = rest.split_once(":=").filter(|(name, _)| *name == word)?;
+        let kind = if behind.starts_with("EB") { cells::VARIABLE } else { cells::CONSTANT };
+        Some(cells::cell(kind, line as Cell + 1))
+    };
+    match word {
+        "type" => cells::TYPE,
+        "<" => cells::APPLICATION,
+        "[" => cells::ABSTRACTION,
+        "x" => cells::cell(cells::BOUND, 0),
+        _ => BOOK.lines().enumerate().find_map(named).expect("a name of the book"),
+    }
+}
+
+fn side(words: &str) -> Vec<Cell> {
+    words.split(' ').map(cell).collect()
+}
+
+impl Comparison {
+    /// Both programs must give what was worked out.
+    pub fn worked_pairs(&mut self) {
+        let book = BOOK.as_bytes();
+        let outcome = self.check(book, &Call::ample(book, LIMIT));
+        let mut accepted = Accepted::new(outcome.recorded(), &self.theirs);
+        for Worked { left, right, budget, ends } in pairs() {
+            let pair = Pair { left: side(&left), right: side(&right) };
+            let compared = self.pair(book, &mut accepted, &pair, Bounds { limit: LIMIT as usize, budget });
+            for ((order, compared), end) in Order::BOTH.into_iter().zip(compared).zip(ends) {
+                if (compared.code, budget - compared.budget) != end {
+                    self.differ(book, &format!("{left} and {right}, {budget} steps: {order:?} {compared:?}, not {end:?}"));
+                }
+            }
+        }
+    }
+}
