@@ -13,9 +13,9 @@ use Rattle.aut68.specs.Procedure.PartsFirst.{partsFirst}
 use Rattle.calculus.specs.Resolved.{ResolvedLines, lines-closed}
 use Rattle.lookup.specs.Answers.{isDone, isStop, judged-done, judged-stop, Kept, Grows}
 use Rattle.agreement.specs.First.{differ, large, spent, refused-differ, Settles, SettlesEqual, compare-equal}
-use Rattle.agreement.specs.Settled.{partsFirst-settles}
+use Rattle.agreement.specs.Second.{partsFirst-settles}
 use Rattle.agreement.specs.GrowingFirst.{grows-compare}
-use Rattle.agreement.specs.Growing.{grows-partsFirst}
+use Rattle.agreement.specs.GrowingSecond.{grows-partsFirst}
 
 -- an answer that settles, with its code: 0 and X, 9 and not X, 10, 11
 data Coded (X : Type 0) : ℕ → Type 0 where

@@ -1,15 +1,9 @@
 -- One of the two sides.
-use Prim.Native.Nat.{ℕ}
 use Rattle.aut68.specs.Expr.{Expr}
 use Rattle.aut68.specs.Procedure.Compare.{Next, stepLeft, stepRight}
 
 pub data Which : Type 0 where
   theLeft theRight : Which
-
--- its number in the code
-abbrev pub number : Which → ℕ
-number theLeft = 1
-number theRight = 2
 
 abbrev pub pick : {A : Type 0} → Which → A → A → A
 pick theLeft x y = x

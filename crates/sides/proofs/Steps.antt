@@ -23,9 +23,9 @@ use Rattle.heads.specs.Posts.{HeadPost}
 use Rattle.heads.specs.declared.heads.Head.{Head}
 use Rattle.reduction.specs.Frames.{Framed, at-framed, framed-frame}
 use Rattle.reduction.specs.Posts.{StepPost}
-use Rattle.agreement.specs.Which.{Which, theLeft, theRight, number, pick, stepIn}
+use Rattle.agreement.specs.Which.{Which, theLeft, theRight, pick, stepIn}
 use Rattle.sides.specs.Posts.{Side, Pair, Placed, SaysIdentical, Chooses, Turned, identically, toParts, onward, tooFar, spent, Turns}
-use Rattle.sides.proofs.Turns.{next-same, next-choice, Choice, neither, chosen, choice}
+use Rattle.sides.proofs.Turns.{number, next-same, next-choice, Choice, neither, chosen, choice}
 use Rattle.sides.proofs.Heads.{head-numbered, head-some, StepIs, made, large, step-is}
 
 pub answered : {tb ts w : List ℕ} {limit l n r m : ℕ} {answer : Bool} → SaysIdentical w l n r m answer → (ls : Lines) (k : ℕ) (e f : Expr)

@@ -12,7 +12,7 @@ use Rattle.aut68.specs.Lines.{Lines}
 use Rattle.aut68.specs.Procedure.Answer.{done, stop, tooLarge, outOfBudget}
 use Rattle.aut68.specs.Procedure.HeadStep.{Head, noStep, beta, delta, headStep, left}
 use Rattle.aut68.specs.Procedure.Compare.{same, byParts, choose, next, Comparison, compareParts, sides}
-use Rattle.agreement.specs.Which.{Which, theLeft, theRight, number, pick, stepIn}
+use Rattle.agreement.specs.Which.{Which, theLeft, theRight, pick, stepIn}
 use Rattle.sides.specs.Posts.{Chooses}
 
 -- ---- by what comes next
@@ -61,6 +61,11 @@ module _ (ls : Lines) (L : ℕ) (e f : Expr) where
   next-choice q = rw (q, next)
 
 -- ---- the choice of a side
+
+-- the number of a side in the code
+abbrev pub number : Which → ℕ
+number theLeft = 1
+number theRight = 2
 
 -- the kind and the line of a head step, as numbers
 pub data Numbered (kind line : ℕ) : Head → Type 0 where

@@ -1,4 +1,4 @@
-// Head steps in two sides until they are identical or neither has one.
+// Two sides: whether they are identical, or have one shape; put in place; head steps until they are identical or neither has one.
 ghost use Rattle.sides.specs.Posts.{SaysIdentical, SaysSame, SaysShapes, Opens, Chooses, Turns, Settles};
 use cells::extent;
 use cells::kids;

@@ -1,4 +1,4 @@
--- Larger budgets and limits keep 0 and 9, with the same steps.
+-- Larger limits in the second comparison: a larger budget and limit keep 0 and 9, with the same steps.
 use mathlib.Core.Path.{_≡_, refl, ap}
 use mathlib.Core.Bool.{Bool, true, false}
 use Prim.Native.Nat.{ℕ, zero, suc, _+_, _-_, _≤_, _<_}
