@@ -5,13 +5,16 @@ use mathlib.Core.Bool.{Bool, true, false}
 use Prim.Native.Nat.{ℕ, zero, suc, _+_, _≤_}
 use native.Mathlib.Omega.{arith}
 use lib.Dec.{leb, eqb}
+use borrow.Author.Tests.{leb-true, leb-false}
 use Rattle.aut68.specs.Language.{Language}
 use Rattle.aut68.specs.Sizes.{nesting}
 use Rattle.aut68.specs.Expr.{Expr, Exprs, nil, cons, size, firstCell, parts}
 use Rattle.aut68.specs.Lines.{Lines}
 use Rattle.aut68.specs.Procedure.Answer.{done}
 use Rattle.aut68.specs.Procedure.Compare.{Next, same, byParts, stepLeft, stepRight, next, Comparison, each, hasSurplus, compareParts, sides, compareAt, compare}
-use Rattle.lookup.specs.Answers.{large-undecided, spent-undecided, Kept, Grows, grows-give, grows-refuse, grows-then, larger}
+use Rattle.lookup.specs.Answers.{large-undecided, spent-undecided, Kept, Grows, grows-give, grows-refuse, grows-then}
+use Rattle.agreement.specs.Which.{Which, theLeft, theRight, pick, stepIn}
+use Rattle.agreement.specs.Sides.{sides-same, sides-parts, sides-step, sides-large}
 
 grows-each : (deeper deeper′ : Comparison) → ((l r : Expr) → Grows (deeper l r) (deeper′ l r)) → (ls rs : Exprs) → Grows (each deeper ls rs) (each deeper′ ls rs)
 unfolding each
@@ -33,25 +36,6 @@ grows-parts language deeper deeper′ h l r = sure (hasSurplus language l r) ref
     sure true e = rw (e, compareParts) grows-give
     sure false e = at e (eqb (firstCell l) (firstCell r)) refl
 
-module _ (language : Language) (ls : Lines) (L : ℕ) (deeper : Comparison) (l r : Expr) where
-  sides-same : (b : ℕ) → next ls l r ≡ same → sides language ls L deeper l r b ≡ done tt b
-  unfolding sides
-  sides-same zero q = rw (q, sides)
-  sides-same (suc b) q = rw (q, sides)
-
-  sides-parts : (b : ℕ) → next ls l r ≡ byParts → sides language ls L deeper l r b ≡ compareParts language deeper l r b
-  unfolding sides
-  sides-parts zero q = rw (q, sides)
-  sides-parts (suc b) q = rw (q, sides)
-
-  sides-left : (b : ℕ) {l′ : Expr} → next ls l r ≡ stepLeft l′ → leb (size l′) L ≡ true → sides language ls L deeper l r (suc b) ≡ sides language ls L deeper l′ r b
-  unfolding sides
-  sides-left b q t = rw (q, t, sides)
-
-  sides-right : (b : ℕ) {r′ : Expr} → next ls l r ≡ stepRight r′ → leb (size r′) L ≡ true → sides language ls L deeper l r (suc b) ≡ sides language ls L deeper l r′ b
-  unfolding sides
-  sides-right b q t = rw (q, t, sides)
-
 module _ (language : Language) (ls : Lines) {L L′ : ℕ} (hL : L ≤ L′) where
   module _ (deeper deeper′ : Comparison) (h : (l r : Expr) → Grows (deeper l r) (deeper′ l r)) where
     sides-none : (c d : ℕ) → c ≡ 0 + d → (l r : Expr) (n : Next) → next ls l r ≡ n → Kept d (sides language ls L deeper l r zero) (sides language ls L′ deeper′ l r c)
@@ -61,22 +45,27 @@ module _ (language : Language) (ls : Lines) {L L′ : ℕ} (hL : L ≤ L′) whe
     sides-none c d e l r (stepLeft l′) q = rw (q, sides) (λ v. absurd (spent-undecided v))
     sides-none c d e l r (stepRight r′) q = rw (q, sides) (λ v. absurd (spent-undecided v))
 
+    -- a step in one of the sides
+    sides-stepped : (b c d : ℕ) (l r : Expr) (s : Which) (g : Expr) → next ls l r ≡ stepIn s g
+        → ((l r : Expr) → Kept d (sides language ls L deeper l r b) (sides language ls L′ deeper′ l r c))
+        → Kept d (sides language ls L deeper l r (suc b)) (sides language ls L′ deeper′ l r (suc c))
+    sides-stepped b c d l r s g q k = at (leb (size g) L) refl
+      where
+        at : (t : Bool) → leb (size g) L ≡ t → Kept d (sides language ls L deeper l r (suc b)) (sides language ls L′ deeper′ l r (suc c))
+        at true t =
+            let h : size g ≤ L = leb-true _ _ t in
+            rw (sides-step language ls L deeper l r s g q (suc b) b (omega arith) h, sides-step language ls L′ deeper′ l r s g q (suc c) c (omega arith) (omega arith))
+            (k (pick s g l) (pick s r g))
+        at false t = rw (sides-large language ls L deeper l r s g q (suc b) (omega arith) (leb-false _ _ t)) (λ v. absurd (large-undecided v))
+
     sides-some : (b c d : ℕ) → suc c ≡ suc b + d → (l r : Expr) (n : Next) → next ls l r ≡ n
         → ((l r : Expr) → Kept d (sides language ls L deeper l r b) (sides language ls L′ deeper′ l r c))
         → Kept d (sides language ls L deeper l r (suc b)) (sides language ls L′ deeper′ l r (suc c))
     unfolding sides
     sides-some b c d e l r same q k = rw (q, sides) (ap (done tt) e)
     sides-some b c d e l r byParts q k = rw (q, sides) ((grows-parts language deeper deeper′ h l r) .kept (suc b) (suc c) d e)
-    sides-some b c d e l r (stepLeft l′) q k = at (leb (size l′) L) refl
-      where
-        at : (t : Bool) → leb (size l′) L ≡ t → Kept d (sides language ls L deeper l r (suc b)) (sides language ls L′ deeper′ l r (suc c))
-        at true t = rw (sides-left language ls L deeper l r b q t, sides-left language ls L′ deeper′ l r c q (larger (size l′) hL t)) (k l′ r)
-        at false t = rw (q, t, sides) (λ v. absurd (large-undecided v))
-    sides-some b c d e l r (stepRight r′) q k = at (leb (size r′) L) refl
-      where
-        at : (t : Bool) → leb (size r′) L ≡ t → Kept d (sides language ls L deeper l r (suc b)) (sides language ls L′ deeper′ l r (suc c))
-        at true t = rw (sides-right language ls L deeper l r b q t, sides-right language ls L′ deeper′ l r c q (larger (size r′) hL t)) (k l r′)
-        at false t = rw (q, t, sides) (λ v. absurd (large-undecided v))
+    sides-some b c d e l r (stepLeft l′) q k = sides-stepped b c d l r theLeft l′ q k
+    sides-some b c d e l r (stepRight r′) q k = sides-stepped b c d l r theRight r′ q k
 
     sides-kept : (b c d : ℕ) → c ≡ b + d → (l r : Expr) → Kept d (sides language ls L deeper l r b) (sides language ls L′ deeper′ l r c)
     sides-kept zero c d e l r = sides-none c d e l r (next ls l r) refl

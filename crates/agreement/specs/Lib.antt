@@ -1,4 +1,6 @@
 -- The two comparisons: they find equality, so they agree where both end; larger limits; the loop of the second.
+pub mod Which
+pub mod Sides
 pub mod First
 pub mod GrowingFirst
 pub mod Attempts
@@ -6,5 +8,4 @@ pub mod Passes
 pub mod Second
 pub mod GrowingSecond
 pub mod Claims
-pub mod Which
 pub mod Turns

@@ -15,6 +15,7 @@ use Rattle.aut68.specs.Procedure.Answer.{Answer, done, stop, codeOf, mismatch, 
 use Rattle.aut68.specs.Procedure.Compare.{Next, next, Comparison, compareParts}
 use Rattle.aut68.specs.Procedure.PartsFirst.{differs, partsFirstAt}
 use Rattle.lookup.specs.Answers.{code-injective}
+use Rattle.agreement.specs.Sides.{next-same}
 use Rattle.agreement.specs.Turns.{Other, next-other, turn-same, turn-equal, turn-stands, turn-different, turn-spent, turn-large, turn-onward}
 use Rattle.cells.specs.Cells.{Outside}
 use Rattle.cells.specs.Layout.{unitAt, sideUnit}
@@ -24,7 +25,6 @@ use Rattle.heads.specs.Book.{Book}
 use Rattle.sides.specs.Posts.{Pair, Placed, SaysIdentical, Opens, Turned, Turns}
 use Rattle.sides.specs.Posts
 use Rattle.sides.proofs.Opening.{opened-identical}
-use Rattle.sides.proofs.Turns.{next-same}
 use Rattle.sides.proofs.Steps.{answered}
 use Rattle.sides.proofs.Progress.{Below, PutInPlace, Went, Progressed, progress-none, progress-then, placed-from, went-from, below-from}
 use Rattle.comparison.specs.Posts.{ComparesFirst, AttemptsParts}
@@ -84,7 +84,7 @@ module _ {limit deeper l r : ℕ} (O : Opened limit deeper l r) where
             result-is
             (opens ls e f budget
             ∙ turn-same ls limit (deeper - 1) e f budget
-            (next-same ls limit e f (opened-identical (unitAt limit (sideUnit deeper)) X q ls k e f B P)))
+            (next-same ls e f (opened-identical (unitAt limit (sideUnit deeper)) X q ls k e f B P)))
             (passed refl tt);
       };
     }
@@ -116,7 +116,7 @@ module _ {limit deeper l r : ℕ} (O : Opened limit deeper l r) where
       pub pass-same : answer ≡ true → ComparesFirst tb ts w limit budget a b deeper w₁ 0 rest
       pass-same q =
           from-now (omega arith) (λ _ _. outside-same) λ ls k e f B d p P x y.
-          result-is (turn-same ls limit (deeper - 1) e f rest (next-same ls limit e f (sym (answered S ls k e f B P x y) ∙ q))) (passed refl tt)
+          result-is (turn-same ls limit (deeper - 1) e f rest (next-same ls e f (sym (answered S ls k e f B P x y) ∙ q))) (passed refl tt)
 
       -- they are not: their parts are compared
       module _ (differ : answer ≡ false) {w₂ : List ℕ} {code rest₂ : ℕ} (A : AttemptsParts tb ts w₁ limit rest l r (deeper - 1) w₂ code rest₂)

@@ -16,7 +16,7 @@ use Rattle.terms.specs.Made.{noRoom}
 use Rattle.heads.specs.Heads.{HeadIs, no-head, contraction, unfolding-of}
 use Rattle.reduction.specs.Frames.{Lies}
 use Rattle.reduction.specs.Posts.{Stepped}
-use Rattle.sides.proofs.Turns.{Numbered, none, contracts, unfolds}
+use Rattle.sides.proofs.Choosing.{Numbered, none, contracts, unfolds}
 
 -- ---- known expressions
 

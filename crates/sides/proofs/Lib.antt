@@ -1,6 +1,6 @@
 -- Laws of the sides.
 pub mod Places
-pub mod Turns
+pub mod Choosing
 pub mod Heads
 pub mod Same
 pub mod Shapes

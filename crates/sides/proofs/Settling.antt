@@ -13,7 +13,7 @@ use Rattle.aut68.specs.Procedure.Compare.{Comparison, sides}
 use Rattle.sides.specs.Posts.{Opens, Turned, Turns, Goes, Settles}
 use Rattle.sides.specs.Posts
 use Rattle.sides.proofs.Opening.{opened-identical}
-use Rattle.sides.proofs.Turns.{sides-same, sides-parts, sides-spent, sides-step, sides-large, next-same}
+use Rattle.agreement.specs.Sides.{next-same, sides-same, sides-parts, sides-spent, sides-step, sides-large}
 use Rattle.sides.proofs.Progress.{Went, Progressed, progress-then, PutInPlace, placed-from, went-from, below-from}
 
 -- the first comparison of two sides under a limit, its parts compared by `inner`
@@ -26,7 +26,7 @@ pub settled-same : {tb ts w w′ : List ℕ} {limit budget a b l r n m : ℕ} {a
 settled-same {limit = limit} {budget} {l = l} O q = record {
   frame = λ h _. O .frame h;
   means = λ ls k e f B h p P.
-      Posts.Goes.identically refl λ d. sides-same ls limit e f budget d (next-same ls limit e f (opened-identical l O q ls k e f B P));
+      Posts.Goes.identically refl λ d. sides-same aut68 ls limit d e f budget (next-same ls e f (opened-identical l O q ls k e f B P));
 }
 
 module _ {tb ts w₀ w₁ w₂ : List ℕ} {limit budget l n₀ r m₀ n m rest state n′ m′ rest′ : ℕ}
@@ -39,7 +39,7 @@ module _ {tb ts w₀ w₁ w₂ : List ℕ} {limit budget l n₀ r m₀ n m rest 
       go ls k e f (Posts.identically o u q) = absurd (omega arith)
       go ls k e f (Posts.toParts o u q P) = absurd (omega arith)
       go ls k e f (Posts.onward s g o u q h P x y) =
-          record { e′ = _; f′ = _; pair = P; sizeLeft = x; sizeRight = y; goes = λ d. sides-step ls limit e f rest rest′ s d g u q h }
+          record { e′ = _; f′ = _; pair = P; sizeLeft = x; sizeRight = y; goes = λ d. sides-step aut68 ls limit d e f s g q rest rest′ u h }
       go ls k e f (Posts.tooFar s g o u v q h) = absurd (omega arith)
       go ls k e f (Posts.spent s g o u v q) = absurd (omega arith)
 
@@ -63,8 +63,8 @@ module _ {tb ts w₀ w₁ w₂ : List ℕ} {limit budget l n₀ r m₀ n m rest 
         goes-from q (Posts.Goes.spent z p) = Posts.Goes.spent z λ d. q d ∙ p d
 
         go : (ls : Lines) (k : ℕ) (e f : Expr) → Turned ls limit k w₂ l r e f rest state n′ m′ rest′ → Goes ls limit k w₂ l r e f rest state rest′
-        go ls k e f (Posts.identically o u q) = Posts.Goes.identically o λ d. rw u (sides-same ls limit e f rest d q)
-        go ls k e f (Posts.toParts o u q P) = Posts.Goes.toParts e f o P λ d. rw u (sides-parts ls limit e f rest d q)
+        go ls k e f (Posts.identically o u q) = Posts.Goes.identically o λ d. rw u (sides-same aut68 ls limit d e f rest q)
+        go ls k e f (Posts.toParts o u q P) = Posts.Goes.toParts e f o P λ d. rw u (sides-parts aut68 ls limit d e f rest q)
         go ls k e f (Posts.onward s g o u q h P x y) = absurd (z o)
-        go ls k e f (Posts.tooFar s g o u v q h) = Posts.Goes.tooFar o λ d. rw u (sides-large ls limit e f rest s d g v q h)
-        go ls k e f (Posts.spent s g o u v q) = Posts.Goes.spent o λ d. rw u (sides-spent ls limit e f rest s d g v q)
+        go ls k e f (Posts.tooFar s g o u v q h) = Posts.Goes.tooFar o λ d. rw u (sides-large aut68 ls limit d e f s g q rest v h)
+        go ls k e f (Posts.spent s g o u v q) = Posts.Goes.spent o λ d. rw u (sides-spent aut68 ls limit d e f s g q rest v)

@@ -25,7 +25,8 @@ use Rattle.reduction.specs.Frames.{Framed, at-framed, framed-frame}
 use Rattle.reduction.specs.Posts.{StepPost}
 use Rattle.agreement.specs.Which.{Which, theLeft, theRight, pick, stepIn}
 use Rattle.sides.specs.Posts.{Side, Pair, Placed, SaysIdentical, Chooses, Turned, identically, toParts, onward, tooFar, spent, Turns}
-use Rattle.sides.proofs.Turns.{number, next-same, next-choice, Choice, neither, chosen, choice}
+use Rattle.agreement.specs.Sides.{next-same}
+use Rattle.sides.proofs.Choosing.{number, next-choice, Choice, neither, chosen, choice}
 use Rattle.sides.proofs.Heads.{head-numbered, head-some, StepIs, made, large, step-is}
 
 pub answered : {tb ts w : List ℕ} {limit l n r m : ℕ} {answer : Bool} → SaysIdentical w l n r m answer → (ls : Lines) (k : ℕ) (e f : Expr)
@@ -40,7 +41,7 @@ turn-same {limit = limit} same q = record {
   spends = omega arith;
   counts = λ z. absurd (omega arith);
   frame = λ _ _. outside-same;
-  means = λ ls k e f B h p P x y. identically refl refl (next-same ls limit e f (sym (answered same ls k e f B P x y) ∙ q));
+  means = λ ls k e f B h p P x y. identically refl refl (next-same ls e f (sym (answered same ls k e f B P x y) ∙ q));
 }
 
 -- the sides differ, and the side of the next step is chosen
@@ -105,7 +106,7 @@ module _ (ts : List ℕ) (limit budget : ℕ) {tb w : List ℕ} {l n r m : ℕ} 
       record {
         headLeft = a;
         headRight = b;
-        nextIs = next-choice ls limit e f (sym (answered (D .same) ls k e f B P x y) ∙ D .differ);
+        nextIs = next-choice ls e f (sym (answered (D .same) ls k e f B P x y) ∙ D .differ);
         choiceIs = choice (D .chosen) (head-numbered ls e a) (head-numbered ls f b);
       }
 
