@@ -1,8 +1,6 @@
 // The second comparison, parts first: where a side has a head step, the parts of two sides of one shape are compared before it is taken.
 //
 // The sides stay where they are during such an attempt: what it opens lies above them.
-ghost use mathlib.Core.Path.{_≡_};
-ghost use Prim.Native.Nat.{ℕ, _≤_};
 ghost use Rattle.comparison.specs.Posts.{ComparesFirst, AttemptsParts};
 use crate::Compared;
 use cells::side_at;
