@@ -12,11 +12,11 @@ use Rattle.aut68.specs.Substitution.{lift, substitute, instantiate}
 use Rattle.aut68.specs.Lines.{Lines}
 use Rattle.aut68.specs.Procedure.Compare.{compare}
 use Rattle.aut68.specs.Procedure.Category.{Search, made, headForm, toFunction, secondChance, categoryAt, category}
-use Rattle.aut68.specs.Rules.Resolved.{Scoped, ConstantOf}
+use Rattle.aut68.specs.Rules.Resolved.{Scoped, ConstantOf, VariableLine, Known}
 use Rattle.lookup.specs.Answers.{Judged, isDone, isStop, judged-done, judged-map, judged-then}
 use Rattle.calculus.specs.Shapes.{shape-abs, false-not-true}
 use Rattle.calculus.specs.Scoped.{ScopedScope, ScopedCategory, scoped-category, category-under, category-substitute}
-use Rattle.calculus.specs.Resolved.{VariableLine, Known, KnownScope, KnownCategory, ResolvedLines, known-line}
+use Rattle.calculus.specs.Resolved.{KnownScope, KnownCategory, ResolvedLines, known-line}
 use Rattle.calculus.specs.Known.{known-category-steps, known-wanted}
 use Rattle.calculus.specs.Bindings.{over-scoped, bound-scoped}
 use Rattle.calculus.specs.Actions.{judged-line, nth-domain, made-judged}

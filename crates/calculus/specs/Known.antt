@@ -12,12 +12,12 @@ use Rattle.aut68.specs.Lines.{Line, Lines, lineOf}
 use Rattle.aut68.specs.Rules.Names.{IsLine, Member}
 use Rattle.aut68.specs.Rules.Steps.{Reduces}
 use Rattle.aut68.specs.Procedure.HeadStep.{headStep, left}
-use Rattle.aut68.specs.Rules.Resolved.{Scoped, ConstantOf, Resolved}
+use Rattle.aut68.specs.Rules.Resolved.{Scoped, ConstantOf, Resolved, VariableLine, Known}
 use Rattle.lookup.specs.LineNumbers.{line-lineOf, abbreviation-line}
 use Rattle.calculus.specs.Renaming.{arg, pick}
 use Rattle.calculus.specs.HeadForms.{head-step}
 use Rattle.calculus.specs.Scoped.{ScopedCategory, KeptMiddles, scoped-map, scoped-steps, category-step, category-steps, category-map, category-instantiate}
-use Rattle.calculus.specs.Resolved.{ResolvedLines, VariableLine, Known, AllKnown, KnownCategory, known-line}
+use Rattle.calculus.specs.Resolved.{ResolvedLines, AllKnown, KnownCategory, known-line}
 
 module _ (ls : Lines) (W : ResolvedLines ls) where
   -- the line of a constant's number

@@ -10,9 +10,8 @@ use Rattle.aut68.specs.Language.{aut68}
 use Rattle.aut68.specs.Expr.{Expr, Exprs, type, prop, var, bound, const, app, abs, nil, cons, sizes, firstCell, countExprs}
 use Rattle.aut68.specs.Lines.{Lines, rowCell}
 use Rattle.aut68.specs.Rules.Serving.{Basic, aType, aProp, itself}
-use Rattle.aut68.specs.Rules.Resolved.{Scoped, ConstantOf}
+use Rattle.aut68.specs.Rules.Resolved.{Scoped, ConstantOf, VariableLine}
 use Rattle.calculus.specs.Scoped.{scoped-ends}
-use Rattle.calculus.specs.Resolved.{VariableLine}
 use Rattle.calculus.specs.FoundKnown.{found-known}
 use Rattle.cells.specs.Forests.{at-first, at-inside, cells-long}
 use Rattle.cells.specs.Stores.{outside-same}

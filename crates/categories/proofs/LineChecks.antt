@@ -16,9 +16,9 @@ use Rattle.aut68.specs.Rules.Serving.{Supertype, IsType, theType, aSupertype}
 use Rattle.aut68.specs.Rules.Categories.{DomainAt}
 use Rattle.aut68.specs.Procedure.Compare.{compare}
 use Rattle.aut68.specs.Procedure.CheckLine.{checkWritten, checkMiddle}
-use Rattle.aut68.specs.Rules.Resolved.{ConstantOf}
+use Rattle.aut68.specs.Rules.Resolved.{ConstantOf, VariableLine, Known}
 use Rattle.calculus.specs.Scoped.{ScopedScope, category-cases}
-use Rattle.calculus.specs.Resolved.{VariableLine, Known, KnownCategory}
+use Rattle.calculus.specs.Resolved.{KnownCategory}
 use Rattle.cells.specs.Cells.{At, Outside, copyCells}
 use Rattle.cells.specs.Layout.{unitAt, levelUnit, unit-below}
 use Rattle.cells.specs.Forests.{size-is-length, cells-long, at-first, at-inside, at-behind}

@@ -8,7 +8,8 @@ use Rattle.aut68.specs.Language.{aut68}
 use Rattle.aut68.specs.Expr.{Expr, Exprs, size, sizes, cells, cellss, levels, levelss}
 use Rattle.aut68.specs.Lines.{Line, Lines, abbreviation, kindCells}
 use Rattle.aut68.specs.Rules.Serving.{Supertype, IsType}
-use Rattle.calculus.specs.Resolved.{Known, AllKnown, KnownScope, KnownCategory}
+use Rattle.aut68.specs.Rules.Resolved.{Known}
+use Rattle.calculus.specs.Resolved.{AllKnown, KnownScope, KnownCategory}
 use Rattle.cells.specs.Cells.{At}
 use Rattle.cells.specs.declared.scope.Scope.{Scope}
 use Rattle.levels.specs.Places.{ScopeHolds}

@@ -106,10 +106,10 @@ module _ (X : ℕ → Type 0) (C : ℕ → ℕ → Type 0) where
   formed-parts (abs p t) w = (w .0, (w .1, tt))
 
 -- the same as partsAfter, by kind and number
-partsOfKind : List ℕ → ℕ → ℕ → ℕ
+unfoldable pub partsOfKind : List ℕ → ℕ → ℕ → ℕ
 partsOfKind tb k v = elim (eqb k 3) [ true ↦ rowCell tb v atContext | false ↦ elim (eqb k 4) [ true ↦ 2 | false ↦ elim (eqb k 5) [ true ↦ 2 | false ↦ 0 ] ] ]
 
-parts-of-kind : (tb : List ℕ) (v k : ℕ) → k < cellFactor → partsAfter tb (cellFactor * v + k) ≡ partsOfKind tb k v
+pub parts-of-kind : (tb : List ℕ) (v k : ℕ) → k < cellFactor → partsAfter tb (cellFactor * v + k) ≡ partsOfKind tb k v
 unfolding partsAfter partsOfKind
 parts-of-kind tb v k h = ap₂ (partsOfKind tb) (kind-of v k h) (number-of v k h)
 

@@ -38,12 +38,18 @@ pub const CELL_TOO_LARGE: u32 = 16;
 
 pub const UNBALANCED: u32 = 17;
 
-// Why a call writes no answer: one on a book that was admitted, or one on a shelf.
+pub const NOT_WHOLE: u32 = 18;
+
+// Why a call gives another code than 0: one on a book that was admitted, or one on a shelf.
 pub enum Cause {
     NoSuchLine,
     AnswerTooLong,
     StoreTooSmall,
     CellTooLarge,
+    NotWhole,
+    Different,
+    TooLarge,
+    OutOfBudget,
 }
 
 // The code of a cause.
@@ -55,6 +61,10 @@ pub fn cause_code(cause: Cause) -> u32
         Cause::AnswerTooLong => OUT_OF_SPACE,
         Cause::StoreTooSmall => STORE_TOO_SMALL,
         Cause::CellTooLarge => CELL_TOO_LARGE,
+        Cause::NotWhole => NOT_WHOLE,
+        Cause::Different => MISMATCH,
+        Cause::TooLarge => TOO_LARGE,
+        Cause::OutOfBudget => OUT_OF_BUDGET,
     }
 }
 

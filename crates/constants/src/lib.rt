@@ -12,6 +12,7 @@ pub use codes::NO_SUCH_LINE;
 pub use codes::NOT_FUNCTION;
 pub use codes::NOT_IN_CONTEXT;
 pub use codes::NOT_TYPE;
+pub use codes::NOT_WHOLE;
 pub use codes::OUT_OF_BUDGET;
 pub use codes::OUT_OF_SPACE;
 pub use codes::Reason;

@@ -10,10 +10,10 @@ use Rattle.aut68.specs.Substitution.{substitute, instantiate}
 use Rattle.aut68.specs.Lines.{Line, Lines, Kind, variable, primitive, abbreviation, kindNumber, rowCell}
 use Rattle.aut68.specs.Rules.Names.{IsLine}
 use Rattle.aut68.specs.Procedure.HeadStep.{noStep, headStep}
-use Rattle.aut68.specs.Rules.Resolved.{Scoped, ConstantOf}
+use Rattle.aut68.specs.Rules.Resolved.{Scoped, ConstantOf, VariableLine, Known}
 use Rattle.lookup.specs.LineNumbers.{line-lineOf, primitive≢abbreviation, variable≢abbreviation}
 use Rattle.calculus.specs.Scoped.{ScopedCategory, scoped-category}
-use Rattle.calculus.specs.Resolved.{VariableLine, Known, KnownCategory}
+use Rattle.calculus.specs.Resolved.{KnownCategory}
 use Rattle.cells.specs.Cells.{AllFormed, At}
 use Rattle.cells.specs.Forests.{at-first, at-front, at-second, at-one, at-tail, cells-one, size-is-length, size-positive, number-of, kind-of}
 use Rattle.cells.specs.Posts.{Skipped}

@@ -7,9 +7,9 @@ use Rattle.aut68.specs.Sizes.{lineLimit, largestLimit}
 use Rattle.aut68.specs.Expr.{Expr, Exprs, type, prop, var, bound, const, app, abs, nil, cons, size, countExprs}
 use Rattle.aut68.specs.Lines.{Line, Lines, kindCells}
 use Rattle.aut68.specs.Rules.Names.{IsLine, Context}
-use Rattle.aut68.specs.Rules.Resolved.{Scoped, AllScoped, ConstantOf}
+use Rattle.aut68.specs.Rules.Resolved.{Scoped, AllScoped, ConstantOf, Known}
 use Rattle.calculus.specs.Scoped.{ScopedCategory}
-use Rattle.calculus.specs.Resolved.{Known, AllKnown, KnownCategory, ResolvedLines}
+use Rattle.calculus.specs.Resolved.{AllKnown, KnownCategory, ResolvedLines}
 use Rattle.cells.specs.Cells.{Formed, AllFormed, AnyVariable, RightCount, Wf, Wfs}
 use Rattle.cells.specs.Rows.{Rows, Stored}
 

@@ -7,10 +7,10 @@ use Rattle.aut68.specs.Sizes.{cellFactor}
 use Rattle.aut68.specs.Expr.{Expr, Exprs, type, prop, var, bound, const, app, abs, nil, cons, size, sizes, cells, cellss}
 use Rattle.aut68.specs.Lines.{Line, Lines, Kind, variable, primitive, abbreviation, kindCells, lineCells}
 use Rattle.aut68.specs.Rules.Names.{IsLine}
-use Rattle.aut68.specs.Rules.Resolved.{Scoped, AllScoped, ConstantOf}
+use Rattle.aut68.specs.Rules.Resolved.{Scoped, AllScoped, ConstantOf, VariableLine}
 use Rattle.lookup.specs.LineNumbers.{line-within}
 use Rattle.calculus.specs.Scoped.{ScopedCategory, scoped-category}
-use Rattle.calculus.specs.Resolved.{VariableLine, KnownCategory, ResolvedLines, resolved-known, known-line}
+use Rattle.calculus.specs.Resolved.{KnownCategory, ResolvedLines, resolved-known, known-line}
 use Rattle.cells.specs.Cells.{Below}
 use Rattle.cells.specs.Widths.{below-append}
 use Rattle.cells.specs.Forests.{size-positive, size-is-length}

@@ -9,10 +9,10 @@ use Rattle.aut68.specs.Substitution.{substitute, instantiate}
 use Rattle.aut68.specs.Lines.{Line, Lines, Kind, variable, primitive, abbreviation, lineOf}
 use Rattle.aut68.specs.Rules.Names.{IsLine}
 use Rattle.aut68.specs.Procedure.HeadStep.{Head, noStep, beta, delta, under, headStep, left}
-use Rattle.aut68.specs.Rules.Resolved.{Scoped}
+use Rattle.aut68.specs.Rules.Resolved.{Scoped, Known}
 use Rattle.lookup.specs.LineNumbers.{line-lineOf}
 use Rattle.calculus.specs.Scoped.{ScopedCategory}
-use Rattle.calculus.specs.Resolved.{Known, KnownCategory}
+use Rattle.calculus.specs.Resolved.{KnownCategory}
 use Rattle.cells.specs.Forests.{size-is-length}
 
 -- <A1>..<An>h

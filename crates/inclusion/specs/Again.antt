@@ -14,10 +14,10 @@ use Rattle.aut68.specs.Rules.Serving.{Basic, aType, aProp, Ends, itself, before
 use Rattle.aut68.specs.Rules.Categories.{DomainAt, HeadReduces, Category}
 use Rattle.aut68.specs.Rules.Categories
 use Rattle.aut68.specs.Procedure.HeadStep.{headStep, left}
-use Rattle.aut68.specs.Rules.Resolved.{Scoped, ConstantOf}
+use Rattle.aut68.specs.Rules.Resolved.{Scoped, ConstantOf, VariableLine, Known}
 use Rattle.lookup.specs.LineNumbers.{line-lineOf}
 use Rattle.calculus.specs.Scoped.{ScopedCategory, scoped-ends}
-use Rattle.calculus.specs.Resolved.{VariableLine, Known, KnownScope, KnownCategory, ResolvedLines}
+use Rattle.calculus.specs.Resolved.{KnownScope, KnownCategory, ResolvedLines}
 use Rattle.calculus.specs.Known.{known-category-steps}
 use Rattle.inclusion.specs.Knowing.{reaches-ends}
 use Rattle.calculus.specs.Bindings.{bound-scoped}

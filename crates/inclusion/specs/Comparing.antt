@@ -17,14 +17,14 @@ use Rattle.aut68.specs.Rules.Serving.{Basic, aType, aProp, Ends, itself, before
 use Rattle.aut68.specs.Rules.Serving
 use Rattle.aut68.specs.Procedure.HeadStep.{headStep, left}
 use Rattle.aut68.specs.Procedure.Compare.{Next, same, byParts, stepLeft, stepRight, next, Comparison, each, endsAs, hasSurplus, compareParts, sides, compareAt, compare}
-use Rattle.aut68.specs.Rules.Resolved.{Scoped, ConstantOf}
+use Rattle.aut68.specs.Rules.Resolved.{Scoped, ConstantOf, VariableLine, Known}
 use Rattle.calculus.specs.Reductions.{steps-one, steps-eq}
 use Rattle.calculus.specs.Equality.{Equals, equalNone, equalMore, equal-path, equal-steps, equal-sym, equal-trans, abs-steps}
 use Rattle.calculus.specs.Shapes.{decoded, decode, decoded-is, false-not-true}
 use Rattle.calculus.specs.Next.{NextIs, isSame, isParts, isLeft, isRight, next-is}
 use Rattle.calculus.specs.HeadForms.{HeadNormal, habs, hneutral, Neutral, ntype, nprop, nvar, nbound, nconst, napp, head-step, head-none, normal-steps, parts-equal, equal-parts}
 use Rattle.calculus.specs.Scoped.{ScopedCategory, scoped-category}
-use Rattle.calculus.specs.Resolved.{VariableLine, Known, AllKnown, KnownCategory, ResolvedLines, lines-closed}
+use Rattle.calculus.specs.Resolved.{AllKnown, KnownCategory, ResolvedLines, lines-closed}
 use Rattle.lookup.specs.Answers.{Judged, isDone, isStop, Finding, differ, large, spent, finding-map, judged-map, judged-then, judged-sized}
 use Rattle.inclusion.specs.Serves.{equal-serves, path-serves, ends-serves, serves-abs, equal-then-serves, serves-then-equal, serves-reached}
 use Rattle.calculus.specs.Known.{known-category-steps}

@@ -10,7 +10,7 @@ use Rattle.aut68.specs.Lines.{Line, Lines}
 use Rattle.aut68.specs.Rules.Names.{IsLine}
 use Rattle.aut68.specs.Rules.Steps.{Reduces, Equal}
 use Rattle.aut68.specs.Rules.Serving.{Basic, itself, Supertype, Serves, IsType}
-use Rattle.aut68.specs.Rules.Resolved.{ConstantOf, Resolved}
+use Rattle.aut68.specs.Rules.Resolved.{ConstantOf, Resolved, VariableLine, Known}
 use Rattle.lookup.specs.LineNumbers.{line-unique}
 use Rattle.lookup.specs.Contexts.{RightContexts}
 use Rattle.calculus.specs.Equality.{equal-sym, equal-trans, equal-steps, equal-after, equal-abs-inv, abs-steps}
@@ -18,7 +18,7 @@ use Rattle.calculus.specs.HeadForms.{HeadNormal, habs, hneutral, Neutral, IsAbs
 use Rattle.calculus.specs.Parallel.{ClosedMiddles}
 use Rattle.calculus.specs.HeadFirst.{HeadFirst, head-first}
 use Rattle.calculus.specs.Scoped.{scoped-ends}
-use Rattle.calculus.specs.Resolved.{VariableLine, Known, KnownScope, ResolvedLines, lines-closed, resolved-known}
+use Rattle.calculus.specs.Resolved.{KnownScope, ResolvedLines, lines-closed, resolved-known}
 use Rattle.inclusion.specs.Endings.{ends-steps}
 use Rattle.inclusion.specs.Serves.{Reached, equal-then-serves, serves-then-equal, serves-reached}
 use Rattle.calculus.specs.Known.{known-steps}

@@ -19,7 +19,7 @@ use Rattle.aut68.specs.Rules.Categories.{HeadReduces, Category, ofVariable, ofB
 use Rattle.aut68.specs.Procedure.HeadStep.{headStep, left}
 use Rattle.aut68.specs.Procedure.Compare.{compare}
 use Rattle.aut68.specs.Procedure.Category.{Search, made, toFunction, secondChance, categoryAt, arguments, searches, category}
-use Rattle.aut68.specs.Rules.Resolved.{Scoped, ConstantOf, Resolved}
+use Rattle.aut68.specs.Rules.Resolved.{Scoped, ConstantOf, Resolved, VariableLine}
 use Rattle.lookup.specs.Contexts.{RightContexts}
 use Rattle.lookup.specs.Answers.{Judged, isDone, isStop, Finding, noFunction, noType, large, finding-map, judged-map, judged-then}
 use Rattle.calculus.specs.Equality.{equal-sym, equal-trans, equal-steps, equal-abs-inv}
@@ -27,7 +27,7 @@ use Rattle.calculus.specs.Shapes.{shape-abs, false-not-true}
 use Rattle.calculus.specs.HeadForms.{Neutral, napp, neutral-not-abs}
 use Rattle.inclusion.specs.Again.{ByHeads, headsVariable, headsBound, headsConstant, headsApplication, headsSecond, again, found-again}
 use Rattle.calculus.specs.Scoped.{ScopedScope, ScopedCategory, scoped-category}
-use Rattle.calculus.specs.Resolved.{VariableLine, AllKnown, KnownScope, KnownCategory, AllResolved, ResolvedScope, ResolvedLines, lines-closed, resolved-known, variable-line}
+use Rattle.calculus.specs.Resolved.{AllKnown, KnownScope, KnownCategory, AllResolved, ResolvedScope, ResolvedLines, lines-closed, resolved-known, variable-line}
 use Rattle.inclusion.specs.Endings.{ends-steps}
 use Rattle.inclusion.specs.Serves.{equal-serves, equal-then-serves, serves-then-equal}
 use Rattle.calculus.specs.Known.{known-category-steps, known-wanted}

@@ -14,7 +14,7 @@ use Rattle.aut68.specs.Rules.Names.{IsLine}
 use Rattle.aut68.specs.Rules.Steps.{Step, beta, delta, inB, Reduces, Equal}
 use Rattle.aut68.specs.Rules.Steps
 use Rattle.aut68.specs.Rules.Serving.{Basic, Ends, itself, before, Supertype, Serves}
-use Rattle.aut68.specs.Rules.Resolved.{Scoped, VariableOf, ConstantOf, Resolved}
+use Rattle.aut68.specs.Rules.Resolved.{Scoped, VariableOf, ConstantOf, Resolved, VariableLine, Known}
 use Rattle.lookup.specs.LineNumbers.{line-unique, abbreviation-line}
 use Rattle.lookup.specs.Contexts.{RightContexts}
 use Rattle.calculus.specs.Star.{done, more}
@@ -25,7 +25,7 @@ use Rattle.calculus.specs.Equality.{equal-refl, equal-sym, equal-trans, equal-s
 use Rattle.calculus.specs.HeadForms.{HeadNormal, habs, hneutral, never-abs, neutral-not-abs}
 use Rattle.calculus.specs.HeadFirst.{HeadTo, hbeta, hdelta, hunder, HeadsTo, HeadFirst, head-first}
 use Rattle.calculus.specs.Scoped.{ScopedScope, ScopedCategory, scoped-ends, scoped-substitute, category-cases, scoped-steps}
-use Rattle.calculus.specs.Resolved.{VariableLine, Known, AllKnown, KnownScope, KnownCategory, AllResolved, ResolvedLines, lines-closed, known-line, resolved-known}
+use Rattle.calculus.specs.Resolved.{AllKnown, KnownScope, KnownCategory, AllResolved, ResolvedLines, lines-closed, known-line, resolved-known}
 use Rattle.inclusion.specs.Endings.{ends-one, ends-sub}
 use Rattle.inclusion.specs.Serves.{Reached, serves-then-equal, serves-reached}
 use Rattle.calculus.specs.Known.{constant-count, kept-middles, known-category-steps}

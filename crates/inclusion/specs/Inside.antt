@@ -14,10 +14,10 @@ use Rattle.aut68.specs.Rules.Steps.{Reduces}
 use Rattle.aut68.specs.Rules.Serving.{Basic, aType, aProp, Ends, itself, before, Supertype, Serves, IsType, theType, aSupertype}
 use Rattle.aut68.specs.Rules.Categories.{Category, ofVariable, ofBound, ofConstant, ofApplication, ofSecondChance, ofAbstraction, Fit, allFit, oneFits, writtenType}
 use Rattle.aut68.specs.Rules.Categories.{WrittenFits, isSupertype, hasType, MiddleFits, isEB, isPN, hasCategory}
-use Rattle.aut68.specs.Rules.Resolved.{Scoped, ConstantOf}
+use Rattle.aut68.specs.Rules.Resolved.{Scoped, ConstantOf, VariableLine, Known}
 use Rattle.calculus.specs.Equality.{equal-refl}
 use Rattle.calculus.specs.Scoped.{ScopedScope, ScopedCategory, category-cases, scoped-category, category-under, category-substitute, category-instantiate, scoped-arg}
-use Rattle.calculus.specs.Resolved.{VariableLine, Known, AllKnown, KnownScope, KnownCategory, ResolvedLines, lines-closed, known-line}
+use Rattle.calculus.specs.Resolved.{AllKnown, KnownScope, KnownCategory, ResolvedLines, lines-closed, known-line}
 use Rattle.inclusion.specs.Serves.{equal-serves, serves-refl, serves-abs, serves-trans, ends-serves, serves-then-equal, serves-reached, serves-68}
 use Rattle.calculus.specs.Known.{constant-count, line-in-context, known-category-steps}
 use Rattle.inclusion.specs.Knowing.{serves-ends}

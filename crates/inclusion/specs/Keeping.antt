@@ -9,14 +9,14 @@ use Rattle.aut68.specs.Substitution.{substitute}
 use Rattle.aut68.specs.Lines.{Lines}
 use Rattle.aut68.specs.Rules.Steps.{Reduces, Equal}
 use Rattle.aut68.specs.Rules.Serving.{aType, itself, Supertype, Serves, IsType, theType, aSupertype}
-use Rattle.aut68.specs.Rules.Resolved.{Resolved}
+use Rattle.aut68.specs.Rules.Resolved.{Resolved, Known}
 use Rattle.calculus.specs.Renaming.{raise, inst, one, sub}
 use Rattle.calculus.specs.Cutoffs.{inst-is}
 use Rattle.calculus.specs.Reductions.{steps-map}
 use Rattle.calculus.specs.Parallel.{ClosedMiddles, par-refl, par-sub, step-par, par-steps}
 use Rattle.calculus.specs.Equality.{equal-refl, equal-path}
 use Rattle.calculus.specs.Scoped.{ScopedScope}
-use Rattle.calculus.specs.Resolved.{resolved-known, Known, KnownScope, KnownCategory, ResolvedLines, lines-closed}
+use Rattle.calculus.specs.Resolved.{resolved-known, KnownScope, KnownCategory, ResolvedLines, lines-closed}
 use Rattle.inclusion.specs.Endings.{drops-sub}
 use Rattle.inclusion.specs.Serves.{equal-serves, serves-refl, serves-abs, serves-trans, serves-then-equal, serves-reached, serves-68}
 use Rattle.inclusion.specs.Knowing.{serves-ends, serves-known}

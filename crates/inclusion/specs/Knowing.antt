@@ -7,10 +7,10 @@ use Rattle.aut68.specs.Expr.{Expr, abs}
 use Rattle.aut68.specs.Lines.{Lines}
 use Rattle.aut68.specs.Rules.Steps.{Reduces, Equal}
 use Rattle.aut68.specs.Rules.Serving.{Basic, aType, aProp, Ends, Supertype, Drops, same, surplus, under, Serves}
-use Rattle.aut68.specs.Rules.Resolved.{Scoped}
+use Rattle.aut68.specs.Rules.Resolved.{Scoped, Known}
 use Rattle.calculus.specs.Reductions.{steps-eq}
 use Rattle.calculus.specs.Scoped.{category-cases, scoped-ends}
-use Rattle.calculus.specs.Resolved.{ResolvedLines, Known, KnownCategory}
+use Rattle.calculus.specs.Resolved.{ResolvedLines, KnownCategory}
 use Rattle.calculus.specs.Known.{known-steps}
 use Rattle.inclusion.specs.Endings.{ends-steps, ends-one, drops-ends}
 

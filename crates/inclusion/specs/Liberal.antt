@@ -15,11 +15,11 @@ use Rattle.lookup.specs.Contexts.{RightContexts, context-nested}
 use Rattle.aut68.specs.Rules.Steps.{Reduces, Equal}
 use Rattle.aut68.specs.Rules.Serving.{Basic, aType, aProp, Ends, itself, before, Supertype, Serves, IsType}
 use Rattle.aut68.specs.Rules.Categories.{DomainAt, Category}
-use Rattle.aut68.specs.Rules.Resolved.{Scoped, VariableOf, ConstantOf, Resolved}
+use Rattle.aut68.specs.Rules.Resolved.{Scoped, VariableOf, ConstantOf, Resolved, VariableLine, Known}
 use Rattle.calculus.specs.HeadForms.{shape-other}
 use Rattle.calculus.specs.Scoped.{ScopedScope, ScopedCategory, category-cases, category-map, category-steps, scoped-map, scoped-category, scoped-arg, category-under}
 use Rattle.calculus.specs.Scoped.{category-substitute, category-instantiate}
-use Rattle.calculus.specs.Resolved.{ResolvedScope, VariableLine, variable-line, Known, KnownScope, KnownCategory, ResolvedLines, known-line}
+use Rattle.calculus.specs.Resolved.{ResolvedScope, variable-line, KnownScope, KnownCategory, ResolvedLines, known-line}
 use Rattle.calculus.specs.Known.{constant-count, line-in-context, kept-middles}
 use Rattle.calculus.specs.Bindings.{over-scoped, bound-scoped}
 

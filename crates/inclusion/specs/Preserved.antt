@@ -10,12 +10,12 @@ use Rattle.aut68.specs.Substitution.{substitute, instantiate}
 use Rattle.aut68.specs.Lines.{Lines}
 use Rattle.aut68.specs.Rules.Steps.{Step, StepIn, beta, delta, inArguments, inA, inB, inDomain, inBody, inFirst, inRest, Reduces, done, step, Equal}
 use Rattle.aut68.specs.Rules.Serving.{Supertype, Serves}
-use Rattle.aut68.specs.Rules.Resolved.{Scoped, Resolved}
+use Rattle.aut68.specs.Rules.Resolved.{Scoped, Resolved, Known}
 use Rattle.lookup.specs.Contexts.{RightContexts}
 use Rattle.calculus.specs.Reductions.{steps-one}
 use Rattle.calculus.specs.Equality.{Equals, equalNone, equalMore, equal-refl, equal-sym, equal-trans, equal-path, equal-step, equal-app, equal-abs, equal-substitute, equal-instantiate, equals-refl}
 use Rattle.calculus.specs.Scoped.{ScopedScope}
-use Rattle.calculus.specs.Resolved.{Known, KnownScope, AllResolved, ResolvedLines, lines-closed, resolved-known}
+use Rattle.calculus.specs.Resolved.{KnownScope, AllResolved, ResolvedLines, lines-closed, resolved-known}
 use Rattle.inclusion.specs.Serves.{equal-serves, serves-trans, serves-then-equal}
 use Rattle.inclusion.specs.Liberal.{Liberal, byConstant, byApplication, byEqual, byAbstraction, Fits, noneFits, moreFits, known-liberal}
 use Rattle.inclusion.specs.Unique.{app-reached}

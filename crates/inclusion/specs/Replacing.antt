@@ -16,13 +16,13 @@ use Rattle.aut68.specs.Rules.Names.{IsLine, Member, here, there, Context}
 use Rattle.aut68.specs.Rules.Steps.{Equal}
 use Rattle.aut68.specs.Rules.Serving.{Serves}
 use Rattle.aut68.specs.Rules.Categories.{DomainAt, innermost, outside}
-use Rattle.aut68.specs.Rules.Resolved.{Scoped, VariableOf, ConstantOf, Resolved}
+use Rattle.aut68.specs.Rules.Resolved.{Scoped, VariableOf, ConstantOf, Resolved, Known}
 use Rattle.calculus.specs.Renaming.{sub, raise, one, inst, arg, pick, unf, ClosedAt, sub-closed, sub-id, sub-ren}
 use Rattle.calculus.specs.Cutoffs.{inst-is, unf-is}
 use Rattle.lookup.specs.LineNumbers.{line-unique}
 use Rattle.calculus.specs.Equality.{equal-lift}
 use Rattle.calculus.specs.Scoped.{ScopedScope, scoped-arg}
-use Rattle.calculus.specs.Resolved.{Known, AllKnown, AllResolved, KnownScope, ResolvedLines, lines-closed}
+use Rattle.calculus.specs.Resolved.{AllKnown, AllResolved, KnownScope, ResolvedLines, lines-closed}
 use Rattle.lookup.specs.Contexts.{RightContexts}
 use Rattle.calculus.specs.Known.{known-arg}
 use Rattle.inclusion.specs.Liberal.{Liberal, byVariable, byBound, Fits, noneFits, moreFits}

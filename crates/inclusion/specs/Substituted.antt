@@ -13,11 +13,11 @@ use Rattle.aut68.specs.Rules.Names.{IsLine, Context}
 use Rattle.aut68.specs.Rules.Steps.{Reduces, Equal}
 use Rattle.aut68.specs.Rules.Serving.{Supertype, Serves, IsType, theType, aSupertype}
 use Rattle.aut68.specs.Rules.Categories.{DomainAt, innermost, outside}
-use Rattle.aut68.specs.Rules.Resolved.{Scoped, AllScoped, VariableOf, ConstantOf, Resolved}
+use Rattle.aut68.specs.Rules.Resolved.{Scoped, AllScoped, VariableOf, ConstantOf, Resolved, VariableLine, Known}
 use Rattle.calculus.specs.Renaming.{up, sub, subs, raise, sub-lift}
 use Rattle.calculus.specs.Equality.{equal-path}
 use Rattle.calculus.specs.Scoped.{ScopedScope, ScopedCategory, scoped-category, scoped-ren, scoped-sub, category-sub}
-use Rattle.calculus.specs.Resolved.{VariableLine, AllResolved, resolved-known, Known, AllKnown, KnownScope, KnownCategory, ResolvedLines, lines-closed}
+use Rattle.calculus.specs.Resolved.{AllResolved, resolved-known, AllKnown, KnownScope, KnownCategory, ResolvedLines, lines-closed}
 use Rattle.lookup.specs.Contexts.{RightContexts}
 use Rattle.inclusion.specs.Endings.{ends-sub}
 use Rattle.inclusion.specs.Serves.{path-serves, serves-trans, serves-then-equal}

@@ -7,10 +7,10 @@ use Rattle.aut68.specs.Rules.Steps.{Step, StepIn, beta, delta, inArguments, inA
 use Rattle.calculus.specs.Renaming.{sub, subs, up, raise}
 use Rattle.calculus.specs.Reductions.{steps-one}
 use Rattle.calculus.specs.Scoped.{ScopedCategory}
-use Rattle.calculus.specs.Resolved.{Known, AllKnown, KnownCategory, ResolvedLines}
+use Rattle.calculus.specs.Resolved.{AllKnown, KnownCategory, ResolvedLines}
 use Rattle.aut68.specs.Language.{Language}
 use Rattle.aut68.specs.Rules.Serving.{Serves}
-use Rattle.aut68.specs.Rules.Resolved.{Scoped, ConstantOf}
+use Rattle.aut68.specs.Rules.Resolved.{Scoped, ConstantOf, Known}
 use Rattle.inclusion.specs.Endings.{drops-sub}
 use Rattle.calculus.specs.Known.{constant-count, known-category-steps}
 use Rattle.inclusion.specs.Agreeing.{sub-substitute, sub-instantiate}

@@ -13,12 +13,12 @@ use Rattle.aut68.specs.Lines.{Line, Lines}
 use Rattle.aut68.specs.Rules.Steps.{Reduces, Equal, beta}
 use Rattle.aut68.specs.Rules.Serving.{aType, Ends, itself, before}
 use Rattle.aut68.specs.Rules.Categories.{DomainAt, innermost, outside}
-use Rattle.aut68.specs.Rules.Resolved.{Scoped}
+use Rattle.aut68.specs.Rules.Resolved.{Scoped, Known}
 use Rattle.lookup.specs.LineNumbers.{line-unique}
 use Rattle.calculus.specs.Reductions.{type-no-abs}
 use Rattle.calculus.specs.Equality.{equal-refl, equal-sym, equal-trans, equal-path, equal-step, equal-steps, equal-after, equal-app, equal-abs, equal-abs-inv, equal-substitute, abs-steps}
 use Rattle.calculus.specs.Scoped.{ScopedScope}
-use Rattle.calculus.specs.Resolved.{Known, KnownScope, KnownCategory, ResolvedLines, lines-closed}
+use Rattle.calculus.specs.Resolved.{KnownScope, KnownCategory, ResolvedLines, lines-closed}
 use Rattle.calculus.specs.Actions.{isType-true}
 use Rattle.inclusion.specs.Knowing.{equal-ends}
 use Rattle.inclusion.specs.Liberal.{Liberal, byVariable, byBound, byConstant, byApplication, byEqual, byAbstraction, known-liberal}

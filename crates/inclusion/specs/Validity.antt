@@ -14,13 +14,13 @@ use Rattle.aut68.specs.Rules.Names.{IsLine, Context}
 use Rattle.aut68.specs.Rules.Steps.{Reduces}
 use Rattle.aut68.specs.Rules.Serving.{Basic, aType, aProp, Ends, itself, before, Supertype, Serves, IsType, theType, aSupertype}
 use Rattle.aut68.specs.Rules.Categories.{DomainAt, innermost, outside}
-use Rattle.aut68.specs.Rules.Resolved.{Scoped, VariableOf, ConstantOf, Resolved}
+use Rattle.aut68.specs.Rules.Resolved.{Scoped, VariableOf, ConstantOf, Resolved, VariableLine, Known}
 use Rattle.lookup.specs.Contexts.{RightContexts, context-nested}
 use Rattle.calculus.specs.Renaming.{inst, one, unf, arg, ren}
 use Rattle.calculus.specs.Cutoffs.{inst-is, unf-is}
 use Rattle.calculus.specs.HeadFirst.{HeadsTo}
 use Rattle.calculus.specs.Scoped.{category-cases, scoped-under, scoped-substitute, scoped-instantiate, scoped-arg}
-use Rattle.calculus.specs.Resolved.{VariableLine, Known, KnownScope, ResolvedLines, resolved-known}
+use Rattle.calculus.specs.Resolved.{KnownScope, ResolvedLines, resolved-known}
 use Rattle.inclusion.specs.Endings.{ends-steps, ends-sub}
 use Rattle.calculus.specs.Known.{constant-count}
 use Rattle.inclusion.specs.Liberal.{Liberal, byApplication, byAbstraction, Fits, InContext, known-liberal}

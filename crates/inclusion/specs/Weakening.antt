@@ -13,13 +13,13 @@ use Rattle.aut68.specs.Rules.Names.{IsLine}
 use Rattle.aut68.specs.Rules.Steps.{Reduces, Equal}
 use Rattle.aut68.specs.Rules.Serving.{Supertype, Serves, IsType, theType, aSupertype}
 use Rattle.aut68.specs.Rules.Categories.{DomainAt, innermost, outside}
-use Rattle.aut68.specs.Rules.Resolved.{VariableOf, ConstantOf}
+use Rattle.aut68.specs.Rules.Resolved.{VariableOf, ConstantOf, VariableLine}
 use Rattle.calculus.specs.Renaming.{ren, rens, upr, raise, ClosedAt, ren-inst, ren-unf, lift-ren, ren-is-sub, sub-closed, sub-id}
 use Rattle.calculus.specs.Cutoffs.{inst-is, unf-is}
 use Rattle.calculus.specs.Reductions.{steps-map}
 use Rattle.calculus.specs.Parallel.{par-ren, step-par, par-steps}
 use Rattle.calculus.specs.Scoped.{category-closed, scoped-ren}
-use Rattle.calculus.specs.Resolved.{VariableLine, ResolvedLines, lines-closed, known-line}
+use Rattle.calculus.specs.Resolved.{ResolvedLines, lines-closed, known-line}
 use Rattle.inclusion.specs.Endings.{ends-ren, drops-ren}
 use Rattle.inclusion.specs.Liberal.{Liberal, byVariable, byBound, byConstant, byApplication, byEqual, byAbstraction, Fits, noneFits, moreFits}
 use Rattle.inclusion.specs.Agreeing.{raise-lift, raise-once, rens-snoc}

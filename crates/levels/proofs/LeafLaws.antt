@@ -11,10 +11,10 @@ use Rattle.aut68.specs.Expr.{Expr, size, cells}
 use Rattle.aut68.specs.Substitution.{lift}
 use Rattle.aut68.specs.Lines.{Lines, rowCell}
 use Rattle.aut68.specs.Rules.Categories.{DomainAt, innermost, outside}
-use Rattle.aut68.specs.Rules.Resolved.{ConstantOf}
+use Rattle.aut68.specs.Rules.Resolved.{ConstantOf, VariableLine, Known}
 use Rattle.aut68.specs.Procedure.Category.{made}
 use Rattle.calculus.specs.Scoped.{ScopedScope, scoped-lift, scoped-category}
-use Rattle.calculus.specs.Resolved.{VariableLine, Known, KnownScope}
+use Rattle.calculus.specs.Resolved.{KnownScope}
 use Rattle.cells.specs.Cells.{At, Outside, copyCells}
 use Rattle.cells.specs.Layout.{levels, unitAt, levelUnit, scratchUnit, resultUnit, unit-below, unit-inside, result-ends}
 use Rattle.cells.specs.Forests.{size-is-length, at-inside}

@@ -15,7 +15,8 @@ use Rattle.aut68.specs.Procedure.Answer.{Refusal, done, stop, andThen, codeOf, 
 use Rattle.aut68.specs.Procedure.HeadStep.{Head, noStep, headStep, left}
 use Rattle.aut68.specs.Procedure.Category.{headForm, parts, toFunction}
 use Rattle.calculus.specs.Scoped.{ScopedCategory}
-use Rattle.calculus.specs.Resolved.{Known, KnownCategory}
+use Rattle.aut68.specs.Rules.Resolved.{Known}
+use Rattle.calculus.specs.Resolved.{KnownCategory}
 use Rattle.calculus.specs.Known.{known-category-head}
 use Rattle.cells.specs.Cells.{AllFormed, Wf, At}
 use Rattle.cells.specs.Forests.{at-first, at-inside, at-front, at-one, at-tail, cells-one, cells-long, size-is-length}

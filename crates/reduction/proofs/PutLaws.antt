@@ -12,10 +12,10 @@ use Rattle.aut68.specs.Substitution.{instantiate}
 use Rattle.aut68.specs.Lines.{Line, Lines, abbreviation, kindCells, rowCell}
 use Rattle.aut68.specs.Rules.Names.{IsLine}
 use Rattle.aut68.specs.Procedure.HeadStep.{left}
-use Rattle.aut68.specs.Rules.Resolved.{Scoped, ConstantOf}
+use Rattle.aut68.specs.Rules.Resolved.{Scoped, ConstantOf, VariableLine}
 use Rattle.calculus.specs.Scoped.{scoped-category}
 use Rattle.calculus.specs.Known.{known-category-head}
-use Rattle.calculus.specs.Resolved.{VariableLine, KnownCategory}
+use Rattle.calculus.specs.Resolved.{KnownCategory}
 use Rattle.cells.specs.Cells.{AllFormed, Wf, At, copyCells}
 use Rattle.cells.specs.CopyLaws.{copy-outside, copy-at}
 use Rattle.cells.specs.Forests.{at-inside, at-tail, at-front, at-second, at-one, cells-one, cells-long, size-is-length, sizes-is-length}

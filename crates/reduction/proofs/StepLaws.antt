@@ -11,10 +11,10 @@ use Rattle.aut68.specs.Expr.{Expr, Exprs, const, app, abs, size, cells}
 use Rattle.aut68.specs.Substitution.{substitute, instantiate}
 use Rattle.aut68.specs.Lines.{Lines, rowCell}
 use Rattle.aut68.specs.Procedure.HeadStep.{headStep, left}
-use Rattle.aut68.specs.Rules.Resolved.{Scoped, ConstantOf}
+use Rattle.aut68.specs.Rules.Resolved.{Scoped, ConstantOf, VariableLine, Known}
 use Rattle.calculus.specs.Scoped.{scoped-category}
 use Rattle.calculus.specs.Known.{known-category-head}
-use Rattle.calculus.specs.Resolved.{VariableLine, Known, KnownCategory}
+use Rattle.calculus.specs.Resolved.{KnownCategory}
 use Rattle.cells.specs.Cells.{At, Outside, moveCells}
 use Rattle.cells.specs.CopyLaws.{move-outside, move-at}
 use Rattle.cells.specs.Forests.{at-front, at-second, size-is-length}

@@ -11,7 +11,8 @@ use Rattle.aut68.specs.Substitution.{substitute, instantiate}
 use Rattle.aut68.specs.Lines.{Line, Lines, abbreviation}
 use Rattle.aut68.specs.Rules.Names.{IsLine}
 use Rattle.aut68.specs.Procedure.HeadStep.{headStep, left}
-use Rattle.calculus.specs.Resolved.{Known, KnownCategory}
+use Rattle.aut68.specs.Rules.Resolved.{Known}
+use Rattle.calculus.specs.Resolved.{KnownCategory}
 use Rattle.cells.specs.Cells.{Wf, Wfs, At, Below, Outside}
 use Rattle.cells.specs.Layout.{unitAt, scratchUnit, resultUnit}
 use Rattle.terms.specs.Made.{noRoom, Started}

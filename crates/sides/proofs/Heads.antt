@@ -9,9 +9,9 @@ use Rattle.aut68.specs.Sizes.{largestLimit}
 use Rattle.aut68.specs.Expr.{Expr, Exprs, type, prop, var, bound, const, app, abs, nil, cons, size, parts}
 use Rattle.aut68.specs.Lines.{Lines}
 use Rattle.aut68.specs.Procedure.HeadStep.{headStep, left}
-use Rattle.aut68.specs.Rules.Resolved.{Scoped, ConstantOf}
+use Rattle.aut68.specs.Rules.Resolved.{Scoped, ConstantOf, VariableLine, Known}
 use Rattle.calculus.specs.Scoped.{ScopedCategory, scoped-category, scoped-under}
-use Rattle.calculus.specs.Resolved.{VariableLine, Known, AllKnown, KnownCategory}
+use Rattle.calculus.specs.Resolved.{AllKnown, KnownCategory}
 use Rattle.terms.specs.Made.{noRoom}
 use Rattle.heads.specs.Heads.{HeadIs, no-head, contraction, unfolding-of}
 use Rattle.reduction.specs.Frames.{Lies}

@@ -13,9 +13,9 @@ use Rattle.aut68.specs.Expr.{Expr, abs, size, cells}
 use Rattle.aut68.specs.Substitution.{substitute}
 use Rattle.aut68.specs.Lines.{Lines}
 use Rattle.aut68.specs.Procedure.Compare.{compare}
-use Rattle.aut68.specs.Rules.Resolved.{ConstantOf}
+use Rattle.aut68.specs.Rules.Resolved.{ConstantOf, VariableLine, Known}
 use Rattle.calculus.specs.Scoped.{ScopedCategory, scoped-category, category-substitute}
-use Rattle.calculus.specs.Resolved.{VariableLine, Known, KnownCategory}
+use Rattle.calculus.specs.Resolved.{KnownCategory}
 use Rattle.cells.specs.Cells.{At, Outside, copyCells}
 use Rattle.cells.specs.Layout.{levels, unitAt, levelUnit, sideUnit, scratchUnit, resultUnit, unit-below, result-ends}
 use Rattle.cells.specs.Forests.{size-is-length, at-inside}

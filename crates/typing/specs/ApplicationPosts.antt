@@ -12,7 +12,7 @@ use Rattle.aut68.specs.Substitution.{substitute}
 use Rattle.aut68.specs.Lines.{Lines}
 use Rattle.aut68.specs.Procedure.Compare.{compare}
 use Rattle.aut68.specs.Procedure.Category.{Function, made}
-use Rattle.calculus.specs.Resolved.{Known}
+use Rattle.aut68.specs.Rules.Resolved.{Known}
 use Rattle.cells.specs.Cells.{At}
 use Rattle.heads.specs.Book.{Book}
 use Rattle.levels.specs.FoundPosts.{Frame, Finds, FindsKnown, FunctionKnown, Spans}

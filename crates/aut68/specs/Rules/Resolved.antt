@@ -42,3 +42,14 @@ pub record ConstantOf (ls : Lines) (v n : ℕ) : Type 0 where
 -- `Resolved ls vs k e`: after the lines ls, in the context vs and under k bindings, the names and counts of e are in force.
 abbrev pub Resolved : Lines → List ℕ → ℕ → Expr → Type 0
 Resolved ls vs = Scoped (VariableOf ls vs) (ConstantOf ls)
+
+-- a variable's line, in any context
+pub record VariableLine (ls : Lines) (v : ℕ) : Type 0 where
+  pub line : Line
+  pub isLine : IsLine ls v line
+  pub isVariable : line .kind ≡ variable
+
+-- `Known ls k e`: as `Resolved`, in any context. Every variable and every constant has its line, and every constant its count
+-- of arguments.
+abbrev pub Known : Lines → ℕ → Expr → Type 0
+Known ls = Scoped (VariableLine ls) (ConstantOf ls)

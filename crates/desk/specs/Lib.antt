@@ -1,0 +1,2 @@
+-- What is said of two strings that are compared.
+pub mod Posts

@@ -1,0 +1,5 @@
+-- Laws that the proofs of this crate cite.
+pub mod ReadLaws
+pub mod WalkLaws
+pub mod CellLaws
+pub mod WholeLaws

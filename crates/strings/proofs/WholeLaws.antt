@@ -1,0 +1,66 @@
+-- What a pass over a string says of it.
+use mathlib.Core.Path.{_≡_, refl, sym, ap, _∙_, subst}
+use mathlib.Core.Logic.{⊎-elim}
+use mathlib.Core.Bool.{Bool, true, false, true≢false}
+use mathlib.Core.List.{List, [], _∷_}
+use Prim.Native.Nat.{ℕ, _+_, _-_, _≤_, _<_}
+use native.Mathlib.Omega.{arith}
+use lib.Dec.{eqb}
+use lib.ListN.{length, getD, drop, length-drop}
+use borrow.Author.Tests.{eqb-true, eq-eqb}
+use Rattle.aut68.specs.Lines.{Lines}
+use Rattle.aut68.specs.Rules.Strings.{Whole}
+use Rattle.cells.specs.Rows.{Rows}
+use Rattle.strings.specs.Levels.{levelsAt}
+use Rattle.strings.specs.Posts.{SaysRight, SaysWhole}
+use Rattle.strings.proofs.ReadLaws.{holds-whole, type-whole, whole-holds}
+use Rattle.strings.proofs.CellLaws.{Rest, Reached, holds-long, rest-next, rest-none, none-rest, reached-next}
+
+module _ {tb s : List ℕ} {lines : ℕ} where
+  -- `type` alone
+  pub says-type : length s ≡ 1 → getD s 0 0 ≡ 0 → SaysWhole tb lines s true
+  says-type l z = record { means = λ ls R e. (λ _. subst (Whole ls) (sym (alone s l z)) (type-whole ls tb R), λ _. refl) }
+    where
+      alone : (s : List ℕ) → length s ≡ 1 → getD s 0 0 ≡ 0 → s ≡ 0 ∷ []
+      alone [] l z = absurd (omega arith)
+      alone (x ∷ []) l z = ap (λ (y : ℕ). y ∷ []) z
+      alone (x ∷ y ∷ s) l z = absurd (omega arith)
+
+  -- not `type` alone, and read up to index i
+  module _ (other : s ≡ 0 ∷ [] → ⊥) {i : ℕ} (reached : (ls : Lines) → Rows ls tb → length ls ≡ lines → Reached ls tb s i) where
+    says-broken : ((ls : Lines) → Rows ls tb → length ls ≡ lines → ¬ Rest ls tb s i) → SaysWhole tb lines s false
+    unfolding levelsAt
+    says-broken broken =
+        record {
+          means = λ ls R e. (
+            λ x. absurd (true≢false (sym x)),
+            λ w. absurd (⊎-elim other (λ h. broken ls R e (reached ls R e .onward h)) (whole-holds ls tb R s w)),
+          );
+        }
+
+    -- fewer cells are left than expressions to come
+    pub says-short : length s - i < length (levelsAt tb s i) → SaysWhole tb lines s false
+    says-short l = says-broken (λ ls R e h. omega (arith, holds-long ls tb (levelsAt tb s i) (drop i s) h, length-drop i s))
+
+    -- the next cell is not right
+    pub says-wrong : i < length s → 0 < length (levelsAt tb s i) → {answer : Bool} → SaysRight tb lines s i answer → answer ≡ false → SaysWhole tb lines s false
+    says-wrong l p r f = says-broken (λ ls R e h. true≢false (sym (r .means ls R e p .1 (rest-next ls tb s i l p h .0)) ∙ f))
+
+    -- it is right
+    pub says-right : i < length s → 0 < length (levelsAt tb s i) → {answer : Bool} → SaysRight tb lines s i answer → answer ≡ true → (ls : Lines) (R : Rows ls tb) → length ls ≡ lines
+        → Reached ls tb s (i + 1)
+    says-right l p r t ls R e = reached-next ls tb s i l p (r .means ls R e p .0 t) (reached ls R e)
+
+    -- nothing is to come
+    pub says-ended : i ≤ length s → length (levelsAt tb s i) ≡ 0 → SaysWhole tb lines s (eqb i (length s))
+    unfolding levelsAt
+    says-ended l z =
+        record {
+          means = λ ls R e. (
+            λ x. holds-whole ls tb R s (reached ls R e .back (ended ls (eqb-true i (length s) x))),
+            λ w. ⊎-elim (λ q. absurd (other q)) (λ h. eq-eqb i (length s) (rest-none ls tb s i l z (reached ls R e .onward h))) (whole-holds ls tb R s w),
+          );
+        }
+      where
+        ended : (ls : Lines) → i ≡ length s → Rest ls tb s i
+        ended ls q = subst (Rest ls tb s) (sym q) (none-rest ls tb s (subst (λ n. length (levelsAt tb s n) ≡ 0) q z))

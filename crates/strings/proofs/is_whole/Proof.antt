@@ -1,0 +1,104 @@
+-- `is_whole`: so many expressions are to come, and what is asked of the whole string is asked of what is left of it (CellLaws).
+use mathlib.Core.Path.{_≡_, refl, ap}
+use mathlib.Core.Logic.{⊎-elim}
+use mathlib.Core.List.{List, [], _∷_}
+use Prim.Native.Nat.{ℕ, _-_, _≤_}
+use native.Mathlib.Omega.{arith}
+use lib.ListN.{length, getD}
+use Rattle.aut68.specs.Lines.{Lines}
+use Rattle.cells.specs.Rows.{Rows}
+use Rattle.strings.specs.Levels.{levelsAt}
+use Rattle.strings.proofs.CellLaws.{Reached, reached-start, levels-next}
+use Rattle.strings.proofs.WholeLaws.{says-type, says-short, says-right, says-wrong, says-ended}
+use Rattle.strings.proofs.is_whole.Statement.{statement}
+use Rattle.strings.proofs.is_whole.Tie as tie
+
+abbrev Inv-loop : tie.InvT-loop
+Inv-loop table lines s i₀ pending₀ i pending =
+    ((s ≡ 0 ∷ [] → ⊥) × (i ≤ length s) × (pending ≡ length (levelsAt table s i)))
+    × ((ls : Lines) → Rows ls table → length ls ≡ lines → Reached ls table s i)
+
+abbrev μ-loop : tie.MeasureT-loop
+μ-loop table lines s i₀ pending₀ i pending = length s - i
+
+shared-slice-read-if2 : tie.Need-shared-slice-read-if2 Inv-loop μ-loop
+shared-slice-read-if2 c = omega arith
+
+returns : tie.Need-returns Inv-loop μ-loop
+returns c = says-type (c .before .before .if1 .taken) (c .if2 .taken)
+
+loop-holds : tie.Need-loop-holds Inv-loop μ-loop
+unfolding levelsAt
+loop-holds c =
+    ((⊎-elim (λ a q. a .2 .left (ap (λ (l : List ℕ). getD l 0 0) q)) (λ a q. a .left (ap length q)) (c .if1 .came), omega arith, refl), λ ls R e. reached-start ls _ _)
+
+sub-if3 : tie.Need-sub-if3 Inv-loop μ-loop
+sub-if3 c = omega arith
+
+returns-2 : tie.Need-returns-2 Inv-loop μ-loop
+returns-2 c =
+    let I = c .before .before .loop .inv in
+    says-short (I .0 .0) (I .1) (omega (arith, I .0 .1))
+
+is-right-requires : tie.Need-is-right-requires Inv-loop μ-loop
+is-right-requires c κs = omega arith
+
+sub-pending : tie.Need-sub-pending Inv-loop μ-loop
+sub-pending c = omega arith
+
+mul-kids : tie.Need-mul-kids Inv-loop μ-loop
+mul-kids c = omega arith
+
+shared-slice-read-kids : tie.Need-shared-slice-read-kids Inv-loop μ-loop
+shared-slice-read-kids c = omega arith
+
+kids-requires : tie.Need-kids-requires Inv-loop μ-loop
+kids-requires c κs = tt
+
+add-pending : tie.Need-add-pending Inv-loop μ-loop
+add-pending c = omega arith
+
+add-i : tie.Need-add-i Inv-loop μ-loop
+add-i c = omega arith
+
+loop-less : tie.Need-loop-less Inv-loop μ-loop
+loop-less c = omega arith
+
+loop-again : tie.Need-loop-again Inv-loop μ-loop
+loop-again c =
+    let I = c .before .before .before .before .before .before .loop .inv in
+    let r = c .before .before .before .is-right .ensures in
+    ((I .0 .0, omega arith, levels-next _ _ _ (omega arith) (I .0 .2) (c .kids .ensures .0)), says-right (I .0 .0) (I .1) (omega arith) (omega arith) r (c .before .before .if4 .taken))
+
+returns-3 : tie.Need-returns-3 Inv-loop μ-loop
+returns-3 c =
+    let I = c .before .before .before .before .loop .inv in
+    says-wrong (I .0 .0) (I .1) (omega arith) (omega arith) (c .before .is-right .ensures) (c .if4 .left)
+
+returns-4 : tie.Need-returns-4 Inv-loop μ-loop
+returns-4 c =
+    let I = c .before .loop .inv in
+    says-ended (I .0 .0) (I .1) (I .0 .1) (omega arith)
+
+pub is-whole-spec : {M : Type 1} → statement M
+is-whole-spec =
+    tie.close
+    (tie.spec
+    Inv-loop
+    μ-loop
+    shared-slice-read-if2
+    returns
+    loop-holds
+    sub-if3
+    returns-2
+    is-right-requires
+    sub-pending
+    mul-kids
+    shared-slice-read-kids
+    kids-requires
+    add-pending
+    add-i
+    loop-less
+    loop-again
+    returns-3
+    returns-4)
