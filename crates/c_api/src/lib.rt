@@ -2,11 +2,13 @@
 use constants::Cell;
 use constants::NarrowCell;
 use outcomes::AnswerNumbers;
+ghost use mathlib.Core.Bool.{true, false};
 ghost use Rattle.aut68.specs.Language.{aut68};
 ghost use Rattle.aut68.specs.Stores.{stores};
 ghost use Rattle.aut68.specs.Demands.{Checks};
 ghost use Rattle.aut68.specs.Resting.{TellsRests};
 ghost use Rattle.aut68.specs.Printing.{PrintsPages};
+ghost use Rattle.aut68.specs.Desk.{ComparesStrings};
 ghost use Rattle.aut68.specs.Sizes.{cellValues, narrowValues};
 ghost use Rattle.aut68.specs.Widths.{Converts};
 ghost use Rattle.names.specs.Known.{IdentifierPlaced};
@@ -76,6 +78,68 @@ pub extern "C" fn aut68_pages(
     ensures { λ r. ⌜ PrintsPages aut68 (now (book .entry)) budget limit (stores (now (table .entry)) (now (terms .entry)) (now (work .entry)) (now (index .entry))) (now (page .entry)) (r .code) (r .line) (r .steps) (r .length) (stores (now (table .exit)) (now (terms .exit)) (now (work .exit)) (now (index .exit))) (now (page .exit)) ⌝ }
 {
     let a = verifier::print_pages(book, budget, limit, table, terms, work, index, page);
+    verifier::answer_numbers(a)
+}
+
+// Compares two strings of cells over a book, with a budget of its own.
+#[no_mangle]
+pub extern "C" fn aut68_compare(
+    book: &[u8],
+    budget: u32,
+    limit: u32,
+    table: &mut [u32],
+    terms: &mut [Cell],
+    work: &mut [Cell],
+    index: &mut [u32],
+    left: &[Cell],
+    right: &[Cell],
+    own: u32,
+) -> AnswerNumbers
+    ensures { λ r. ⌜ ComparesStrings false (now (book .entry)) budget limit (stores (now (table .entry)) (now (terms .entry)) (now (work .entry)) (now (index .entry))) (now (left .entry)) (now (right .entry)) own (r .code) (r .line) (r .steps) (r .length) (stores (now (table .exit)) (now (terms .exit)) (now (work .exit)) (now (index .exit))) ⌝ }
+{
+    let a = verifier::compare_strings(
+        book,
+        budget,
+        limit,
+        table,
+        terms,
+        work,
+        index,
+        left,
+        right,
+        own,
+    );
+    verifier::answer_numbers(a)
+}
+
+// The same by the second comparison, parts first.
+#[no_mangle]
+pub extern "C" fn aut68_compare_parts_first(
+    book: &[u8],
+    budget: u32,
+    limit: u32,
+    table: &mut [u32],
+    terms: &mut [Cell],
+    work: &mut [Cell],
+    index: &mut [u32],
+    left: &[Cell],
+    right: &[Cell],
+    own: u32,
+) -> AnswerNumbers
+    ensures { λ r. ⌜ ComparesStrings true (now (book .entry)) budget limit (stores (now (table .entry)) (now (terms .entry)) (now (work .entry)) (now (index .entry))) (now (left .entry)) (now (right .entry)) own (r .code) (r .line) (r .steps) (r .length) (stores (now (table .exit)) (now (terms .exit)) (now (work .exit)) (now (index .exit))) ⌝ }
+{
+    let a = verifier::compare_strings_parts_first(
+        book,
+        budget,
+        limit,
+        table,
+        terms,
+        work,
+        index,
+        left,
+        right,
+        own,
+    );
     verifier::answer_numbers(a)
 }
 

@@ -1,28 +1,24 @@
 -- What a line rests on, told from the stores that the admission left.
-use mathlib.Core.Path.{_≡_, refl, sym, ap, _∙_, subst}
+use mathlib.Core.Path.{_≡_, refl, sym, ap, _∙_}
 use mathlib.Core.Logic.{_⊎_, inl, inr}
 use mathlib.Core.List.{List, _++_}
 use Prim.Native.Nat.{ℕ, _*_, _≤_, _<_}
 use native.Mathlib.Omega.{arith}
-use lib.ListN.{length, take, drop, replicate, length-replicate, length-take, take-append-drop}
-use lib.Seq.{take-at}
+use lib.ListN.{length, take, drop, replicate, take-append-drop}
 use Rattle.aut68.specs.Language.{aut68}
 use Rattle.aut68.specs.Sizes.{workUnits}
 use Rattle.aut68.specs.Stores.{Stores, stores, limitsOf}
 use Rattle.aut68.specs.Bytes.{Bytes}
-use Rattle.aut68.specs.Lines.{Lines}
 use Rattle.aut68.specs.Procedure.Calls.{declineCode, noSuchLine, answerTooLong}
-use Rattle.aut68.specs.Procedure.Run.{Ending, turnedAway, accepted, refusedAt, run, codeAt, recordedAt, over, workEnd}
+use Rattle.aut68.specs.Procedure.Run.{Ending, run, recordedAt}
 use Rattle.aut68.specs.Demands.{Determined}
 use Rattle.aut68.specs.Admission.{tooLong, written}
 use Rattle.aut68.specs.Resting.{noLine, told, TellsRests}
-use Rattle.lookup.specs.Answers.{code-nonzero}
 use Rattle.lookup.specs.Following.{named-before}
 use Rattle.lookup.specs.Runs.{verdict-admitted}
 use Rattle.records.specs.OnRecord.{on-record}
-use Rattle.cells.specs.Rows.{Rows, Stored}
 use Rattle.reaching.specs.Posts.{Answered, BeneathPost}
-use Rattle.theorems.specs.Admission.{accepted-code, verdict, last-line}
+use Rattle.theorems.specs.Admission.{verdict, last-line, front-zeros, front-long, lines-held}
 use Rattle.theorems.specs.Resting.{tells-rests}
 
 module _ (book : Bytes) (N L : ℕ) (s : Stores) {code line steps : ℕ} {tb ts w ix : List ℕ}
@@ -42,56 +38,32 @@ module _ (book : Bytes) (N L : ℕ) (s : Stores) {code line steps : ℕ} {tb ts 
       at (inl z) = inl z
       at (inr l) = inr (omega (arith, here))
 
-  -- the first cells of the working store are zeros
-  work-zeros : w ≡ over (replicate (workUnits * L) 0) (s .work)
-  unfolding workEnd codeAt
-  work-zeros = d .workIs ∙ of ending (accepted-code aut68 book N L s d accept)
-    where
-      of : (e : Ending) → codeAt e ≡ 0 → workEnd L e (s .work) ≡ over (replicate (workUnits * L) 0) (s .work)
-      of (turnedAway r) z = absurd (code-nonzero r z)
-      of (accepted n k) z = refl
-      of (refusedAt r l n k) z = refl
-
-  front-zeros : take (workUnits * L) w ≡ replicate (workUnits * L) 0
-  unfolding over
-  front-zeros = ap (take (workUnits * L)) work-zeros ∙ take-at (replicate (workUnits * L) 0) (drop (length (replicate (workUnits * L) 0)) (s .work)) (workUnits * L) (length-replicate (workUnits * L) 0)
-
-  front-long : length (take (workUnits * L) w) ≡ workUnits * L
-  front-long = ap length front-zeros ∙ length-replicate (workUnits * L) 0
-
-  -- the working store has them
-  pub work-fits : workUnits * L ≤ length w
-  work-fits = omega (arith, front-long, length-take (workUnits * L) w)
-
   module _ {v count : ℕ} {old w′ new : List ℕ} (first : 1 ≤ v) (last : v ≤ line) (post : BeneathPost tb ts v (take (workUnits * L) w) old count w′ new) where
     -- the marks are gone
     work-same : w′ ++ drop (workUnits * L) w ≡ w
-    unfolding over
     work-same =
-        ap (λ (x : List ℕ). x ++ drop (workUnits * L) w) (post .zeros ∙ ap (λ (n : ℕ). replicate n 0) front-long)
-        ∙ ap (λ (x : List ℕ). x ++ drop (workUnits * L) w) (sym front-zeros)
+        ap (λ (x : List ℕ). x ++ drop (workUnits * L) w) (post .zeros ∙ ap (λ (n : ℕ). replicate n 0) (front-long aut68 book N L s d accept))
+        ∙ ap (λ (x : List ℕ). x ++ drop (workUnits * L) w) (sym (front-zeros aut68 book N L s d accept))
         ∙ take-append-drop (workUnits * L) w
 
     answer-is : Answered (recordedAt ending .recorded) v old count new
     answer-is =
         let v = verdict aut68 book N L s d accept in
-        let o = on-record aut68 book N L s v in
         let a = verdict-admitted aut68 book (limitsOf N L s) v .atLeast in
-        let few = o .held .few in
+        let held = lines-held aut68 book N L s d accept in
+        let few = held .few in
         let e = here in
+        let long = front-long aut68 book N L s d accept in
         post .answered (recordedAt ending .recorded)
         (record {
-          rows = subst (Rows (recordedAt ending .recorded)) (sym (d .tableIs)) (o .held .rows);
-          stored = stored-as (sym (d .tableIs)) (sym (d .termsAre)) (o .held .stored);
-          before = named-before (o .derived);
+          rows = held .rows;
+          stored = held .stored;
+          before = named-before (on-record aut68 book N L s v .derived);
           positive = first;
           within = omega arith;
-          room = omega (arith, front-long);
+          room = omega (arith, long);
         })
-        (front-zeros ∙ ap (λ (n : ℕ). replicate n 0) (sym front-long))
-      where
-        stored-as : {ls : Lines} {tb tb′ ts ts′ : List ℕ} → tb ≡ tb′ → ts ≡ ts′ → Stored ls tb ts → Stored ls tb′ ts′
-        stored-as e f h = rw (← e, ← f) h
+        (front-zeros aut68 book N L s d accept ∙ ap (λ (n : ℕ). replicate n 0) (sym long))
 
     -- with the stores as the admission left them
     stores-same : stores tb ts (w′ ++ drop (workUnits * L) w) ix ≡ stores tb ts w ix

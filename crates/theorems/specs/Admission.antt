@@ -1,25 +1,28 @@
 -- What a call on a book has of its admission: the lines of an accepted book, a refusal passed on, and an answer.
 use mathlib.Core.Path.{_≡_, refl, sym, ap, _∙_, subst}
 use mathlib.Core.Logic.{_⊎_, _≢_, inl, inr, ⊎-elim}
-use mathlib.Core.List.{[]}
-use Prim.Native.Nat.{ℕ, _≤_}
+use mathlib.Core.List.{List, []}
+use Prim.Native.Nat.{ℕ, _*_, _≤_}
 use native.Mathlib.Omega.{arith}
-use lib.ListN.{length}
-use lib.Seq.{take-all}
+use lib.ListN.{length, take, drop, replicate, length-take, length-replicate}
+use lib.Seq.{take-all, take-at}
 use Rattle.aut68.specs.Language.{Language}
-use Rattle.aut68.specs.Sizes.{bookLimit}
-use Rattle.aut68.specs.Stores.{Stores, limitsOf}
+use Rattle.aut68.specs.Sizes.{bookLimit, workUnits}
+use Rattle.aut68.specs.Stores.{Stores, stores, limitsOf}
 use Rattle.aut68.specs.Bytes.{Bytes, lines}
 use Rattle.aut68.specs.Lines.{Lines}
 use Rattle.aut68.specs.Paragraphs.{State, start}
 use Rattle.aut68.specs.Procedure.Answer.{Refusal, codeOf}
-use Rattle.aut68.specs.Procedure.Run.{Ending, turnedAway, accepted, refusedAt, run, stateOf, codeAt, lineAt, stepsAt, recordedAt}
+use Rattle.aut68.specs.Procedure.Run.{Ending, turnedAway, accepted, refusedAt, run, stateOf, codeAt, lineAt, stepsAt, recordedAt, over, workEnd}
 use Rattle.aut68.specs.Rules.Derivation.{Derived}
 use Rattle.aut68.specs.Demands.{Accepted, Verdict, Soundness, Determined, Checks}
 use Rattle.aut68.specs.Admission.{AdmitsFirst}
+use Rattle.lookup.specs.Answers.{code-nonzero}
 use Rattle.lookup.specs.Runs.{verdict-admitted}
 use Rattle.reading.specs.Readings.{book-unique}
 use Rattle.orders.specs.Limits.{same-ending}
+use Rattle.heads.specs.Book.{Book}
+use Rattle.records.specs.OnRecord.{on-record}
 use Rattle.theorems.specs.Demands.{accepted-is-correct}
 use Rattle.theorems.specs.FromTheLeft.{run-went}
 use Rattle.theorems.specs.Checks.{accepted-line, checks}
@@ -92,3 +95,34 @@ module _ (language : Language) (book : Bytes) (N L : ℕ) (s : Stores) where
             answered = λ _. (refl, a);
             limits = same-ending language book (limitsOf N L s);
           }
+
+  -- ---- the working store of an accepted book
+
+  module _ {code line steps : ℕ} {tb ts w ix : List ℕ} (d : Determined ending L s code line steps (stores tb ts w ix)) (accept : code ≡ 0) where
+    -- its first cells are zeros
+    work-zeros : w ≡ over (replicate (workUnits * L) 0) (s .work)
+    unfolding workEnd codeAt
+    work-zeros = d .workIs ∙ of ending (accepted-code d accept)
+      where
+        of : (e : Ending) → codeAt e ≡ 0 → workEnd L e (s .work) ≡ over (replicate (workUnits * L) 0) (s .work)
+        of (turnedAway r) z = absurd (code-nonzero r z)
+        of (accepted n k) z = refl
+        of (refusedAt r l n k) z = refl
+
+    pub front-zeros : take (workUnits * L) w ≡ replicate (workUnits * L) 0
+    unfolding over
+    front-zeros = ap (take (workUnits * L)) work-zeros ∙ take-at (replicate (workUnits * L) 0) (drop (length (replicate (workUnits * L) 0)) (s .work)) (workUnits * L) (length-replicate (workUnits * L) 0)
+
+    pub front-long : length (take (workUnits * L) w) ≡ workUnits * L
+    front-long = ap length front-zeros ∙ length-replicate (workUnits * L) 0
+
+    -- it has them
+    pub work-fits : workUnits * L ≤ length w
+    work-fits = omega (arith, front-long, length-take (workUnits * L) w)
+
+    -- the rows and cells of the lines are in the stores
+    pub lines-held : Book (recordedAt ending .recorded) L tb ts
+    lines-held = held-as (sym (d .tableIs)) (sym (d .termsAre)) (on-record language book N L s (verdict d accept) .held)
+      where
+        held-as : {ls : Lines} {tb tb′ ts ts′ : List ℕ} → tb ≡ tb′ → ts ≡ ts′ → Book ls L tb ts → Book ls L tb′ ts′
+        held-as e f h = rw (← e, ← f) h

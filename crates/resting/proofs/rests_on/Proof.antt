@@ -6,9 +6,9 @@ use lib.Seq.{length-take-le}
 use Rattle.aut68.specs.Language.{aut68}
 use Rattle.aut68.specs.Procedure.Answer.{codeOf}
 use Rattle.aut68.specs.Procedure.Calls.{declineCode}
-use Rattle.theorems.specs.Admission.{refusal-code}
+use Rattle.theorems.specs.Admission.{refusal-code, work-fits}
 use Rattle.theorems.specs.Resting.{tells-refusal}
-use Rattle.resting.proofs.RestsLaws.{work-fits, tells-no-line, tells-too-long, tells-list}
+use Rattle.resting.proofs.RestsLaws.{tells-no-line, tells-too-long, tells-list}
 use borrow.Author.Needs.{needs}
 use Rattle.resting.proofs.rests_on.Statement.{statement}
 use Rattle.resting.proofs.rests_on.Tie as tie
@@ -74,10 +74,10 @@ mul-n : tie.Need-mul-n
 mul-n c = search needs
 
 slice-relend-prefix-put-beneath : tie.Need-slice-relend-prefix-put-beneath
-slice-relend-prefix-put-beneath c = work-fits _ _ _ _ (c .before .before .before .before .before .before .before .before .before .before .before .before .before .before .before .admit .ensures) (c .before .before .before .before .before .if1 .left)
+slice-relend-prefix-put-beneath c = work-fits aut68 _ _ _ _ (c .before .before .before .before .before .before .before .before .before .before .before .before .before .before .before .admit .ensures) (c .before .before .before .before .before .if1 .left)
 
 slice-aggregate-put-beneath : tie.Need-slice-aggregate-put-beneath
-slice-aggregate-put-beneath c = sym (length-take-le _ _ (work-fits _ _ _ _ (c .before .before .before .before .before .before .before .before .before .before .before .before .before .before .before .before .admit .ensures) (c .before .before .before .before .before .before .if1 .left)))
+slice-aggregate-put-beneath c = sym (length-take-le _ _ (work-fits aut68 _ _ _ _ (c .before .before .before .before .before .before .before .before .before .before .before .before .before .before .before .before .admit .ensures) (c .before .before .before .before .before .before .if1 .left)))
 
 put-beneath-requires : tie.Need-put-beneath-requires
 put-beneath-requires c κs = search needs

@@ -1,0 +1,43 @@
+-- A call: the strings are judged over the stores that the admission left, and the working store is cleared again.
+use mathlib.Core.Path.{_≡_, sym, ap, _∙_, subst}
+use mathlib.Core.Bool.{Bool}
+use mathlib.Core.List.{List, _++_}
+use Prim.Native.Nat.{ℕ, _*_}
+use native.Mathlib.Omega.{arith}
+use lib.ListN.{length, take, drop, replicate, length-append, length-replicate, take-append-drop}
+use lib.Seq.{drop-at}
+use borrow.Author.Tests.{le-leb}
+use Rattle.aut68.specs.Language.{aut68}
+use Rattle.aut68.specs.Sizes.{workUnits}
+use Rattle.aut68.specs.Stores.{Stores, stores, limitsOf}
+use Rattle.aut68.specs.Bytes.{Bytes}
+use Rattle.aut68.specs.Procedure.Run.{run, over}
+use Rattle.aut68.specs.Demands.{Determined}
+use Rattle.aut68.specs.Desk.{ComparesStrings}
+use Rattle.cells.specs.Posts.{cleared}
+use Rattle.theorems.specs.Admission.{last-line, front-zeros, front-long, lines-held}
+use Rattle.theorems.specs.Desk.{strings-judged}
+use Rattle.desk.specs.Posts.{JudgedPost}
+
+module _ (book : Bytes) (N L : ℕ) (s : Stores) {code line steps : ℕ} {tb ts w ix : List ℕ}
+    (d : Determined (run aut68 book (limitsOf N L s)) L s code line steps (stores tb ts w ix)) (accept : code ≡ 0) where
+  abbrev n : ℕ
+  n = workUnits * L
+
+  -- the first cells are zeros again
+  pub work-cleared : {w′ : List ℕ} → length w′ ≡ length (take n w) → cleared n (w′ ++ drop n w) ≡ w
+  unfolding cleared over
+  work-cleared {w′} e =
+      let long = e ∙ front-long aut68 book N L s d accept in
+      rw (le-leb _ _ (omega (arith, long, length-append w′ (drop n w))), cleared)
+      (ap (λ (k : ℕ). replicate n 0 ++ drop k (w′ ++ drop n w)) (length-replicate n 0)
+      ∙ ap (λ (l : List ℕ). replicate n 0 ++ l) (drop-at w′ (drop n w) n long)
+      ∙ ap (λ (l : List ℕ). l ++ drop n w) (sym (front-zeros aut68 book N L s d accept))
+      ∙ take-append-drop n w)
+
+  pub compared-over : {second : Bool} {left right w′ w″ : List ℕ} {own c l m k : ℕ} → JudgedPost second tb ts (take n w) L line left right own c l m k
+      → length w′ ≡ length (take n w) → w″ ≡ cleared n (w′ ++ drop n w) → ComparesStrings second book N L s left right own c l m k (stores tb ts w″ ix)
+  compared-over J e q =
+      rw (q ∙ work-cleared e, J .noLine, J .nothingWritten)
+      (strings-judged book N L s d accept
+      (J .means _ (lines-held aut68 book N L s d accept) (sym (last-line aut68 book N L s d accept)) (omega (arith, front-long aut68 book N L s d accept))))

@@ -1,0 +1,4 @@
+-- Laws that the proofs of this crate cite.
+pub mod Placing
+pub mod Judging
+pub mod Calling
