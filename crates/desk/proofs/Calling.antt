@@ -25,19 +25,19 @@ module _ (book : Bytes) (N L : ℕ) (s : Stores) {code line steps : ℕ} {tb ts 
   n = workUnits * L
 
   -- the first cells are zeros again
-  pub work-cleared : {w′ : List ℕ} → length w′ ≡ length (take n w) → cleared n (w′ ++ drop n w) ≡ w
+  work-cleared : (w′ : List ℕ) → length w′ ≡ length (take n w) → cleared n (w′ ++ drop n w) ≡ w
   unfolding cleared over
-  work-cleared {w′} e =
+  work-cleared w′ e =
       let long = e ∙ front-long aut68 book N L s d accept in
-      rw (le-leb _ _ (omega (arith, long, length-append w′ (drop n w))), cleared)
+      rw (le-leb n (length (w′ ++ drop n w)) (omega (arith, long, length-append w′ (drop n w))), cleared)
       (ap (λ (k : ℕ). replicate n 0 ++ drop k (w′ ++ drop n w)) (length-replicate n 0)
       ∙ ap (λ (l : List ℕ). replicate n 0 ++ l) (drop-at w′ (drop n w) n long)
       ∙ ap (λ (l : List ℕ). l ++ drop n w) (sym (front-zeros aut68 book N L s d accept))
       ∙ take-append-drop n w)
 
-  pub compared-over : {second : Bool} {left right w′ w″ : List ℕ} {own c l m k : ℕ} → JudgedPost second tb ts (take n w) L line left right own c l m k
+  pub compared-over : (w′ : List ℕ) {second : Bool} {left right w″ : List ℕ} {own c l m k : ℕ} → JudgedPost second tb ts (take n w) L line left right own c l m k
       → length w′ ≡ length (take n w) → w″ ≡ cleared n (w′ ++ drop n w) → ComparesStrings second book N L s left right own c l m k (stores tb ts w″ ix)
-  compared-over J e q =
-      rw (q ∙ work-cleared e, J .noLine, J .nothingWritten)
+  compared-over w′ J e q =
+      rw (q ∙ work-cleared w′ e, J .noLine, J .nothingWritten)
       (strings-judged book N L s d accept
       (J .means _ (lines-held aut68 book N L s d accept) (sym (last-line aut68 book N L s d accept)) (omega (arith, front-long aut68 book N L s d accept))))

@@ -12,7 +12,7 @@ use Rattle.aut68.specs.Lines.{Lines}
 use Rattle.aut68.specs.Procedure.Answer.{Answer, codeIn, restIn, codeOf, mismatch, tooLarge, outOfBudget}
 use Rattle.aut68.specs.Procedure.Calls.{declineCode, notWhole, stringTooLarge}
 use Rattle.aut68.specs.Procedure.Compare.{Comparison, compare}
-use Rattle.aut68.specs.Procedure.PartsFirst.{partsFirst}
+use Rattle.aut68.specs.Procedure.PartsFirst.{partsFirst, partsFirstAt}
 use Rattle.aut68.specs.Rules.Strings.{Reads, Whole}
 use Rattle.aut68.specs.Comparing.{FindsEquality}
 use Rattle.aut68.specs.Desk.{comparisonOf, Judged, isNotWhole, isTooLarge, isCompared}
@@ -21,9 +21,20 @@ use Rattle.calculus.specs.Resolved.{ResolvedLines}
 use Rattle.cells.specs.Cells.{copyCells}
 use Rattle.cells.specs.Layout.{unitAt, levelUnit}
 use Rattle.cells.specs.Results.{Result, passed, refused}
+use Rattle.comparison.specs.Posts.{ComparesBy, Compares}
 use Rattle.strings.specs.Posts.{SaysWhole}
 use Rattle.desk.specs.Posts.{levelsOf, ComparesOne, Named, JudgedPost}
 use Rattle.desk.proofs.Placing.{placed, still-long}
+
+-- one of the two comparisons
+module _ {second : Bool} {tb ts w w′ : List ℕ} {limit budget a b code rest : ℕ} where
+  pub as-second : second ≡ true → ComparesBy partsFirstAt tb ts w limit budget a b nesting w′ code rest → ComparesOne second tb ts w limit budget a b w′ code rest
+  unfolding levelsOf
+  as-second e c = record { compares = subst (λ x. ComparesBy (levelsOf x) tb ts w limit budget a b nesting w′ code rest) (sym e) c }
+
+  pub as-first : second ≡ false → Compares tb ts w limit budget a b nesting w′ code rest → ComparesOne second tb ts w limit budget a b w′ code rest
+  unfolding levelsOf
+  as-first e c = record { compares = subst (λ x. ComparesBy (levelsOf x) tb ts w limit budget a b nesting w′ code rest) (sym e) c }
 
 -- from depth 1 on
 from-first : (second : Bool) (ls : Lines) (limit : ℕ) → levelsOf second ls limit nesting ≡ comparisonOf second ls limit
@@ -42,7 +53,7 @@ unfolding codeIn restIn
 result-code (passed e h) = (e, refl)
 result-code (refused e) = (e, refl)
 
-module _ {second : Bool} {tb ts w : List ℕ} {limit lines : ℕ} {left right : List ℕ} {budget : ℕ} {isLeft isRight : Bool}
+module _ {second : Bool} {tb ts w : List ℕ} {limit lines : ℕ} {left right : List ℕ} {budget : ℕ} {isLeft : Bool}
     (saysLeft : SaysWhole tb lines left isLeft) where
   pub left-not-whole : isLeft ≡ false → JudgedPost second tb ts w limit lines left right budget (declineCode notWhole) 0 0 0
   left-not-whole f =
@@ -52,7 +63,7 @@ module _ {second : Bool} {tb ts w : List ℕ} {limit lines : ℕ} {left right : 
         means = λ ls B e long. isNotWhole (λ u. true≢false (sym (saysLeft .means ls (B .rows) e .1 (u .0)) ∙ f)) refl refl;
       }
 
-  module _ (saysRight : SaysWhole tb lines right isRight) where
+  module _ {isRight : Bool} (saysRight : SaysWhole tb lines right isRight) where
     pub right-not-whole : isRight ≡ false → JudgedPost second tb ts w limit lines left right budget (declineCode notWhole) 0 0 0
     right-not-whole f =
         record {
@@ -83,7 +94,7 @@ module _ {second : Bool} {tb ts w : List ℕ} {limit lines : ℕ} {left right : 
               means = λ ls B e long.
                   let (l, u) = saysLeft .means ls (B .rows) e .0 wholeLeft in
                   let (r, v) = saysRight .means ls (B .rows) e .0 wholeRight in
-                  let R = C .compares .means ls 0 l r B (omega arith) (omega arith) (still-long (B .limit) long first next c d h k) (placed (B .limit) long first next c d h k u v) in
+                  let R = C .compares .means ls 0 l r B (omega arith) (omega arith) (still-long left right w (B .limit) long first next c d h k) (placed left right w (B .limit) long first next c d h k ls u v) in
                   let (p, q) = result-code (subst (λ (f : Comparison). Result (λ _. Unit {0}) code rest (f l r budget)) (from-first second ls limit) R) in
                   isCompared l r u v h k (n (named second ls (B .resolved) l r p) ∙ p) (g ∙ ap (λ (x : ℕ). budget - x) q);
             }

@@ -23,21 +23,22 @@ reads-known : (ls : Lines) {s : List ℕ} {e : Expr} → Reads ls s e → KnownC
 unfolding ScopedCategory
 reads-known ls {e = e} r = ⊎-elim (λ q. subst (KnownCategory ls 0) (sym q) tt) (λ w. scoped-category _ _ 0 e w) (r .known)
 
-module _ {ls : Lines} {limit a b : ℕ} {left right w w₁ w₂ : List ℕ} (small : limit ≤ largestLimit) (long : workUnits * limit ≤ length w)
+-- where the sides of the first depth lie
+abbrev sidesAt : ℕ → ℕ
+sidesAt limit = unitAt limit (sideUnit nesting)
+
+module _ (left right w : List ℕ) {limit a b : ℕ} {w₁ w₂ : List ℕ} (small : limit ≤ largestLimit) (long : workUnits * limit ≤ length w)
     (first : limit ≤ largestLimit → a ≡ unitAt limit (levelUnit 0)) (next : limit ≤ largestLimit → b ≡ unitAt limit (levelUnit 1))
     (c : w₁ ≡ copyCells left 0 (length left) w a) (d : w₂ ≡ copyCells right 0 (length right) w₁ b) where
-  abbrev sidesAt : ℕ
-  sidesAt = unitAt limit (sideUnit nesting)
-
   -- the units lie one behind the other, below the sides and inside the store
   behind : a + limit ≤ b
   behind = omega (arith, first small, next small, unit-next limit (levelUnit 0))
 
-  below : b + limit ≤ sidesAt
-  below = omega (arith, next small, unit-below limit {levelUnit 1} {sideUnit nesting} (omega arith))
+  below : b + limit ≤ (sidesAt limit)
+  below = omega (arith, next small, unit-below limit {j = levelUnit 1} {k = sideUnit nesting} (omega arith))
 
-  inside : sidesAt ≤ length w
-  inside = omega (arith, unit-inside limit {sideUnit nesting} (omega arith))
+  inside : (sidesAt limit) ≤ length w
+  inside = omega (arith, unit-inside limit {k = sideUnit nesting} (omega arith))
 
   string-at : (s : List ℕ) → At s 0 s []
   string-at s = record { is = sym (append-nil s) }
@@ -62,17 +63,17 @@ module _ {ls : Lines} {limit a b : ℕ} {left right w w₁ w₂ : List ℕ} (sma
     right-at =
         subst (λ x. At x b right (drop (b + length right) w₁)) (sym d) (copy-at right 0 w₁ b (string-at right) (omega arith) (omega (arith, below, inside, same₁)))
 
-    side : {s : List ℕ} {at : ℕ} {e : Expr} {rest : List ℕ} → length s ≤ limit → at + limit ≤ sidesAt → Reads ls s e → At w₂ at s rest → Side ls limit 0 (take sidesAt w₂) at e
-    side {s} {at} {e} l m r p =
+    side : (ls : Lines) {s : List ℕ} {at : ℕ} {e : Expr} {rest : List ℕ} → length s ≤ limit → at + limit ≤ (sidesAt limit) → Reads ls s e → At w₂ at s rest → Side ls limit 0 (take (sidesAt limit) w₂) at e
+    side ls {s} {at} {e} l m r p =
         record {
           known = reads-known ls r;
           small = omega (arith, size-is-length e, ap length (r .cellsAre));
-          rest = drop (at + length s) (take sidesAt w₂);
-          at = subst (λ x. At (take sidesAt w₂) at x (drop (at + length s) (take sidesAt w₂))) (r .cellsAre) (at-before (omega arith) p);
+          rest = drop (at + length s) (take (sidesAt limit) w₂);
+          at = subst (λ x. At (take (sidesAt limit) w₂) at x (drop (at + length s) (take (sidesAt limit) w₂))) (r .cellsAre) (at-before {n = sidesAt limit} (omega arith) p);
         }
 
-    pub placed : {e f : Expr} → Reads ls left e → Reads ls right f → Pair ls limit 0 (take sidesAt w₂) a b e f
-    placed r q = record { left = side h (omega (arith, behind, below)) r left-at; right = side k below q right-at }
+    pub placed : (ls : Lines) {e f : Expr} → Reads ls left e → Reads ls right f → Pair ls limit 0 (take (sidesAt limit) w₂) a b e f
+    placed ls r q = record { left = side ls h (omega (arith, behind, below)) r left-at; right = side ls k below q right-at }
 
     pub still-long : workUnits * limit ≤ length w₂
     still-long = omega (arith, same₂)
