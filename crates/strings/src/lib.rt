@@ -48,7 +48,8 @@ fn line_kind(table: &[u32], lines: usize, v: usize) -> usize
     if v == 0 {
         return 0;
     }
-    if v > lines {
+    let before = v - 1;
+    if before >= lines {
         return 0;
     }
     field(table, v, KIND) + 1

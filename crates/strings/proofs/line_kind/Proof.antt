@@ -11,6 +11,9 @@ use Rattle.strings.proofs.line_kind.Tie as tie
 returns : tie.Need-returns
 returns c = record { means = λ ls R e. noLine (λ l i. omega (arith, line-positive i)) refl }
 
+sub-before : tie.Need-sub-before
+sub-before c = omega arith
+
 returns-2 : tie.Need-returns-2
 returns-2 c = record { means = λ ls R e. noLine (λ l i. omega (arith, line-within i)) refl }
 
@@ -24,4 +27,4 @@ returns-3 : tie.Need-returns-3
 returns-3 c = record { means = λ ls R e. kind-of-line (omega arith) (omega arith) (omega (arith, c .field .ensures .0)) R e }
 
 pub line-kind-spec : {M : Type 1} → statement M
-line-kind-spec = tie.close (tie.spec returns returns-2 field-requires add-result returns-3)
+line-kind-spec = tie.close (tie.spec returns sub-before returns-2 field-requires add-result returns-3)
