@@ -5,9 +5,7 @@ use mathlib.Core.Bool.{Bool, true, false, true≢false}
 use mathlib.Core.List.{List, [], _∷_}
 use Prim.Native.Nat.{ℕ, _+_, _-_, _≤_, _<_}
 use native.Mathlib.Omega.{arith}
-use lib.Dec.{eqb}
 use lib.ListN.{length, getD, drop, length-drop}
-use borrow.Author.Tests.{eqb-true, eq-eqb}
 use Rattle.aut68.specs.Lines.{Lines}
 use Rattle.aut68.specs.Rules.Strings.{Whole}
 use Rattle.cells.specs.Rows.{Rows}
@@ -51,16 +49,17 @@ module _ {tb s : List ℕ} {lines : ℕ} where
         → Reached ls tb s (i + 1)
     says-right l p r t ls R e = reached-next ls tb s i l p (r .means ls R e p .0 t) (reached ls R e)
 
-    -- nothing is to come
-    pub says-ended : i ≤ length s → length (levelsAt tb s i) ≡ 0 → SaysWhole tb lines s (eqb i (length s))
+    -- nothing is to come, and cells are left over
+    pub says-left-over : i < length s → length (levelsAt tb s i) ≡ 0 → SaysWhole tb lines s false
+    says-left-over l z = says-broken (λ ls R e h. omega (arith, rest-none ls tb s i (omega arith) z h))
+
+    -- and none is
+    pub says-ended : i ≡ length s → length (levelsAt tb s i) ≡ 0 → SaysWhole tb lines s true
     unfolding levelsAt
-    says-ended l z =
+    says-ended q z =
         record {
           means = λ ls R e. (
-            λ x. holds-whole ls tb R s (reached ls R e .back (ended ls (eqb-true i (length s) x))),
-            λ w. ⊎-elim (λ q. absurd (other q)) (λ h. eq-eqb i (length s) (rest-none ls tb s i l z (reached ls R e .onward h))) (whole-holds ls tb R s w),
+            λ _. holds-whole ls tb R s (reached ls R e .back (subst (Rest ls tb s) (sym q) (none-rest ls tb s (subst (λ n. length (levelsAt tb s n) ≡ 0) q z)))),
+            λ _. refl,
           );
         }
-      where
-        ended : (ls : Lines) → i ≡ length s → Rest ls tb s i
-        ended ls q = subst (Rest ls tb s) (sym q) (none-rest ls tb s (subst (λ n. length (levelsAt tb s n) ≡ 0) q z))

@@ -102,5 +102,8 @@ pub fn is_whole(table: &[u32], lines: usize, s: &[Cell]) -> bool
             return false;
         }
     }
-    i == s.len()
+    if s.len() - i > 0 {
+        return false;
+    }
+    true
 }

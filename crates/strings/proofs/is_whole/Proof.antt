@@ -9,7 +9,7 @@ use Rattle.aut68.specs.Lines.{Lines}
 use Rattle.cells.specs.Rows.{Rows}
 use Rattle.strings.specs.Levels.{levelsAt}
 use Rattle.strings.proofs.CellLaws.{Reached, reached-start, levels-next}
-use Rattle.strings.proofs.WholeLaws.{says-type, says-short, says-right, says-wrong, says-ended}
+use Rattle.strings.proofs.WholeLaws.{says-type, says-short, says-right, says-wrong, says-left-over, says-ended}
 use Rattle.strings.proofs.is_whole.Statement.{statement}
 use Rattle.strings.proofs.is_whole.Tie as tie
 
@@ -75,10 +75,18 @@ returns-3 c =
     let I = c .before .before .before .before .loop .inv in
     says-wrong (I .0 .0) (I .1) (omega arith) (omega arith) (c .before .is-right .ensures) (c .if4 .left)
 
+sub-if5 : tie.Need-sub-if5 Inv-loop μ-loop
+sub-if5 c = omega arith
+
 returns-4 : tie.Need-returns-4 Inv-loop μ-loop
 returns-4 c =
-    let I = c .before .loop .inv in
-    says-ended (I .0 .0) (I .1) (I .0 .1) (omega arith)
+    let I = c .before .before .loop .inv in
+    says-left-over (I .0 .0) (I .1) (omega arith) (omega arith)
+
+returns-5 : tie.Need-returns-5 Inv-loop μ-loop
+returns-5 c =
+    let I = c .before .before .loop .inv in
+    says-ended (I .0 .0) (I .1) (omega (arith, I .0 .1)) (omega arith)
 
 pub is-whole-spec : {M : Type 1} → statement M
 is-whole-spec =
@@ -101,4 +109,6 @@ is-whole-spec =
     loop-less
     loop-again
     returns-3
-    returns-4)
+    sub-if5
+    returns-4
+    returns-5)
