@@ -24,8 +24,8 @@ enum {
 };
 
 /* What the check of a book ends with: 0 to 12, 14 or 17. Codes 0, 3 to 9, 14 and 17 are verdicts; all of them but 0 call the book
-   wrong. Any other call on a book checks it first and passes a refusal on; of an accepted book it ends with 0, 12, 13 or 15. A call on a shelf
-   ends with 0, 15 or 16. */
+   wrong. Any other call on a book checks it first and passes a refusal on; of an accepted book it ends with 0, 12, 13 or 15, a comparison
+   with 0, 9, 10, 11 or 18. A call on a shelf ends with 0, 15 or 16. */
 enum {
     AUT68_ACCEPTED = 0,
     AUT68_WORK_TOO_SMALL = 1,     /* under AUT68_WORK_UNITS * limit working cells; line 0, nothing written */
@@ -36,8 +36,9 @@ enum {
     AUT68_WRONG_ARITY = 6,        /* more arguments than its context has variables, or some left out that cannot be put in */
     AUT68_NOT_FUNCTION = 7,
     AUT68_NOT_TYPE = 8,
-    AUT68_MISMATCH = 9,
-    AUT68_TOO_LARGE = 10,         /* an expression, completed, larger than the limit or nested above 32; or compared below depth 32 */
+    AUT68_MISMATCH = 9,           /* categories differ; of two strings: they have no common expression */
+    AUT68_TOO_LARGE = 10,         /* an expression, completed, larger than the limit or nested above 32; or compared below depth 32; or a
+                                     string of more cells than the limit */
     AUT68_OUT_OF_BUDGET = 11,
     AUT68_OUT_OF_SPACE = 12,      /* table, shelf or index full, line 65,536, a thirty-third open paragraph, a book of more than
                                      16,777,215 bytes (line 0), or an answer that does not fit (line 0) */
@@ -46,7 +47,8 @@ enum {
                                      Of 5, 6 and 14 a line gets that of the first name, from the left, that has one of them */
     AUT68_STORE_TOO_SMALL = 15,   /* the pages do not fit into the page store, or the source not into the target */
     AUT68_CELL_TOO_LARGE = 16,    /* a cell above 65,535 is to be narrowed */
-    AUT68_UNBALANCED = 17         /* a closing that is not of the innermost open paragraph; or one is left open at the end */
+    AUT68_UNBALANCED = 17,        /* a closing that is not of the innermost open paragraph; or one is left open at the end */
+    AUT68_NOT_WHOLE = 18          /* the left or the right string is no whole expression over the lines of the book */
 };
 
 /* A cell of the shelf and of the working store; and one of a shelf that was stored before cells had 32 bits. */
@@ -140,6 +142,42 @@ Aut68Answer aut68_pages(const uint8_t *book, size_t book_length,
                         Aut68Cell *work, size_t work_length,
                         uint32_t *index, size_t index_length,
                         uint8_t *page, size_t page_length);
+
+/* Compares two expressions over a book. Each is a string of cells as the shelf has them, in prefix order, one cell a symbol, 8 * v + k:
+   k = 0 `type`; 1 the variable of line v; 2 the bound variable with v bindings between; 3 the constant of line v, then its arguments;
+   4 `<A>B`, 5 `[x,A]B`, v = 0, then A and B. A string is whole if it is cell 0 alone or exactly one expression, without `type` inside,
+   whose variables and constants have their lines in the book, with all arguments of each constant and the binding of each bound variable.
+   Any EB line may stand free, and the expressions need not be correct. The book is checked first, under budget and limit, with all that
+   aut68_check says of its arguments and of the four stores afterwards. Then, in this order:
+   - the left or the right string is not whole: 18;
+   - one of them has more than limit cells: 10;
+   - else they are compared, at most own steps being made: 0, they have a common expression; 9, they have none; 10, a side grew above the
+     limit, or the comparison went below depth 32; 11, the steps are spent.
+   steps are those of the comparison, length is 0. The strings are read only; they may overlap each other and the book, not the stores.
+   0, 9 and 18 are kept under every larger budget, limit and own, with the same steps. A test takes no more turns than the product of a
+   string's cells and its bound variables. */
+Aut68Answer aut68_compare(const uint8_t *book, size_t book_length,
+                          uint32_t budget, uint32_t limit,
+                          uint32_t *table, size_t table_length,
+                          Aut68Cell *terms, size_t terms_length,
+                          Aut68Cell *work, size_t work_length,
+                          uint32_t *index, size_t index_length,
+                          const Aut68Cell *left, size_t left_length,
+                          const Aut68Cell *right, size_t right_length,
+                          uint32_t own);
+
+/* The same by the second comparison: for two uses of one abbreviation or two applications the parts are compared first, and a head step is
+   taken only if they differ. Where both end with 0 or 9 they agree; their steps may differ, and either may end with 10 or 11 where the
+   other does not. */
+Aut68Answer aut68_compare_parts_first(const uint8_t *book, size_t book_length,
+                                      uint32_t budget, uint32_t limit,
+                                      uint32_t *table, size_t table_length,
+                                      Aut68Cell *terms, size_t terms_length,
+                                      Aut68Cell *work, size_t work_length,
+                                      uint32_t *index, size_t index_length,
+                                      const Aut68Cell *left, size_t left_length,
+                                      const Aut68Cell *right, size_t right_length,
+                                      uint32_t own);
 
 /* Puts the cells of a shelf that was stored in 16 bits each into cells of 32 bits. In this order:
    - the source has more cells than the target, or more than 4,294,967,295: 15;

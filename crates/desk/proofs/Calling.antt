@@ -17,7 +17,7 @@ use Rattle.aut68.specs.Desk.{ComparesStrings}
 use Rattle.cells.specs.Posts.{cleared}
 use Rattle.theorems.specs.Admission.{last-line, front-zeros, front-long, lines-held}
 use Rattle.theorems.specs.Desk.{strings-judged}
-use Rattle.desk.specs.Posts.{JudgedPost}
+use Rattle.judging.specs.Posts.{JudgedPost}
 
 module _ (book : Bytes) (N L : ℕ) (s : Stores) {code line steps : ℕ} {tb ts w ix : List ℕ}
     (d : Determined (run aut68 book (limitsOf N L s)) L s code line steps (stores tb ts w ix)) (accept : code ≡ 0) where

@@ -1,4 +1,2 @@
 -- Laws that the proofs of this crate cite.
-pub mod Placing
-pub mod Judging
 pub mod Calling

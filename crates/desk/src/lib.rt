@@ -1,117 +1,111 @@
-// Two strings of cells compared over an accepted book. Both are tested first; whole strings that are not too large are put below the sides
-// of the comparison, where a category's first two levels would be.
-mod calls;
-
-pub use calls::compare_strings;
-pub use calls::compare_strings_parts_first;
-use cells::level_at;
-use comparison::Compared;
-use comparison::compare;
-use comparison::compare_parts_first;
-use constants::Cause;
+// Two strings of cells compared over a book. The book is checked first, as `check_book` does it, and a refusal is passed on.
+use books::admit;
 use constants::Cell;
-use constants::MISMATCH;
-use constants::NESTING;
-use constants::TOO_LARGE;
-use copies::load;
+use constants::WORK_UNITS;
+use copies::clear;
+use judging::judge;
 use outcomes::Answer;
-use strings::is_whole;
-ghost use mathlib.Core.Path.{_≡_};
-ghost use Prim.Native.Nat.{_-_};
-ghost use Rattle.desk.specs.Posts.{ComparesOne, Named, JudgedPost};
+use outcomes::pass_on;
+ghost use mathlib.Core.Bool.{true, false};
+ghost use Rattle.aut68.specs.Stores.{stores};
+ghost use Rattle.aut68.specs.Desk.{ComparesStrings};
 ghost use Rattle.outcomes.specs.Answers.{codeOfAnswer, lineOfAnswer, stepsOfAnswer, lengthOfAnswer};
 
-// The first comparison of the expressions at a and b of w, or the second.
-fn compare_by(
-    table: &[u32],
-    terms: &[Cell],
-    w: &mut [Cell],
-    limit: usize,
+// The first comparison of two strings of cells, or the second, over the lines of a book.
+fn compare_over(
+    book: &[u8],
     budget: u32,
-    a: usize,
-    b: usize,
-    second: bool,
-) -> Compared
-    ensures { λ x. ⌜ ComparesOne second (now (table .entry)) (now (terms .entry)) (now (w .entry)) limit budget a b (now (w .exit)) (x .code) (x .budget) ⌝ }
-{
-    if second {
-        return compare_parts_first(table, terms, w, limit, budget, a, b, NESTING);
-    }
-    compare(table, terms, w, limit, budget, a, b, NESTING)
-}
-
-// The steps: what is gone of the budget.
-fn spent(budget: u32, rest: u32) -> u32
-    ensures { λ r. ⌜ r ≡ budget - rest ⌝ }
-{
-    if rest > budget {
-        return 0;
-    }
-    budget - rest
-}
-
-// What a comparison says, of the codes that it has: 0, 9, 10, 11.
-fn answer_of(code: u32, steps: u32) -> Answer
-    ensures { λ r. ⌜ Named code (codeOfAnswer r) × (lineOfAnswer r ≡ 0) × (stepsOfAnswer r ≡ steps) × (lengthOfAnswer r ≡ 0) ⌝ }
-{
-    match code {
-        0 => Answer::Given {
-            steps: steps,
-            length: 0,
-        },
-        MISMATCH => Answer::Declined {
-            cause: Cause::Different,
-            steps: steps,
-        },
-        TOO_LARGE => Answer::Declined {
-            cause: Cause::TooLarge,
-            steps: steps,
-        },
-        _ => Answer::Declined {
-            cause: Cause::OutOfBudget,
-            steps: steps,
-        },
-    }
-}
-
-// Two strings over the first `lines` lines: whole, not too large, compared (Judged). What w holds afterwards is left to the program.
-pub fn judge(
-    table: &[u32],
-    terms: &[Cell],
-    w: &mut [Cell],
-    limit: usize,
-    lines: usize,
+    limit: u32,
+    table: &mut [u32],
+    terms: &mut [Cell],
+    work: &mut [Cell],
+    index: &mut [u32],
     left: &[Cell],
     right: &[Cell],
-    budget: u32,
+    own: u32,
     second: bool,
 ) -> Answer
-    ensures { λ r. ⌜ JudgedPost second (now (table .entry)) (now (terms .entry)) (now (w .entry)) limit lines (now (left .entry)) (now (right .entry)) budget (codeOfAnswer r) (lineOfAnswer r) (stepsOfAnswer r) (lengthOfAnswer r) ⌝ }
+    ensures { λ r. ⌜ ComparesStrings second (now (book .entry)) budget limit (stores (now (table .entry)) (now (terms .entry)) (now (work .entry)) (now (index .entry))) (now (left .entry)) (now (right .entry)) own (codeOfAnswer r) (lineOfAnswer r) (stepsOfAnswer r) (lengthOfAnswer r) (stores (now (table .exit)) (now (terms .exit)) (now (work .exit)) (now (index .exit))) ⌝ }
 {
-    if is_whole(table, lines, left) {
-        if is_whole(table, lines, right) {
-            if left.len() > limit {
-                return Answer::Declined {
-                    cause: Cause::TooLarge,
-                    steps: 0,
-                };
-            }
-            if right.len() > limit {
-                return Answer::Declined {
-                    cause: Cause::TooLarge,
-                    steps: 0,
-                };
-            }
-            let a = level_at(limit, 0);
-            let b = level_at(limit, 1);
-            load(left, 0, left.len(), w, a);
-            load(right, 0, right.len(), w, b);
-            let c = compare_by(table, terms, w, limit, budget, a, b, second);
-            return answer_of(c.code, spent(budget, c.budget));
-        }
+    let a = admit(book, budget, limit, table, terms, work, index);
+    if a.code != 0 {
+        return pass_on(a.code, a.line, a.steps);
     }
-    Answer::Declined {
-        cause: Cause::NotWhole,
-        steps: 0,
-    }
+    let most = limit as usize;
+    let n = WORK_UNITS * most;
+    let lines = a.line as usize;
+    let r = judge(
+        table,
+        terms,
+        &mut work[..n],
+        most,
+        lines,
+        left,
+        right,
+        own,
+        second,
+    );
+    clear(work, n);
+    r
+}
+
+// Compares two strings of cells, each one whole expression or `type` alone, over the lines of a book, with the budget `own`: 0, they have a
+// common expression; 9, they have none; 10 or 11, not decided. A string that is not whole: 18, and nothing is compared.
+pub fn compare_strings(
+    book: &[u8],
+    budget: u32,
+    limit: u32,
+    table: &mut [u32],
+    terms: &mut [Cell],
+    work: &mut [Cell],
+    index: &mut [u32],
+    left: &[Cell],
+    right: &[Cell],
+    own: u32,
+) -> Answer
+    ensures { λ r. ⌜ ComparesStrings false (now (book .entry)) budget limit (stores (now (table .entry)) (now (terms .entry)) (now (work .entry)) (now (index .entry))) (now (left .entry)) (now (right .entry)) own (codeOfAnswer r) (lineOfAnswer r) (stepsOfAnswer r) (lengthOfAnswer r) (stores (now (table .exit)) (now (terms .exit)) (now (work .exit)) (now (index .exit))) ⌝ }
+{
+    compare_over(
+        book,
+        budget,
+        limit,
+        table,
+        terms,
+        work,
+        index,
+        left,
+        right,
+        own,
+        false,
+    )
+}
+
+// The same by the second comparison, parts first.
+pub fn compare_strings_parts_first(
+    book: &[u8],
+    budget: u32,
+    limit: u32,
+    table: &mut [u32],
+    terms: &mut [Cell],
+    work: &mut [Cell],
+    index: &mut [u32],
+    left: &[Cell],
+    right: &[Cell],
+    own: u32,
+) -> Answer
+    ensures { λ r. ⌜ ComparesStrings true (now (book .entry)) budget limit (stores (now (table .entry)) (now (terms .entry)) (now (work .entry)) (now (index .entry))) (now (left .entry)) (now (right .entry)) own (codeOfAnswer r) (lineOfAnswer r) (stepsOfAnswer r) (lengthOfAnswer r) (stores (now (table .exit)) (now (terms .exit)) (now (work .exit)) (now (index .exit))) ⌝ }
+{
+    compare_over(
+        book,
+        budget,
+        limit,
+        table,
+        terms,
+        work,
+        index,
+        left,
+        right,
+        own,
+        true,
+    )
 }

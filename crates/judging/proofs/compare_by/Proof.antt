@@ -1,9 +1,9 @@
 -- `compare_by`: one of the two comparisons, from depth 1 on.
 use borrow.Author.Needs.{needs}
-use Rattle.desk.specs.Posts.{levelsOf, ComparesOne}
-use Rattle.desk.proofs.Judging.{as-second, as-first}
-use Rattle.desk.proofs.compare_by.Statement.{statement}
-use Rattle.desk.proofs.compare_by.Tie as tie
+use Rattle.judging.specs.Posts.{levelsOf, ComparesOne}
+use Rattle.judging.proofs.Judging.{as-second, as-first}
+use Rattle.judging.proofs.compare_by.Statement.{statement}
+use Rattle.judging.proofs.compare_by.Tie as tie
 
 compare-parts-first-requires : tie.Need-compare-parts-first-requires
 compare-parts-first-requires c κs = tt

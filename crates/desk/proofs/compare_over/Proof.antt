@@ -7,8 +7,8 @@ use Rattle.aut68.specs.Language.{aut68}
 use Rattle.theorems.specs.Admission.{refusal-code, work-fits}
 use Rattle.theorems.specs.Desk.{strings-refused}
 use Rattle.desk.proofs.Calling.{compared-over}
-use Rattle.desk.proofs.calls.compare_over.Statement.{statement}
-use Rattle.desk.proofs.calls.compare_over.Tie as tie
+use Rattle.desk.proofs.compare_over.Statement.{statement}
+use Rattle.desk.proofs.compare_over.Tie as tie
 
 admit-requires : tie.Need-admit-requires
 admit-requires c κs = tt

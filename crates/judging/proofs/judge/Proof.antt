@@ -5,9 +5,9 @@ use native.Mathlib.Omega.{arith}
 use borrow.Author.Needs.{needs}
 use Rattle.aut68.specs.Procedure.Answer.{codeOf}
 use Rattle.aut68.specs.Procedure.Calls.{declineCode}
-use Rattle.desk.proofs.Judging.{left-not-whole, right-not-whole, judged-large, judged-compared}
-use Rattle.desk.proofs.judge.Statement.{statement}
-use Rattle.desk.proofs.judge.Tie as tie
+use Rattle.judging.proofs.Judging.{left-not-whole, right-not-whole, judged-large, judged-compared}
+use Rattle.judging.proofs.judge.Statement.{statement}
+use Rattle.judging.proofs.judge.Tie as tie
 
 is-whole-requires : tie.Need-is-whole-requires
 is-whole-requires c κs = tt

@@ -4,8 +4,8 @@ use mathlib.Core.Logic.{⊎-elim}
 use native.Mathlib.Omega.{arith}
 use Rattle.aut68.specs.Procedure.Answer.{codeOf}
 use Rattle.aut68.specs.Procedure.Calls.{declineCode}
-use Rattle.desk.proofs.answer_of.Statement.{statement}
-use Rattle.desk.proofs.answer_of.Tie as tie
+use Rattle.judging.proofs.answer_of.Statement.{statement}
+use Rattle.judging.proofs.answer_of.Tie as tie
 
 returns : tie.Need-returns
 returns c = (λ _. omega arith, refl, refl, refl)

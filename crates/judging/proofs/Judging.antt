@@ -23,8 +23,8 @@ use Rattle.cells.specs.Layout.{unitAt, levelUnit}
 use Rattle.cells.specs.Results.{Result, passed, refused}
 use Rattle.comparison.specs.Posts.{ComparesBy, Compares}
 use Rattle.strings.specs.Posts.{SaysWhole}
-use Rattle.desk.specs.Posts.{levelsOf, ComparesOne, Named, JudgedPost}
-use Rattle.desk.proofs.Placing.{placed, still-long}
+use Rattle.judging.specs.Posts.{levelsOf, ComparesOne, Named, JudgedPost}
+use Rattle.judging.proofs.Placing.{placed, still-long}
 
 -- one of the two comparisons
 module _ {second : Bool} {tb ts w w′ : List ℕ} {limit budget a b code rest : ℕ} where
