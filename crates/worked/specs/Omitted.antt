@@ -1,28 +1,17 @@
--- Paper 1, omitted arguments: its worked cases, with the rows and the term cells that are left. Outcomes has them computed.
-use Prim.Native.Nat.{ℕ}
+-- Paper 1, omitted arguments: its worked cases, with the rows and the term cells that are left. Worked has them computed.
 use mathlib.Core.List.{List, [], _∷_, _++_}
 use Rattle.aut68.specs.Language.{aut68}
 use Rattle.aut68.specs.Stores.{lending}
 use Rattle.aut68.specs.Cases.{Kept, kept, bytesOf, under, usual}
-
--- five lines that most of the books begin with, their rows and cells
-unfoldable pub sums : List ℕ
-sums = bytesOf "*nat:=PN:type\n*n:=EB:nat\nn*suc:=PN:nat\nn*m:=EB:nat\nm*add:=PN:nat\n"
-
-unfoldable pub sumRows : List ℕ
-sumRows = 1 ∷ 3 ∷ 0 ∷ 0 ∷ 1 ∷ 0 ∷ 0 ∷ 1 ∷ 0 ∷ 15 ∷ 1 ∷ 0 ∷ 0 ∷ 0 ∷ 1 ∷ 1 ∷ 2 ∷ 0 ∷ 27 ∷ 3 ∷ 2 ∷ 1 ∷ 1 ∷ 2 ∷ 2 ∷ 3 ∷ 0 ∷ 41 ∷ 1 ∷ 2 ∷ 1 ∷ 0 ∷ 3 ∷ 3 ∷ 4 ∷ 0 ∷ 53 ∷ 3 ∷ 4 ∷ 2 ∷ 1 ∷ 4 ∷ 4 ∷ 5 ∷ 0 ∷ []
-
-unfoldable pub sumCells : List ℕ
-sumCells = 0 ∷ 11 ∷ 11 ∷ 11 ∷ 11 ∷ []
+use Rattle.aut68.specs.Telling.{sums, sumRows, sumCells, tellingOmitted}
 
 unfoldable pub omittedArguments : List Kept
 omittedArguments =
-    -- one of one left out: suc means suc(n); the outer suc is written in full
+    tellingOmitted
+    ++
+    ( -- one of one left out: suc means suc(n); the outer suc is written in full
     kept (usual aut68 (sums ++ bytesOf "n*t:=suc(suc):nat\n") 0 6 0)
     (sumRows ++ 67 ∷ 1 ∷ 2 ∷ 1 ∷ 2 ∷ 5 ∷ 8 ∷ 9 ∷ 0 ∷ []) (sumCells ++ 27 ∷ 27 ∷ 17 ∷ 11 ∷ [])
-    ∷  -- both left out: add means add(n,m)
-    kept (usual aut68 (sums ++ bytesOf "m*t:=add:nat\n") 0 6 0)
-    (sumRows ++ 67 ∷ 1 ∷ 4 ∷ 2 ∷ 2 ∷ 5 ∷ 8 ∷ 9 ∷ 0 ∷ []) (sumCells ++ 43 ∷ 17 ∷ 33 ∷ 11 ∷ [])
     ∷  -- the first left out, the last written: add(suc(m)) means add(n,suc(m)), and suc(m) is in full
     kept (usual aut68 (sums ++ bytesOf "m*t:=add(suc(m)):nat\n") 0 6 0)
     (sumRows ++ 67 ∷ 1 ∷ 4 ∷ 2 ∷ 2 ∷ 5 ∷ 9 ∷ 10 ∷ 0 ∷ []) (sumCells ++ 43 ∷ 17 ∷ 27 ∷ 33 ∷ 11 ∷ [])
@@ -35,9 +24,6 @@ omittedArguments =
     ∷  -- left out with no context at all: 6 as before
     kept (usual aut68 (sums ++ bytesOf "*t:=suc:nat\n") 6 6 0)
     sumRows sumCells
-    ∷  -- the own context has a variable of the same category, but not the same variable
-    kept (usual aut68 (sums ++ bytesOf "*k:=EB:nat\nk*t:=suc:nat\n") 6 7 0)
-    (sumRows ++ 66 ∷ 1 ∷ 0 ∷ 0 ∷ 0 ∷ 5 ∷ 5 ∷ 6 ∷ 0 ∷ []) (sumCells ++ 11 ∷ [])
     ∷  -- blocks that part: f needs x, y and the line has x, z
     kept (usual aut68 (bytesOf "*x:=EB:type\nx*y:=EB:type\nx*z:=EB:type\ny*f:=PN:type\nz*t:=f:type\n") 6 5 0)
     (1 ∷ 1 ∷ 0 ∷ 0 ∷ 0 ∷ 0 ∷ 0 ∷ 1 ∷ 0 ∷ 14 ∷ 1 ∷ 1 ∷ 1 ∷ 0 ∷ 1 ∷ 1 ∷ 2 ∷ 0 ∷ 27 ∷ 1 ∷ 1 ∷ 1 ∷ 0 ∷ 2 ∷ 2 ∷ 3 ∷ 0 ∷ 40 ∷ 1 ∷ 2 ∷ 2 ∷ 1 ∷ 3 ∷ 3 ∷ 4 ∷ 0 ∷ []) (0 ∷ 0 ∷ 0 ∷ 0 ∷ [])
@@ -86,14 +72,8 @@ omittedArguments =
     ∷  -- 31 names one in the other, the innermost completed to nesting 32: passes
     kept (usual aut68 (bytesOf "*x:=EB:type\nx*f:=PN:type\nx*g:=f(f(f(f(f(f(f(f(f(f(f(f(f(f(f(f(f(f(f(f(f(f(f(f(f(f(f(f(f(f(f)))))))))))))))))))))))))))))):type\n") 0 3 0)
     (1 ∷ 1 ∷ 0 ∷ 0 ∷ 0 ∷ 0 ∷ 0 ∷ 1 ∷ 0 ∷ 14 ∷ 1 ∷ 1 ∷ 1 ∷ 1 ∷ 1 ∷ 1 ∷ 2 ∷ 0 ∷ 27 ∷ 1 ∷ 1 ∷ 1 ∷ 2 ∷ 2 ∷ 34 ∷ 35 ∷ 0 ∷ []) (0 ∷ 0 ∷ 19 ∷ 19 ∷ 19 ∷ 19 ∷ 19 ∷ 19 ∷ 19 ∷ 19 ∷ 19 ∷ 19 ∷ 19 ∷ 19 ∷ 19 ∷ 19 ∷ 19 ∷ 19 ∷ 19 ∷ 19 ∷ 19 ∷ 19 ∷ 19 ∷ 19 ∷ 19 ∷ 19 ∷ 19 ∷ 19 ∷ 19 ∷ 19 ∷ 19 ∷ 19 ∷ 19 ∷ 9 ∷ 0 ∷ [])
-    ∷  -- 32 names one in the other: nesting 32 as written, 33 completed: 10
-    kept (usual aut68 (bytesOf "*x:=EB:type\nx*f:=PN:type\nx*g:=f(f(f(f(f(f(f(f(f(f(f(f(f(f(f(f(f(f(f(f(f(f(f(f(f(f(f(f(f(f(f(f))))))))))))))))))))))))))))))):type\n") 10 3 0)
-    (1 ∷ 1 ∷ 0 ∷ 0 ∷ 0 ∷ 0 ∷ 0 ∷ 1 ∷ 0 ∷ 14 ∷ 1 ∷ 1 ∷ 1 ∷ 1 ∷ 1 ∷ 1 ∷ 2 ∷ 0 ∷ []) (0 ∷ 0 ∷ [])
     ∷  -- nesting once more is after all names: an unknown name in the category is 5
     kept (usual aut68 (bytesOf "*x:=EB:type\nx*f:=PN:type\nx*g:=f(f(f(f(f(f(f(f(f(f(f(f(f(f(f(f(f(f(f(f(f(f(f(f(f(f(f(f(f(f(f(f))))))))))))))))))))))))))))))):y\n") 5 3 0)
-    (1 ∷ 1 ∷ 0 ∷ 0 ∷ 0 ∷ 0 ∷ 0 ∷ 1 ∷ 0 ∷ 14 ∷ 1 ∷ 1 ∷ 1 ∷ 1 ∷ 1 ∷ 1 ∷ 2 ∷ 0 ∷ []) (0 ∷ 0 ∷ [])
-    ∷  -- nesting 33 as written is met in the bytes, before the unknown name
-    kept (usual aut68 (bytesOf "*x:=EB:type\nx*f:=PN:type\nx*g:=f(f(f(f(f(f(f(f(f(f(f(f(f(f(f(f(f(f(f(f(f(f(f(f(f(f(f(f(f(f(f(f(y)))))))))))))))))))))))))))))))):type\n") 10 3 0)
     (1 ∷ 1 ∷ 0 ∷ 0 ∷ 0 ∷ 0 ∷ 0 ∷ 1 ∷ 0 ∷ 14 ∷ 1 ∷ 1 ∷ 1 ∷ 1 ∷ 1 ∷ 1 ∷ 2 ∷ 0 ∷ []) (0 ∷ 0 ∷ [])
     ∷  -- the shelf holds the completed form, and so its room is counted: 4 cells are too few for line 3
     kept (under aut68 (lending 100000 128 16380 4 16384 16384) (bytesOf "*x:=EB:type\nx*f:=PN:type\nx*g:=f:type\n") 12 3 0)
@@ -107,4 +87,4 @@ omittedArguments =
     ∷  -- the book of document 002, section 2, as printed there: arguments left out throughout
     kept (usual aut68 (bytesOf "*elt:=PN:type\n*x:=EB:elt\nx*y:=EB:elt\ny*is:=PN:type\nx*a:=PN:is(x,x)\ny*u:=EB:is\nu*z:=EB:elt\nz*v:=EB:is(z,y)\nv*b:=PN:is(z,x)\nu*c:=b(y,a(y)):is(y,x)\nz*w:=EB:is(y,z)\nw*d:=c(y,z,w):is(z,y)\nw*e:=b(d):is(z,x)\nw*f:=c(z,x,e):is(x,z)\n") 0 14 0)
     (1 ∷ 3 ∷ 0 ∷ 0 ∷ 1 ∷ 0 ∷ 0 ∷ 1 ∷ 0 ∷ 15 ∷ 1 ∷ 0 ∷ 0 ∷ 0 ∷ 1 ∷ 1 ∷ 2 ∷ 0 ∷ 27 ∷ 1 ∷ 2 ∷ 1 ∷ 0 ∷ 2 ∷ 2 ∷ 3 ∷ 0 ∷ 39 ∷ 2 ∷ 3 ∷ 2 ∷ 1 ∷ 3 ∷ 3 ∷ 4 ∷ 0 ∷ 53 ∷ 1 ∷ 2 ∷ 1 ∷ 1 ∷ 4 ∷ 4 ∷ 7 ∷ 0 ∷ 69 ∷ 1 ∷ 3 ∷ 2 ∷ 0 ∷ 7 ∷ 7 ∷ 10 ∷ 0 ∷ 80 ∷ 1 ∷ 6 ∷ 3 ∷ 0 ∷ 10 ∷ 10 ∷ 11 ∷ 0 ∷ 92 ∷ 1 ∷ 7 ∷ 4 ∷ 0 ∷ 11 ∷ 11 ∷ 14 ∷ 0 ∷ 108 ∷ 1 ∷ 8 ∷ 5 ∷ 1 ∷ 14 ∷ 14 ∷ 17 ∷ 0 ∷ 124 ∷ 1 ∷ 6 ∷ 3 ∷ 2 ∷ 17 ∷ 24 ∷ 27 ∷ 0 ∷ 147 ∷ 1 ∷ 7 ∷ 4 ∷ 0 ∷ 27 ∷ 27 ∷ 30 ∷ 0 ∷ 163 ∷ 1 ∷ 11 ∷ 5 ∷ 2 ∷ 30 ∷ 34 ∷ 37 ∷ 0 ∷ 185 ∷ 1 ∷ 11 ∷ 5 ∷ 2 ∷ 37 ∷ 48 ∷ 51 ∷ 0 ∷ 203 ∷ 1 ∷ 11 ∷ 5 ∷ 2 ∷ 51 ∷ 60 ∷ 63 ∷ 0 ∷ []) (0 ∷ 11 ∷ 11 ∷ 0 ∷ 35 ∷ 17 ∷ 17 ∷ 35 ∷ 17 ∷ 25 ∷ 11 ∷ 35 ∷ 57 ∷ 25 ∷ 35 ∷ 57 ∷ 17 ∷ 75 ∷ 17 ∷ 25 ∷ 49 ∷ 25 ∷ 43 ∷ 25 ∷ 35 ∷ 25 ∷ 17 ∷ 35 ∷ 25 ∷ 57 ∷ 83 ∷ 25 ∷ 57 ∷ 89 ∷ 35 ∷ 57 ∷ 25 ∷ 75 ∷ 17 ∷ 25 ∷ 49 ∷ 57 ∷ 99 ∷ 17 ∷ 25 ∷ 49 ∷ 57 ∷ 89 ∷ 35 ∷ 57 ∷ 17 ∷ 83 ∷ 57 ∷ 17 ∷ 107 ∷ 17 ∷ 25 ∷ 49 ∷ 57 ∷ 89 ∷ 35 ∷ 17 ∷ 57 ∷ [])
-    ∷ []
+    ∷ [])

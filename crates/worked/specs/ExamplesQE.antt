@@ -1,19 +1,14 @@
--- Books in AUT-QE, with their outcomes: examples of paper 13's rules and readings. Outcomes has them computed.
-use Prim.Native.Nat.{ℕ}
+-- Books in AUT-QE, with their outcomes: examples of paper 13's rules and readings. Worked has them computed.
 use mathlib.Core.List.{List, [], _∷_, _++_}
 use Rattle.aut68.specs.Language.{aut68, autQE}
 use Rattle.aut68.specs.Cases.{Case, bytesOf, within, usual}
-
-unfoldable pub naturals : List ℕ
-naturals = bytesOf "*nat:=PN:type\n*one:=PN:nat\n*n:=EB:nat\nn*suc:=PN:nat\n*two:=suc(one):nat\n"
-
--- a family of types, an abbreviation for it, and a thing in each
-unfoldable pub families : List ℕ
-families = naturals ++ bytesOf "*f:=PN:[x,nat]type\n*d:=f:type\n*g:=PN:f\n*h:=PN:d\n"
+use Rattle.aut68.specs.Telling.{naturals, families, tellingQE}
 
 unfoldable pub examplesQE : List Case
 examplesQE =
-    -- 001, 4.2: a sequence of types
+    tellingQE
+    ++
+    ( -- 001, 4.2: a sequence of types
     usual autQE (naturals ++ bytesOf "*f:=EB:[x,nat]type\nf*t:=<one>f:type\n") 0 7 0
     ∷  -- 001, 4.3: a relation, applied twice (the last argument outermost)
     usual autQE (naturals ++ bytesOf "*R:=EB:[x,nat][y,nat]prop\nR*r:=<two><one>R:prop\n") 0 7 0
@@ -25,8 +20,6 @@ examplesQE =
     usual autQE (bytesOf "*a:=EB:type\na*x:=EB:a\nx*y:=EB:a\ny*IS:=PN:prop\nx*REFL:=PN:IS(a,x,x)\ny*i:=EB:IS(a,x,y)\ni*SYM:=PN:IS(a,y,x)\na*P:=EB:[x,a]prop\nP*x2:=EB:a\nx2*y2:=EB:a\ny2*i2:=EB:IS(a,x2,y2)\ni2*j2:=EB:<x2>P\nj2*ISAX2:=PN:<y2>P\n") 0 13 0
     ∷  -- ISAX2 used: from IS(nat,one,two) and a proof of Q(one), one of Q(two)
     usual autQE (bytesOf "*a:=EB:type\na*x:=EB:a\nx*y:=EB:a\ny*IS:=PN:prop\nx*REFL:=PN:IS(a,x,x)\ny*i:=EB:IS(a,x,y)\ni*SYM:=PN:IS(a,y,x)\na*P:=EB:[x,a]prop\nP*x2:=EB:a\nx2*y2:=EB:a\ny2*i2:=EB:IS(a,x2,y2)\ni2*j2:=EB:<x2>P\nj2*ISAX2:=PN:<y2>P\n*nat:=PN:type\n*one:=PN:nat\n*n0:=EB:nat\nn0*suc:=PN:nat\n*two:=suc(one):nat\n*Q:=PN:[z,nat]prop\n*e:=PN:IS(nat,one,two)\n*q1:=PN:<one>Q\n*q2:=ISAX2(nat,Q,one,two,e,q1):<two>Q\n") 0 22 0
-    ∷  -- 001, 3.3 and 3.4: modus ponens, con, non, dnl
-    usual autQE (bytesOf "*p:=EB:prop\np*q:=EB:prop\nq*i:=EB:[x,p]q\ni*j:=EB:p\nj*mp:=<j>i:q\n*con:=PN:prop\np*non:=[x,p]con:prop\np*k:=EB:non(non(p))\nk*dnl:=PN:p\n") 0 9 0
     ∷  -- 001, 3.4: for all x, P(x): an abstraction; its category is [x,nat]prop
     usual autQE (naturals ++ bytesOf "*P:=EB:[x,nat]prop\nP*all:=[x,nat]<x>P:[x,nat]prop\nP*al2:=[x,nat]<x>P:prop\n") 0 8 0
     ∷  -- 001, 4.4: the predicate itself stands for the universal statement; instantiation is the second chance
@@ -37,14 +30,10 @@ examplesQE =
     usual autQE (naturals ++ bytesOf "*u:=nat:[x,nat]type\n") 9 6 0
     ∷  -- the last ones are the surplus, not the first
     usual autQE (naturals ++ bytesOf "*nt2:=PN:type\n*R:=PN:[x,nt2][y,nat]type\n*r:=R:[y,nat]type\n") 9 8 0
-    ∷  -- prop is no type
-    usual autQE (naturals ++ bytesOf "*p:=PN:prop\n*u:=p:type\n") 9 7 0
     ∷  -- a proposition as a domain, in a supertype too
     usual autQE (naturals ++ bytesOf "*p:=PN:prop\n*u:=PN:[x,p]type\n*v:=[x,p]nat:[x,p]type\n*w:=[x,p]nat:type\n") 0 9 0
     ∷  -- second chance at a constant
     usual autQE (families ++ bytesOf "*u:=<one>g:<one>f\n") 0 10 0
-    ∷  -- second chance: d has category type, but unfolds to f; the head step is counted
-    usual autQE (families ++ bytesOf "*u:=<one>h:<one>f\n") 0 10 1
     ∷  -- the applied thing itself is not unfolded: d is no function
     usual autQE (families ++ bytesOf "*u:=<one>d:type\n") 7 10 0
     ∷  -- a category <one>d is no right one, though <one>f is
@@ -101,4 +90,4 @@ examplesQE =
     within autQE 0 128 (families ++ bytesOf "*u:=<one>h:<one>f\n") 11 10 0
     ∷  -- the sample of document 01
     usual autQE (naturals ++ bytesOf "*F:=[x,nat]nat:type\n*plus2:=[x,nat]suc(suc(x)):F\n*four:=<two>plus2:nat\n") 0 8 2
-    ∷ []
+    ∷ [])

@@ -1,12 +1,15 @@
--- Paper 7's cases: books with paragraphs, with the rows, the term cells and the index that are left. Outcomes has them computed.
-use mathlib.Core.List.{List, [], _∷_}
+-- Paper 7's cases: books with paragraphs, with the rows, the term cells and the index that are left. Worked has them computed.
+use mathlib.Core.List.{List, [], _∷_, _++_}
 use Rattle.aut68.specs.Language.{aut68}
 use Rattle.aut68.specs.Stores.{lending}
 use Rattle.aut68.specs.Cases.{Kept, indexed, bytesOf, under, usual}
+use Rattle.aut68.specs.Telling.{tellingParagraphs}
 
 unfoldable pub paragraphCases : List Kept
 paragraphCases =
-    -- a paragraph with one line: its row has 1 in the ninth cell, the last line 0
+    tellingParagraphs
+    ++
+    ( -- a paragraph with one line: its row has 1 in the ninth cell, the last line 0
     indexed (usual aut68 (bytesOf "+p\n*a:=PN:type\n-p\n*b:=PN:type\n") 0 2 0)
     (4 ∷ 1 ∷ 0 ∷ 0 ∷ 1 ∷ 0 ∷ 0 ∷ 1 ∷ 1 ∷ 19 ∷ 1 ∷ 0 ∷ 0 ∷ 1 ∷ 1 ∷ 1 ∷ 2 ∷ 0 ∷ []) (0 ∷ 0 ∷ []) (0 ∷ 0 ∷ [])
     ∷  -- paragraph lines alone: no line, no row
@@ -18,9 +21,6 @@ paragraphCases =
     ∷  -- paragraphs are numbered in order of opening
     indexed (usual aut68 (bytesOf "+p\n+q\n*a:=PN:type\n-q\n*a:=PN:type\n-p\n+q\n*a:=PN:type\n-q\n*a:=PN:type\n") 0 4 0)
     (7 ∷ 1 ∷ 0 ∷ 0 ∷ 1 ∷ 0 ∷ 0 ∷ 1 ∷ 2 ∷ 22 ∷ 1 ∷ 0 ∷ 0 ∷ 1 ∷ 1 ∷ 1 ∷ 2 ∷ 1 ∷ 40 ∷ 1 ∷ 0 ∷ 0 ∷ 1 ∷ 2 ∷ 2 ∷ 3 ∷ 3 ∷ 55 ∷ 1 ∷ 0 ∷ 0 ∷ 1 ∷ 3 ∷ 3 ∷ 4 ∷ 0 ∷ []) (0 ∷ 0 ∷ 0 ∷ 0 ∷ []) (0 ∷ 0 ∷ 0 ∷ 0 ∷ [])
-    ∷  -- an identifier may stand again in another paragraph; the innermost is meant: b has the category of line 2
-    indexed (usual aut68 (bytesOf "*a:=PN:type\n+p\n*a:=PN:type\n*b:=PN:a\n-p\n") 0 3 0)
-    (1 ∷ 1 ∷ 0 ∷ 0 ∷ 1 ∷ 0 ∷ 0 ∷ 1 ∷ 0 ∷ 16 ∷ 1 ∷ 0 ∷ 0 ∷ 1 ∷ 1 ∷ 1 ∷ 2 ∷ 1 ∷ 28 ∷ 1 ∷ 0 ∷ 0 ∷ 1 ∷ 2 ∷ 2 ∷ 3 ∷ 1 ∷ []) (0 ∷ 0 ∷ 19 ∷ []) (0 ∷ 0 ∷ 1 ∷ 2 ∷ [])
     ∷  -- before the inner line stands, the outer one is meant
     indexed (usual aut68 (bytesOf "*a:=PN:type\n+p\n*b:=PN:a\n*a:=PN:type\n-p\n") 0 3 0)
     (1 ∷ 1 ∷ 0 ∷ 0 ∷ 1 ∷ 0 ∷ 0 ∷ 1 ∷ 0 ∷ 16 ∷ 1 ∷ 0 ∷ 0 ∷ 1 ∷ 1 ∷ 1 ∷ 2 ∷ 1 ∷ 25 ∷ 1 ∷ 0 ∷ 0 ∷ 1 ∷ 2 ∷ 2 ∷ 3 ∷ 1 ∷ []) (0 ∷ 11 ∷ 0 ∷ []) (0 ∷ 1 ∷ 1 ∷ 0 ∷ [])
@@ -41,9 +41,6 @@ paragraphCases =
     (4 ∷ 1 ∷ 0 ∷ 0 ∷ 1 ∷ 0 ∷ 0 ∷ 1 ∷ 1 ∷ 22 ∷ 1 ∷ 0 ∷ 0 ∷ 1 ∷ 1 ∷ 1 ∷ 2 ∷ 2 ∷ 37 ∷ 1 ∷ 0 ∷ 0 ∷ 1 ∷ 2 ∷ 2 ∷ 3 ∷ 0 ∷ 48 ∷ 1 ∷ 0 ∷ 0 ∷ 1 ∷ 3 ∷ 3 ∷ 4 ∷ 0 ∷ []) (0 ∷ 0 ∷ 11 ∷ 19 ∷ []) (0 ∷ 0 ∷ 1 ∷ 1 ∷ 1 ∷ 2 ∷ [])
     ∷  -- a closed paragraph is not looked into without its name
     indexed (usual aut68 (bytesOf "+p\n*a:=PN:type\n-p\n*b:=PN:a\n") 5 2 0)
-    (4 ∷ 1 ∷ 0 ∷ 0 ∷ 1 ∷ 0 ∷ 0 ∷ 1 ∷ 1 ∷ []) (0 ∷ []) (0 ∷ [])
-    ∷  -- p.a inside the open p: p is not closed
-    indexed (usual aut68 (bytesOf "+p\n*a:=PN:type\n*b:=PN:p.a\n-p\n") 5 2 0)
     (4 ∷ 1 ∷ 0 ∷ 0 ∷ 1 ∷ 0 ∷ 0 ∷ 1 ∷ 1 ∷ []) (0 ∷ []) (0 ∷ [])
     ∷  -- no such paragraph
     indexed (usual aut68 (bytesOf "+p\n*a:=PN:type\n-p\n*b:=PN:q.a\n") 5 2 0)
@@ -120,9 +117,6 @@ paragraphCases =
     ∷  -- a paragraph named as an earlier line of the same paragraph
     indexed (usual aut68 (bytesOf "*a:=PN:type\n+a\n-a\n") 4 2 0)
     (1 ∷ 1 ∷ 0 ∷ 0 ∷ 1 ∷ 0 ∷ 0 ∷ 1 ∷ 0 ∷ []) (0 ∷ []) (0 ∷ [])
-    ∷  -- a line named as an earlier paragraph of the same paragraph
-    indexed (usual aut68 (bytesOf "+a\n-a\n*a:=PN:type\n") 4 1 0)
-    [] [] []
     ∷  -- a closed paragraph is not opened again
     indexed (usual aut68 (bytesOf "+p\n*a:=PN:type\n-p\n+p\n-p\n") 4 2 0)
     (4 ∷ 1 ∷ 0 ∷ 0 ∷ 1 ∷ 0 ∷ 0 ∷ 1 ∷ 1 ∷ []) (0 ∷ []) (0 ∷ [])
@@ -135,9 +129,6 @@ paragraphCases =
     ∷  -- 33 are 12, with the next row's number
     indexed (usual aut68 (bytesOf "*a:=PN:type\n+p1\n+p2\n+p3\n+p4\n+p5\n+p6\n+p7\n+p8\n+p9\n+p10\n+p11\n+p12\n+p13\n+p14\n+p15\n+p16\n+p17\n+p18\n+p19\n+p20\n+p21\n+p22\n+p23\n+p24\n+p25\n+p26\n+p27\n+p28\n+p29\n+p30\n+p31\n+p32\n+p33\n") 12 2 0)
     (1 ∷ 1 ∷ 0 ∷ 0 ∷ 1 ∷ 0 ∷ 0 ∷ 1 ∷ 0 ∷ []) (0 ∷ []) (0 ∷ [])
-    ∷  -- 4 is looked at first: the 33rd has a name taken in the 32nd
-    indexed (usual aut68 (bytesOf "+p1\n+p2\n+p3\n+p4\n+p5\n+p6\n+p7\n+p8\n+p9\n+p10\n+p11\n+p12\n+p13\n+p14\n+p15\n+p16\n+p17\n+p18\n+p19\n+p20\n+p21\n+p22\n+p23\n+p24\n+p25\n+p26\n+p27\n+p28\n+p29\n+p30\n+p31\n+p32\n*a:=PN:type\n+a\n") 4 2 0)
-    (152 ∷ 1 ∷ 0 ∷ 0 ∷ 1 ∷ 0 ∷ 0 ∷ 1 ∷ 32 ∷ []) (0 ∷ []) (0 ∷ [])
     ∷  -- the case for 12: 63 table cells hold seven rows
     indexed (under aut68 (lending 100000 128 63 16384 16384 16384) (bytesOf "*nat:=PN:type\n*one:=PN:nat\n*n:=EB:nat\nn*suc:=PN:nat\n*two:=suc(one):nat\n*F:=[x,nat]nat:type\n*plus2:=[x,nat]suc(suc(x)):F\n*four:=<two>plus2:nat\n") 12 8 1)
     (1 ∷ 3 ∷ 0 ∷ 0 ∷ 1 ∷ 0 ∷ 0 ∷ 1 ∷ 0 ∷ 15 ∷ 3 ∷ 0 ∷ 0 ∷ 1 ∷ 1 ∷ 1 ∷ 2 ∷ 0 ∷ 28 ∷ 1 ∷ 0 ∷ 0 ∷ 0 ∷ 2 ∷ 2 ∷ 3 ∷ 0 ∷ 40 ∷ 3 ∷ 3 ∷ 1 ∷ 1 ∷ 3 ∷ 3 ∷ 4 ∷ 0 ∷ 53 ∷ 3 ∷ 0 ∷ 0 ∷ 2 ∷ 4 ∷ 6 ∷ 7 ∷ 0 ∷ 72 ∷ 1 ∷ 0 ∷ 0 ∷ 2 ∷ 7 ∷ 10 ∷ 11 ∷ 0 ∷ 92 ∷ 5 ∷ 0 ∷ 0 ∷ 2 ∷ 11 ∷ 16 ∷ 17 ∷ 0 ∷ []) (0 ∷ 11 ∷ 11 ∷ 11 ∷ 35 ∷ 19 ∷ 11 ∷ 5 ∷ 11 ∷ 11 ∷ 0 ∷ 5 ∷ 11 ∷ 35 ∷ 35 ∷ 2 ∷ 51 ∷ []) (0 ∷ 1 ∷ 1 ∷ 1 ∷ 1 ∷ 2 ∷ 1 ∷ 3 ∷ 3 ∷ 1 ∷ 2 ∷ 4 ∷ 1 ∷ 1 ∷ 3 ∷ 1 ∷ 4 ∷ 6 ∷ [])
@@ -195,7 +186,4 @@ paragraphCases =
     ∷  -- books without paragraphs and points are as before, but for the ninth cell
     indexed (usual aut68 (bytesOf "*nat:=PN:type\n*one:=PN:nat\n*n:=EB:nat\nn*suc:=PN:nat\n*two:=suc(one):nat\n*F:=[x,nat]nat:type\n*plus2:=[x,nat]suc(suc(x)):F\n*four:=<two>plus2:nat\n") 0 8 2)
     (1 ∷ 3 ∷ 0 ∷ 0 ∷ 1 ∷ 0 ∷ 0 ∷ 1 ∷ 0 ∷ 15 ∷ 3 ∷ 0 ∷ 0 ∷ 1 ∷ 1 ∷ 1 ∷ 2 ∷ 0 ∷ 28 ∷ 1 ∷ 0 ∷ 0 ∷ 0 ∷ 2 ∷ 2 ∷ 3 ∷ 0 ∷ 40 ∷ 3 ∷ 3 ∷ 1 ∷ 1 ∷ 3 ∷ 3 ∷ 4 ∷ 0 ∷ 53 ∷ 3 ∷ 0 ∷ 0 ∷ 2 ∷ 4 ∷ 6 ∷ 7 ∷ 0 ∷ 72 ∷ 1 ∷ 0 ∷ 0 ∷ 2 ∷ 7 ∷ 10 ∷ 11 ∷ 0 ∷ 92 ∷ 5 ∷ 0 ∷ 0 ∷ 2 ∷ 11 ∷ 16 ∷ 17 ∷ 0 ∷ 121 ∷ 4 ∷ 0 ∷ 0 ∷ 2 ∷ 17 ∷ 20 ∷ 21 ∷ 0 ∷ []) (0 ∷ 11 ∷ 11 ∷ 11 ∷ 35 ∷ 19 ∷ 11 ∷ 5 ∷ 11 ∷ 11 ∷ 0 ∷ 5 ∷ 11 ∷ 35 ∷ 35 ∷ 2 ∷ 51 ∷ 4 ∷ 43 ∷ 59 ∷ 11 ∷ []) (0 ∷ 1 ∷ 1 ∷ 1 ∷ 1 ∷ 2 ∷ 1 ∷ 3 ∷ 3 ∷ 1 ∷ 2 ∷ 4 ∷ 1 ∷ 1 ∷ 3 ∷ 1 ∷ 4 ∷ 6 ∷ 3 ∷ 1 ∷ 5 ∷ 7 ∷ [])
-    ∷  -- a closing of the outer one does not close the inner with it
-    indexed (usual aut68 (bytesOf "+p\n+q\n-p\n") 17 1 0)
-    [] [] []
-    ∷ []
+    ∷ [])
