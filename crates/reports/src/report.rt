@@ -248,3 +248,19 @@ pub fn admitted(r: AnswerNumbers, book: &[u8]) -> u32 {
     }
     ordinary_lines(book)
 }
+
+// What a comparison ends with, and what became of the stores behind the lines that were admitted.
+pub fn compared(
+    r: AnswerNumbers,
+    book: &[u8],
+    table: &[u32],
+    terms: &[Cell],
+    work: &[Cell],
+    index: &[u32],
+    limit: u32,
+) {
+    let n = admitted(r, book);
+    numbers(r, 10);
+    entries(index, n, 0);
+    other_cells(table, terms, work, n, limit);
+}
