@@ -4,3 +4,4 @@ mod lines;
 
 pub use admission::Admission;
 pub use admission::admit;
+pub use lines::check_linked;

@@ -96,7 +96,7 @@ fn at_end(p: Progress, depth: usize) -> Progress
 }
 
 // The lines of the book, one after the other, up to the first that is refused (checkLines). The rows stay linked.
-fn check_linked(
+pub fn check_linked(
     book: &[u8],
     table: &mut [u32],
     terms: &mut [Cell],

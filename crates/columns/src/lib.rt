@@ -25,7 +25,7 @@ fn figure(rest: usize, is_last: bool) -> u8 {
 }
 
 // Writes x in decimal at out[at..at + width], right-justified, spaces before it; nothing if that is not within out.
-fn put_number(out: &mut [u8], at: usize, width: usize, x: usize) {
+pub fn put_number(out: &mut [u8], at: usize, width: usize, x: usize) {
     if at > out.len() {
         return;
     }
