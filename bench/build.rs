@@ -1,13 +1,11 @@
-//! Links the archives that `rt staticlib c_api` and `rt staticlib comparison_api` write.
+//! Links the archive that `rt staticlib c_api` writes.
 
 use std::path::Path;
 
 fn main() {
     let root = std::env::var("CARGO_MANIFEST_DIR").unwrap();
-    let folder = Path::new(&root).join("../target/staticlib");
-    println!("cargo:rustc-link-search=native={}", folder.display());
-    for archive in ["c_api", "comparison_api"] {
-        println!("cargo:rustc-link-lib=static={archive}");
-        println!("cargo:rerun-if-changed={}", folder.join(format!("lib{archive}.a")).display());
-    }
+    let archive = Path::new(&root).join("../target/staticlib");
+    println!("cargo:rustc-link-search=native={}", archive.display());
+    println!("cargo:rustc-link-lib=static=c_api");
+    println!("cargo:rerun-if-changed={}", archive.join("libc_api.a").display());
 }

@@ -4,6 +4,7 @@ mod blocks;
 mod calls;
 mod closed;
 mod comparison;
+mod desk;
 mod divided;
 mod division;
 mod expressions;
@@ -37,7 +38,7 @@ const SEED: u64 = 1;
 const BOOKS: usize = 400_000;
 const LEAST_BOOKS: usize = 100_000;
 /// A run on a busy machine stops here.
-const LONGEST: Duration = Duration::from_secs(110);
+const LONGEST: Duration = Duration::from_secs(150);
 /// So many books are made from one.
 const BOOKS_FROM_ONE: usize = 15;
 

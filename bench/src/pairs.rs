@@ -1,7 +1,12 @@
-//! Pairs of expressions, and what a comparison of them ends with.
+//! The two comparisons, and the pairs of strings that are brought to them.
 
-use crate::sizes::{Cell, LEFT_UNIT, RIGHT_UNIT};
+use std::fmt;
+
+use crate::sizes::Cell;
 use crate::stores::Stores;
+use crate::Answer;
+
+const CELLS_SHOWN: usize = 400;
 
 /// The two comparisons.
 #[derive(Clone, Copy, Debug, PartialEq, Eq)]
@@ -16,8 +21,7 @@ impl Order {
     pub const BOTH: [Order; 2] = [Order::StepsFirst, Order::PartsFirst];
 }
 
-/// Two expressions in prefix order.
-#[derive(Clone, Debug, PartialEq, Eq)]
+/// Two strings of cells.
 pub struct Pair {
     pub left: Vec<Cell>,
     pub right: Vec<Cell>,
@@ -30,30 +34,31 @@ impl Pair {
         Pair { left, right }
     }
 
-    /// How many cells the larger side has.
-    pub fn size(&self) -> usize {
-        self.left.len().max(self.right.len())
-    }
-
-    /// Puts the sides where the verified program is given them.
-    pub fn put(&self, work: &mut [Cell], limit: usize) {
-        for (unit, side) in [(LEFT_UNIT, &self.left), (RIGHT_UNIT, &self.right)] {
-            work[unit * limit..][..side.len()].copy_from_slice(side);
-        }
+    pub fn sides(&self) -> [&[Cell]; 2] {
+        [&self.left, &self.right]
     }
 }
 
-/// What a comparison ends with: code, and what is left of the budget.
-#[repr(C)]
-#[derive(Clone, Copy, Debug, PartialEq, Eq)]
-pub struct Compared {
-    pub code: u32,
+/// The first cells of each, and how many there are.
+impl fmt::Debug for Pair {
+    fn fmt(&self, f: &mut fmt::Formatter) -> fmt::Result {
+        let shown = |side: &[Cell]| format!("{:?}, {} cells", &side[..side.len().min(CELLS_SHOWN)], side.len());
+        let [left, right] = self.sides().map(shown);
+        write!(f, "left {left}, right {right}")
+    }
+}
+
+/// What is asked at the desk over a book: a pair, by one of the comparisons, with a budget apart from that of the book's check.
+#[derive(Clone, Copy, Debug)]
+pub struct Request<'r> {
+    pub order: Order,
+    pub pair: &'r Pair,
     pub budget: u32,
 }
 
-impl Compared {
-    /// Whether the sides are known to be equal or different.
+impl Answer {
+    /// Of a request: whether the sides are known to be equal or different. In a refusal that is passed on there is a line.
     pub fn ended(&self) -> bool {
-        self.code == 0 || self.code == 9
+        self.line == 0 && matches!(self.code, 0 | 9)
     }
 }

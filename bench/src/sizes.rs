@@ -15,11 +15,6 @@ pub const LARGEST_LIMIT: u32 = 4_096;
 /// Working cells for each cell of the limit.
 pub const WORK_UNITS: usize = 128;
 
-/// In units of the limit: where the sides of a pair are put, and from where on their comparison may write.
-pub const LEFT_UNIT: usize = 24;
-pub const RIGHT_UNIT: usize = 25;
-pub const COMPARISON_UNIT: usize = 62;
-
 /// Table cells for each line.
 pub const ROW_WIDTH: usize = 9;
 
@@ -51,4 +46,4 @@ pub const TEXT_COLUMNS: usize = 66;
 pub const PAGE_ROW: usize = NUMBER_COLUMNS + 1 + TEXT_COLUMNS + 1;
 
 /// How many codes there are, that of acceptance among them.
-pub const CODES: usize = 18;
+pub const CODES: usize = 19;

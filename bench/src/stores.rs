@@ -27,6 +27,14 @@ impl Stores {
         [MIDDLE, CATEGORY].map(|part| &self.terms[row[part] as usize..row[part + 1] as usize])
     }
 
+    /// Makes them as long as others, with the same cells.
+    pub fn copy_from(&mut self, other: &Stores) {
+        self.table.clone_from(&other.table);
+        self.terms.clone_from(&other.terms);
+        self.work.clone_from(&other.work);
+        self.index.clone_from(&other.index);
+    }
+
     /// How many cells of the index the entries of the first lines take.
     pub fn indexed(&self, lines: usize) -> usize {
         (0..lines).fold(0, |at, _| at + 1 + self.index[at] as usize)

@@ -1,15 +1,16 @@
 //! Times of the verified program and of the baseline on large books.
 
+mod desk;
 mod measure;
 mod turns;
 
 use std::time::{Duration, Instant};
 
-use crate::generate::{self, Kind, PairKind};
+use crate::generate::{self, Kind};
 use crate::sizes::{LARGEST_LIMIT, MOST_LINES, NARROW_LINES, PAGE_ROW};
 use crate::stores::Stores;
 use crate::Outcome;
-use measure::{Checked, Comparing, Given};
+use measure::{Checked, Given};
 use turns::{least, median, milliseconds, timed};
 
 const SEED: u64 = 1;
@@ -24,18 +25,13 @@ const LIMITS: [u32; 6] = [4_096, 2_048, 1_024, 512, 256, 128];
 const LIMITED: [(Kind, usize); 4] =
     [(Kind::Theories, 11_000), (Kind::Theories, MOST_LINES), (Kind::Paragraphs, 11_000), (Kind::Sections, 11_000)];
 
-/// The lengths of the pairs that are compared, and their budget.
-const PAIR_LENGTHS: [usize; 6] = [4, 8, 12, 16, 20, 24];
-const PAIR_BUDGET: u32 = 1_000_000;
-const PAIR_LIMIT: u32 = 1_024;
-
 const TIME_TO_PROFILE: Duration = Duration::from_secs(2);
 
 pub type Check = fn(&[u8], u32, u32, &mut Stores) -> Outcome;
 
 /// Prints the tables; false if some book is not accepted by both with the same rows and cells.
 pub fn print() -> bool {
-    [ratios, lengths, limits, resting, printing, pairs, orders].iter().all(|table| table().is_some())
+    [ratios, lengths, limits, resting, printing, desk::pairs, orders].iter().all(|table| table().is_some())
 }
 
 /// The book of a kind with so many lines, or as many as there is room for, and how many it has.
@@ -164,27 +160,6 @@ fn printing() -> Option<()> {
             milliseconds(m.verified.second), m.verified.ratio, m.verified.surplus, m.baseline.surplus,
             m.verified.surplus / m.baseline.surplus,
         );
-    }
-    Some(())
-}
-
-/// What each comparison takes on pairs of growing length.
-fn pairs() -> Option<()> {
-    println!("\npairs by the first comparison and by the second, L = {PAIR_LIMIT}, at most {PAIR_BUDGET} steps; us verified, and its");
-    println!("ratio to the baseline");
-    println!("pair       length{}", "  code    steps          us   ratio".repeat(2));
-    for kind in PairKind::ALL {
-        for length in PAIR_LENGTHS {
-            let book = kind.book(length);
-            let lines = generate::count_lines(&book);
-            let comparings = measure::pair(&Given { title: kind.title(), book: &book, lines, limit: PAIR_LIMIT }, PAIR_BUDGET)?;
-            print!("{:<11}{length:>6}", kind.title());
-            for Comparing { compared, turns, calls } in comparings {
-                let time = milliseconds(turns.first) * 1e3 / f64::from(calls);
-                print!("{:>6}{:>9}{time:>12.3}{:>8.2}", compared.code, PAIR_BUDGET - compared.budget, turns.ratio);
-            }
-            println!();
-        }
     }
     Some(())
 }

@@ -1,7 +1,7 @@
-//! The verified program, linked from its archives.
+//! The verified program, linked from its archive.
 
-use crate::pairs::{Compared, Order};
-use crate::sizes::{Cell, NarrowCell, LEFT_UNIT, RIGHT_UNIT};
+use crate::pairs::{Order, Request};
+use crate::sizes::{Cell, NarrowCell};
 use crate::stores::Stores;
 use crate::{Answer, Outcome};
 
@@ -35,20 +35,28 @@ extern "C" {
     ) -> Answer;
     fn aut68_widen(source: *const NarrowCell, source_length: usize, target: *mut Cell, target_length: usize) -> Answer;
     fn aut68_narrow(source: *const Cell, source_length: usize, target: *mut NarrowCell, target_length: usize) -> Answer;
-    fn comparison_first(
-        table: *const u32, table_length: usize,
-        terms: *const Cell, terms_length: usize,
+    fn aut68_compare(
+        book: *const u8, book_length: usize,
+        budget: u32, limit: u32,
+        table: *mut u32, table_length: usize,
+        terms: *mut Cell, terms_length: usize,
         work: *mut Cell, work_length: usize,
-        limit: usize, budget: u32,
-        left: usize, right: usize,
-    ) -> Compared;
-    fn comparison_parts_first(
-        table: *const u32, table_length: usize,
-        terms: *const Cell, terms_length: usize,
+        index: *mut u32, index_length: usize,
+        left: *const Cell, left_length: usize,
+        right: *const Cell, right_length: usize,
+        own_budget: u32,
+    ) -> Answer;
+    fn aut68_compare_parts_first(
+        book: *const u8, book_length: usize,
+        budget: u32, limit: u32,
+        table: *mut u32, table_length: usize,
+        terms: *mut Cell, terms_length: usize,
         work: *mut Cell, work_length: usize,
-        limit: usize, budget: u32,
-        left: usize, right: usize,
-    ) -> Compared;
+        index: *mut u32, index_length: usize,
+        left: *const Cell, left_length: usize,
+        right: *const Cell, right_length: usize,
+        own_budget: u32,
+    ) -> Answer;
 }
 
 pub fn check(book: &[u8], budget: u32, limit: u32, stores: &mut Stores) -> Outcome {
@@ -97,18 +105,19 @@ pub fn narrow(source: &[Cell], target: &mut [NarrowCell]) -> Answer {
     unsafe { aut68_narrow(source.as_ptr(), source.len(), target.as_mut_ptr(), target.len()) }
 }
 
-/// Compares two expressions that stand in the working store, over what the check of an accepted book left.
-pub fn compare(order: Order, limit: usize, budget: u32, stores: &mut Stores) -> Compared {
-    let Stores { table, terms, work, .. } = stores;
-    let comparison = match order {
-        Order::StepsFirst => comparison_first,
-        Order::PartsFirst => comparison_parts_first,
+pub fn compare(book: &[u8], budget: u32, limit: u32, stores: &mut Stores, request: &Request) -> Answer {
+    let Stores { table, terms, work, index } = stores;
+    let [left, right] = request.pair.sides();
+    let call = match request.order {
+        Order::StepsFirst => aut68_compare,
+        Order::PartsFirst => aut68_compare_parts_first,
     };
-    // Sound: as above.
+    // Sound: as above; the strings are borrowed apart from the stores, for reading.
     unsafe {
-        comparison(
-            table.as_ptr(), table.len(), terms.as_ptr(), terms.len(), work.as_mut_ptr(), work.len(), limit, budget,
-            LEFT_UNIT * limit, RIGHT_UNIT * limit,
+        call(
+            book.as_ptr(), book.len(), budget, limit,
+            table.as_mut_ptr(), table.len(), terms.as_mut_ptr(), terms.len(), work.as_mut_ptr(), work.len(),
+            index.as_mut_ptr(), index.len(), left.as_ptr(), left.len(), right.as_ptr(), right.len(), request.budget,
         )
     }
 }

@@ -1,33 +1,50 @@
-//! Comparisons of expressions over an accepted book.
+//! The desk of an accepted book: strings of cells that are tested, then compared.
 
 use super::comparison::{Book, Budget, Comparer};
 use super::lines::Lines;
 use super::notes::PairNotes;
-use crate::pairs::{Compared, Order, Pair};
+use super::whole::is_whole;
+use super::{declined, Refusal};
+use crate::pairs::Request;
 use crate::sizes::{Cell, ROW_WIDTH};
 use crate::stores::Stores;
+use crate::Answer;
 
-/// What the check of an accepted book left, and the stores that comparisons share.
-pub struct Accepted {
+/// The lines of an accepted book and their cells, and the stores that comparisons share.
+pub struct Accepted<'t> {
     lines: Lines,
-    terms: Vec<Cell>,
-    comparers: [Comparer; 2],
+    terms: &'t [Cell],
+    comparer: Comparer,
 }
 
-impl Accepted {
-    pub fn new(lines: usize, stores: &Stores) -> Self {
-        let rows = &stores.table[..ROW_WIDTH * lines];
-        let terms = stores.terms[..stores.recorded_cells(lines)].to_vec();
-        Accepted { lines: Lines::of_rows(rows), terms, comparers: Order::BOTH.map(Comparer::new) }
+impl<'t> Accepted<'t> {
+    pub fn new(lines: Lines, terms: &'t [Cell]) -> Self {
+        Accepted { lines, terms, comparer: Comparer::new() }
     }
 
-    /// What a comparison ends with, and what was met in it.
-    pub fn compare(&mut self, order: Order, pair: &Pair, limit: usize, budget: u32) -> (Compared, PairNotes) {
-        let Accepted { lines, terms, comparers } = self;
-        let mut budget = Budget::new(budget);
-        let book = Book { lines, terms, limit };
-        let refusal = comparers[order as usize].compare(&pair.left, &pair.right, &book, &mut budget).err();
-        let Budget { steps, most, notes } = budget;
-        (Compared { code: refusal.map_or(0, |r| r as u32), budget: most - steps }, notes)
+    /// So many lines, as the check left them.
+    pub fn of_stores(lines: usize, stores: &'t Stores) -> Self {
+        Accepted::new(Lines::of_rows(&stores.table[..ROW_WIDTH * lines]), &stores.terms)
+    }
+
+    pub fn is_whole(&self, string: &[Cell]) -> bool {
+        is_whole(string, &self.lines)
+    }
+
+    /// What a request ends with, and what was met in its comparison. Nothing but vectors of the comparison's own is written.
+    pub fn answer(&mut self, limit: u32, request: &Request) -> (Answer, PairNotes) {
+        let [left, right] = request.pair.sides();
+        let limit = limit as usize;
+        if !self.is_whole(left) || !self.is_whole(right) {
+            return (declined(Refusal::NotWhole), PairNotes::default());
+        }
+        if left.len() > limit || right.len() > limit {
+            return (declined(Refusal::TooLarge), PairNotes::default());
+        }
+        let book = Book { lines: &self.lines, terms: self.terms, limit };
+        let mut budget = Budget::new(request.budget);
+        let refusal = self.comparer.compare(request.order, left, right, &book, &mut budget).err();
+        let code = refusal.map_or(0, |r| r as u32);
+        (Answer { code, line: 0, steps: budget.steps, length: 0 }, budget.notes)
     }
 }

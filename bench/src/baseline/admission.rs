@@ -40,6 +40,11 @@ impl<'b, 's> Admission<'b, 's> {
         self.checker.steps()
     }
 
+    /// The lines that were accepted.
+    pub fn into_lines(self) -> Lines {
+        self.lines
+    }
+
     pub fn book(&mut self, book: &'b [u8]) -> Result<(), Refusal> {
         let mut reader = Reader::new(book, self.limit);
         while !reader.at_end() {

@@ -37,6 +37,7 @@ struct Frame {
 pub struct Checker {
     budget: Budget,
     limit: usize,
+    order: Order,
     comparer: Comparer,
     frames: Vec<Frame>,
     out: Vec<Cell>,
@@ -51,7 +52,8 @@ impl Checker {
         Checker {
             budget: Budget::new(budget),
             limit,
-            comparer: Comparer::new(order),
+            order,
+            comparer: Comparer::new(),
             frames: (0..NESTING).map(|_| Frame::default()).collect(),
             out: Vec::new(),
             arguments: Vec::new(),
@@ -65,11 +67,11 @@ impl Checker {
 
     /// The written category, the middle, their comparison. The first `middle` cells are the middle's.
     pub fn line(&mut self, lines: &Lines, terms: &[Cell], cells: &[Cell], middle: usize) -> Result<(), Refusal> {
-        let Checker { budget, limit, comparer, frames, out, arguments, domains } = self;
+        let Checker { budget, limit, order, comparer, frames, out, arguments, domains } = self;
         arguments.clear();
         domains.clear();
         let book = Book { lines, terms, limit: *limit };
-        let mut check = Check { book, cells, budget, comparer, arguments, domains };
+        let mut check = Check { book, cells, budget, order: *order, comparer, arguments, domains };
         let written = &cells[middle..];
         if written[0] != cells::TYPE {
             check.is_type(middle, out, frames)?;
@@ -88,6 +90,7 @@ struct Check<'a, 'b> {
     book: Book<'a>,
     cells: &'a [Cell],
     budget: &'b mut Budget,
+    order: Order,
     comparer: &'b mut Comparer,
     arguments: &'b mut Vec<(u32, u32)>,
     domains: &'b mut Vec<(u32, u32)>,
@@ -95,7 +98,7 @@ struct Check<'a, 'b> {
 
 impl<'a> Check<'a, '_> {
     fn compare(&mut self, found: &[Cell], wanted: &[Cell]) -> Result<(), Refusal> {
-        self.comparer.compare(found, wanted, &self.book, self.budget)
+        self.comparer.compare(self.order, found, wanted, &self.book, self.budget)
     }
 
     /// The category of the expression at `at`, made behind `out` if it is not stored, and the expression's end.

@@ -12,7 +12,7 @@ pub const APPLICATION: Cell = 4;
 pub const ABSTRACTION: Cell = 5;
 
 #[inline]
-pub fn cell(kind: Cell, value: Cell) -> Cell {
+pub const fn cell(kind: Cell, value: Cell) -> Cell {
     CELL_FACTOR * value + kind
 }
 

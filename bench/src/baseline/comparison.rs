@@ -135,23 +135,24 @@ pub fn abstraction<'s>(
     Ok((&cells[1..body], &cells[body..]))
 }
 
-/// One of the two comparisons, with its stores.
+/// The stores that comparisons share.
 pub struct Comparer {
-    order: Order,
     /// A pair of sides for each depth.
     levels: Vec<(Versions, Versions)>,
 }
 
 impl Comparer {
-    pub fn new(order: Order) -> Self {
-        Comparer { order, levels: (0..NESTING).map(|_| Default::default()).collect() }
+    pub fn new() -> Self {
+        Comparer { levels: (0..NESTING).map(|_| Default::default()).collect() }
     }
 
-    pub fn compare(&mut self, left: &[Cell], right: &[Cell], book: &Book, budget: &mut Budget) -> Result<(), Refusal> {
+    pub fn compare(
+        &mut self, order: Order, left: &[Cell], right: &[Cell], book: &Book, budget: &mut Budget,
+    ) -> Result<(), Refusal> {
         if left == right {
             return Ok(());
         }
-        match self.order {
+        match order {
             Order::StepsFirst => differing::<false>(left, right, &mut self.levels, book, budget),
             Order::PartsFirst => differing::<true>(left, right, &mut self.levels, book, budget),
         }

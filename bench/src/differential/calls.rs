@@ -60,6 +60,12 @@ impl Call {
         Call { budget: u32::MAX, limit, table: ROW_WIDTH * lines, terms, work, index: terms + 2 * lines }
     }
 
+    /// The same under another limit, with as many working cells beyond those that it needs.
+    pub fn with_limit(&self, limit: u32) -> Call {
+        let more = self.work - WORK_UNITS * self.limit as usize;
+        Call { limit, work: WORK_UNITS * limit as usize + more, ..*self }
+    }
+
     /// Stores as long as the call says, every cell with its pattern.
     pub fn prepare(&self, stores: &mut Stores) {
         filled(&mut stores.table, self.table, pattern);

@@ -44,16 +44,16 @@ pub struct Comparison {
 }
 
 impl Comparison {
-    /// Compares the checks of a book, then on some books pairs of expressions, what a line rests on, and their pages.
+    /// Compares the checks of a book, then of some books what a line rests on, their pages, and pairs at their desks.
     pub fn compare(&mut self, random: &mut Random, book: &[u8], call: &Call) {
         let outcome = self.check(book, call);
         self.shelf_of_some_books(&outcome);
-        self.pairs_of_some_books(book, &outcome);
         if random.once_in(if outcome.code == 0 { 2 } else { REFUSED_ASKED }) {
             let question = Question::new(random, &outcome, &self.theirs);
             self.rests_on(book, call, &outcome, question);
         }
         self.print(random, book, call, &outcome);
+        self.pairs_of_some_books(book, call, &outcome);
     }
 
     pub fn check(&mut self, book: &[u8], call: &Call) -> Outcome {

@@ -1,26 +1,25 @@
-//! The two comparisons by both programs, on pairs of expressions over accepted books.
+//! Pairs of expressions over accepted books, at the desk.
 
-use super::calls::{cell_pattern, filled, Call, USUAL_LIMIT};
+use super::calls::{Call, USUAL_LIMIT};
 use super::comparison::Comparison;
+use super::desk::Desk;
 use super::expressions::Maker;
 use super::stored;
 use crate::baseline::{Accepted, PairNotes};
 use crate::generate::PairKind;
-use crate::pairs::{Compared, Order, Pair};
+use crate::pairs::{Order, Pair, Request};
 use crate::random::Random;
-use crate::sizes::{Cell, CODES, COMPARISON_UNIT, LARGEST_LIMIT, NESTING, SMALLEST_LIMIT, WORK_UNITS};
-use crate::{verified, Outcome};
+use crate::sizes::{CODES, LARGEST_LIMIT, NESTING, SMALLEST_LIMIT};
+use crate::{Answer, Outcome};
 
-/// Of the accepted books every so many gets pairs, and so many of them.
+/// Of the accepted books every so many gets pairs, and so many of them; under a limit above the usual one a single pair.
 const BOOKS_WITH_PAIRS: usize = 4;
 const PAIRS: usize = 6;
-/// Of the pairs one in so many is compared under the largest limit.
-const UNDER_LARGEST: usize = 256;
+/// Of these books one in so many is lent stores for the largest limit.
+const UNDER_LARGEST: usize = 64;
 /// Most pairs that end do so in fewer steps, and many of the table's.
-const AMPLE: u32 = 200;
+pub const AMPLE: u32 = 200;
 const AMPLE_FOR_TABLE: u32 = 5_000;
-/// Cells behind the working store.
-const BEHIND: usize = 9;
 
 const MET: [&str; 12] = [
     "pairs that both comparisons call equal",
@@ -37,13 +36,6 @@ const MET: [&str; 12] = [
     "second comparisons with an attempt that made steps and failed",
 ];
 
-/// What a comparison may use.
-#[derive(Clone, Copy, Debug, PartialEq, Eq)]
-pub struct Bounds {
-    pub limit: usize,
-    pub budget: u32,
-}
-
 /// What was met in comparing pairs.
 #[derive(Default)]
 pub struct Pairs {
@@ -52,10 +44,9 @@ pub struct Pairs {
     accepted: usize,
     pairs: usize,
     met: [usize; MET.len()],
-    /// Comparisons that end under smaller bounds, too.
+    /// Comparisons that end under smaller bounds, too; pairs whose book is refused under these.
     kept: [usize; 2],
-    /// The working store before a comparison.
-    before: Vec<Cell>,
+    refused: usize,
 }
 
 impl Pairs {
@@ -63,15 +54,15 @@ impl Pairs {
     pub fn counts(&self) -> impl Iterator<Item = (&'static str, usize)> + '_ {
         let others = [
             ("pairs, each under two bounds", self.pairs),
+            ("pairs whose book is refused under the smaller bounds", self.refused),
             ("first comparisons that end alike under the smaller bounds", self.kept[0]),
             ("second comparisons that end alike under the smaller bounds", self.kept[1]),
         ];
         others.into_iter().chain(MET.into_iter().zip(self.met))
     }
 
-    fn note(&mut self, [first, second]: [Compared; 2], notes: [PairNotes; 2]) {
-        self.codes[0][first.code as usize] += 1;
-        self.codes[1][second.code as usize] += 1;
+    /// Notes a pair of strings that are not above the limit.
+    fn note(&mut self, [first, second]: [Answer; 2], notes: [PairNotes; 2]) {
         let [too_deep, second_too_deep] = notes.map(|n| n.too_deep);
         let failed = notes[1].failed > 0;
         let met = [
@@ -93,120 +84,113 @@ impl Pairs {
 }
 
 impl Comparison {
-    /// Pairs over every so many an accepted book, whose check left the stores.
-    pub fn pairs_of_some_books(&mut self, book: &[u8], outcome: &Outcome) {
+    /// Pairs over every so many an accepted book, which was checked by this call.
+    pub fn pairs_of_some_books(&mut self, book: &[u8], call: &Call, outcome: &Outcome) {
         self.pairs.accepted += usize::from(outcome.code == 0);
-        let lines = outcome.recorded();
-        if outcome.code != 0 || lines == 0 || self.pairs.accepted % BOOKS_WITH_PAIRS != 0 {
+        if outcome.code != 0 || outcome.line == 0 || self.pairs.accepted % BOOKS_WITH_PAIRS != 0 {
             return;
         }
-        let theory = stored::theory(lines, &self.theirs);
-        let mut accepted = Accepted::new(lines, &self.theirs);
         // With random numbers of their own, so that they change no other book.
         let random = &mut Random::new(self.pairs.accepted as u64);
-        for _ in 0..PAIRS {
+        let desk = Desk::new(book, call.with_limit(limit(random, call.limit)));
+        if desk.outcome != *outcome {
+            self.differ(book, &format!("{call:?}\n{outcome:?}, and {:?} with {:?}", desk.outcome, desk.call));
+            return;
+        }
+        let theory = stored::theory(outcome.recorded(), &desk.left);
+        let pairs = if desk.call.limit > USUAL_LIMIT { 1 } else { PAIRS };
+        for _ in 0..pairs {
             let [left, right] = Maker { random, theory: &theory }.pair().map(|side| stored::cells(&side));
-            let limit = if random.once_in(UNDER_LARGEST) { LARGEST_LIMIT } else { USUAL_LIMIT } as usize;
-            self.pair_twice(random, book, &mut accepted, &Pair { left, right }, Bounds { limit, budget: AMPLE });
+            self.pair_twice(random, &desk, &Pair { left, right }, AMPLE);
         }
     }
 
     /// The pairs of the table with each length, as far as their books are accepted.
     pub fn pairs_of_table(&mut self) {
         let random = &mut Random::new(0);
-        let bounds = Bounds { limit: USUAL_LIMIT as usize, budget: AMPLE_FOR_TABLE };
         for (kind, length) in PairKind::ALL.into_iter().flat_map(|kind| (0..NESTING).map(move |length| (kind, length))) {
             let book = kind.book(length);
-            let outcome = self.check(&book, &Call::ample(&book, USUAL_LIMIT));
-            if outcome.code == 0 {
-                let mut accepted = Accepted::new(outcome.recorded(), &self.theirs);
-                let pair = Pair::of_last_lines(outcome.recorded(), &self.theirs);
-                self.pair_twice(random, &book, &mut accepted, &pair, bounds);
+            let desk = Desk::new(&book, Call::ample(&book, USUAL_LIMIT));
+            if desk.accepted() {
+                let pair = Pair::of_last_lines(desk.outcome.recorded(), &desk.left);
+                self.pair_twice(random, &desk, &pair, AMPLE_FOR_TABLE);
             }
         }
     }
 
-    /// A pair under these bounds, if it is not too large for them, and under smaller ones: what ends under these must end alike.
-    fn pair_twice(&mut self, random: &mut Random, book: &[u8], accepted: &mut Accepted, pair: &Pair, bounds: Bounds) {
-        if pair.size() > bounds.limit {
-            return;
-        }
+    /// A pair under the limit of the desk and this budget, and under smaller ones: what ends under these must end alike.
+    fn pair_twice(&mut self, random: &mut Random, desk: &Desk, pair: &Pair, budget: u32) {
         self.pairs.pairs += 1;
-        let ample = self.pair(book, accepted, pair, bounds);
-        let smaller = smaller(random, accepted, pair, bounds, &ample);
-        let compared = self.pair(book, accepted, pair, smaller);
-        for at in 0..compared.len() {
-            let steps = |bounds: Bounds, compared: &[Compared; 2]| bounds.budget - compared[at].budget;
-            let alike = compared[at].code == ample[at].code && steps(smaller, &compared) == steps(bounds, &ample);
-            if compared[at].ended() && !alike {
-                self.differ(book, &format!("{pair:?}\n{smaller:?} {compared:?}\n{bounds:?} {ample:?}"));
+        let ample = self.pair(desk, pair, budget);
+        let (limit, smaller_budget) = smaller(random, desk, pair, budget, &ample);
+        let smaller_desk = (limit < desk.call.limit).then(|| Desk::new(desk.book, desk.call.with_limit(limit)));
+        let smaller_desk = smaller_desk.as_ref().unwrap_or(desk);
+        let smaller = self.pair(smaller_desk, pair, smaller_budget);
+        for (at, (under_smaller, under_ample)) in smaller.iter().zip(&ample).enumerate() {
+            if under_smaller.ended() && under_smaller != under_ample {
+                let how = format!("{pair:?}\n{:?}, {budget} steps: {ample:?}\nL = {limit}, {smaller_budget}: {smaller:?}", desk.call);
+                self.differ(desk.book, &how);
             }
-            self.pairs.kept[at] += usize::from(compared[at].ended() && smaller != bounds);
+            let less = limit < desk.call.limit || smaller_budget < budget;
+            self.pairs.kept[at] += usize::from(under_smaller.ended() && less);
         }
+        self.pairs.refused += usize::from(!smaller_desk.accepted());
     }
 
     /// A pair by both comparisons of both programs; where both comparisons end, they must agree.
-    pub fn pair(&mut self, book: &[u8], accepted: &mut Accepted, pair: &Pair, bounds: Bounds) -> [Compared; 2] {
-        let Bounds { limit, budget } = bounds;
-        filled(&mut self.ours.work, WORK_UNITS * limit + BEHIND, cell_pattern);
-        pair.put(&mut self.ours.work, limit);
-        self.pairs.before.clone_from(&self.ours.work);
-        let mut notes = [PairNotes::default(); 2];
-        let compared = Order::BOTH.map(|order| {
-            let ours = verified::compare(order, limit, budget, &mut self.ours);
-            let (theirs, met) = accepted.compare(order, pair, limit, budget);
-            let kept = self.kept(limit);
-            if ours != theirs || !kept {
-                self.differ(book, &format!("{pair:?}\n{bounds:?} {order:?}\n{ours:?} verified, cells kept: {kept}\n{theirs:?} baseline"));
-            }
-            notes[order as usize] = met;
-            theirs
-        });
-        if compared.iter().all(Compared::ended) && compared[0].code != compared[1].code {
-            self.differ(book, &format!("{pair:?}\n{bounds:?}\n{compared:?} by the two comparisons"));
+    pub fn pair(&mut self, desk: &Desk, pair: &Pair, budget: u32) -> [Answer; 2] {
+        let answers = Order::BOTH.map(|order| self.request(desk, &Request { order, pair, budget }));
+        let [first, second] = answers.map(|(answer, _)| answer);
+        if first.ended() && second.ended() && first.code != second.code {
+            self.differ(desk.book, &format!("{:?} {pair:?}\n{first:?} and {second:?} by the two comparisons", desk.call));
         }
-        self.pairs.note(compared, notes);
-        compared
-    }
-
-    /// Whether a comparison changed no cell below its own and behind the working store.
-    fn kept(&self, limit: usize) -> bool {
-        let (work, before) = (&self.ours.work, &self.pairs.before);
-        let (below, behind) = (COMPARISON_UNIT * limit, WORK_UNITS * limit);
-        work[..below] == before[..below] && work[behind..] == before[behind..]
+        if desk.accepted() && pair.sides().iter().all(|side| side.len() <= desk.call.limit as usize) {
+            self.pairs.note([first, second], answers.map(|(_, notes)| notes));
+        }
+        [first, second]
     }
 }
 
-/// Smaller bounds than these, under which comparisons ended so: often what one of them just needs, or a step or a cell less.
-fn smaller(random: &mut Random, accepted: &mut Accepted, pair: &Pair, bounds: Bounds, compared: &[Compared; 2]) -> Bounds {
+/// A limit for the pairs over a book that is accepted under this one: often the usual one, if that is larger.
+fn limit(random: &mut Random, accepted: u32) -> u32 {
+    match random.below(UNDER_LARGEST) {
+        0 => LARGEST_LIMIT,
+        1..24 => accepted,
+        _ => accepted.max(USUAL_LIMIT),
+    }
+}
+
+/// A limit and a budget, of which none is larger than that under which the comparisons ended so: often what one of them just needs,
+/// or a step or a cell less.
+fn smaller(random: &mut Random, desk: &Desk, pair: &Pair, budget: u32, ample: &[Answer; 2]) -> (u32, u32) {
     let order = *random.choose(&Order::BOTH);
-    let steps = bounds.budget - compared[order as usize].budget;
-    let budget = match random.below(8) {
+    let steps = ample[order as usize].steps;
+    let smaller_budget = match random.below(8) {
         0..=2 => steps,
         3..=4 => steps.saturating_sub(1),
         5 => random.below(4) as u32,
-        _ => bounds.budget,
+        _ => budget,
     };
+    let request = Request { order, pair, budget };
+    // Under a limit below this the book is refused.
+    let largest_part = (0..desk.outcome.recorded()).flat_map(|line| desk.left.parts(line)).map(<[_]>::len).max();
+    let least = (largest_part.unwrap_or(0) as u32).max(SMALLEST_LIMIT);
     let limit = match random.below(4) {
-        0 => least_limit(accepted, order, pair, bounds),
-        1 => (least_limit(accepted, order, pair, bounds) - 1).max(smallest_limit(pair)),
-        _ => bounds.limit,
+        0 => least_limit(desk, &request, least),
+        1 => (least_limit(desk, &request, least) - 1).max(least),
+        _ => desk.call.limit,
     };
-    Bounds { limit, budget }
+    (limit, smaller_budget)
 }
 
-/// The least limit under which no size is refused, if there is one below that of the bounds.
-fn least_limit(accepted: &mut Accepted, order: Order, pair: &Pair, bounds: Bounds) -> usize {
-    let (mut refused, mut enough) = (smallest_limit(pair) - 1, bounds.limit);
+/// The least limit, from this one on, under which no size is refused, if there is one below that of the desk.
+fn least_limit(desk: &Desk, request: &Request, least: u32) -> u32 {
+    let mut accepted = Accepted::of_stores(desk.outcome.recorded(), &desk.left);
+    let (mut refused, mut enough) = (least - 1, desk.call.limit);
     while enough - refused > 1 {
         let limit = (refused + enough) / 2;
-        let (compared, _) = accepted.compare(order, pair, limit, bounds.budget);
-        if compared.code == 10 { refused = limit } else { enough = limit }
+        let (answer, _) = accepted.answer(limit, request);
+        if answer.code == 10 { refused = limit } else { enough = limit }
     }
     enough
-}
-
-/// The least limit under which the pair may be given.
-fn smallest_limit(pair: &Pair) -> usize {
-    pair.size().max(SMALLEST_LIMIT as usize)
 }

@@ -2,8 +2,8 @@
 
 use super::calls::Call;
 use super::comparison::Comparison;
-use super::pairs::Bounds;
-use crate::baseline::{cells, Accepted};
+use super::desk::Desk;
+use crate::baseline::cells;
 use crate::pairs::{Order, Pair};
 use crate::sizes::{Cell, NESTING};
 
@@ -25,7 +25,7 @@ f*tw:=[x,nat]<<x>f>f:F
 ";
 const LIMIT: u32 = 128;
 
-/// A pair, one word a cell; the budget; and the code and the steps of the first comparison, then of the second.
+/// A pair, one word a cell, names and numbers; the budget; and the code and the steps of the first comparison, then of the second.
 struct Worked {
     left: String,
     right: String,
@@ -33,8 +33,12 @@ struct Worked {
     ends: [(u32, u32); 2],
 }
 
+fn worked(left: &str, right: &str, budget: u32, ends: [(u32, u32); 2]) -> Worked {
+    Worked { left: left.to_string(), right: right.to_string(), budget, ends }
+}
+
+/// Pairs of expressions.
 fn pairs() -> Vec<Worked> {
-    let worked = |left: &str, right: &str, budget, ends| Worked { left: left.to_string(), right: right.to_string(), budget, ends };
     let deep = |inner: &str| "suc ".repeat(NESTING - 1) + inner;
     let endless = |domain: &str| format!("< [ {domain} < x x [ {domain} < x x");
     vec![
@@ -61,6 +65,18 @@ fn pairs() -> Vec<Worked> {
         worked("type", "nat", 1000, [(9, 0), (9, 0)]),
         // The second opens depth 33.
         worked(&deep("< one [ nat one"), &deep("< suc one [ nat one"), 1000, [(0, 2), (10, 0)]),
+        worked(&deep("one"), &deep("suc one"), 1000, [(9, 0); 2]),
+        worked(&deep("suc one"), &deep("suc suc one"), 1000, [(10, 0); 2]),
+        worked("two", "suc one", 1000, [(0, 1); 2]),
+        worked("two", "suc one", 0, [(11, 0); 2]),
+        worked("n", "one", 1000, [(9, 0); 2]),
+        worked("[ nat x", "[ nat one", 1000, [(9, 0); 2]),
+        // Not correct; without end, growing, dropped by a step.
+        worked("< one one", "< two one", 1000, [(9, 1); 2]),
+        worked("< one two", "< one suc one", 1000, [(0, 1); 2]),
+        worked(&endless("nat"), "nat", 1000, [(11, 1000); 2]),
+        worked("< [ nat < x < x x [ nat < x < x x", "nat", 1000, [(10, 14); 2]),
+        worked(&format!("< {} [ nat one", endless("nat")), "one", 1000, [(0, 1); 2]),
     ]
 }
 
@@ -76,26 +92,29 @@ fn cell(word: &str) -> Cell {
         "<" => cells::APPLICATION,
         "[" => cells::ABSTRACTION,
         "x" => cells::cell(cells::BOUND, 0),
-        _ => BOOK.lines().enumerate().find_map(named).expect("a name of the book"),
+        _ => word.parse().ok().or_else(|| BOOK.lines().enumerate().find_map(named)).expect("a number, or a name of the book"),
     }
 }
 
 fn side(words: &str) -> Vec<Cell> {
-    words.split(' ').map(cell).collect()
+    words.split_whitespace().map(cell).collect()
 }
 
 impl Comparison {
     /// Both programs must give what was worked out.
     pub fn worked_pairs(&mut self) {
+        self.worked(LIMIT, pairs());
+    }
+
+    fn worked(&mut self, limit: u32, pairs: Vec<Worked>) {
         let book = BOOK.as_bytes();
-        let outcome = self.check(book, &Call::ample(book, LIMIT));
-        let mut accepted = Accepted::new(outcome.recorded(), &self.theirs);
-        for Worked { left, right, budget, ends } in pairs() {
+        let desk = Desk::new(book, Call::ample(book, limit));
+        for Worked { left, right, budget, ends } in pairs {
             let pair = Pair { left: side(&left), right: side(&right) };
-            let compared = self.pair(book, &mut accepted, &pair, Bounds { limit: LIMIT as usize, budget });
-            for ((order, compared), end) in Order::BOTH.into_iter().zip(compared).zip(ends) {
-                if (compared.code, budget - compared.budget) != end {
-                    self.differ(book, &format!("{left} and {right}, {budget} steps: {order:?} {compared:?}, not {end:?}"));
+            let answers = self.pair(&desk, &pair, budget);
+            for ((order, answer), end) in Order::BOTH.into_iter().zip(answers).zip(ends) {
+                if (answer.code, answer.steps) != end {
+                    self.differ(book, &format!("{left} and {right}, {budget} steps: {order:?} {answer:?}, not {end:?}"));
                 }
             }
         }

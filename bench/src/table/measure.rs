@@ -1,16 +1,18 @@
 //! The measured calls. Both programs must agree before a time is taken.
 
-use std::hint::black_box;
-use std::time::{Duration, Instant};
+use std::time::Duration;
 
-use super::turns::{by_turns, cut, repeated, stores, timed, Repetition, Turns};
-use crate::baseline::Accepted;
-use crate::pairs::{Compared, Order, Pair};
+use super::turns::{by_turns, cut, stores, timed, Repetition, Turns};
+use crate::pairs::{Pair, Request};
 use crate::stores::Stores;
-use crate::{baseline, verified, Outcome};
+use crate::{baseline, verified, Answer, Outcome};
 
 pub const MANY: Repetition = Repetition { time: Duration::from_millis(1_200), least: 11, most: 101 };
 pub const FEW: Repetition = Repetition { time: Duration::from_millis(600), least: 3, most: 21 };
+/// Of short calls, and of requests that take long.
+pub const SHORT: Repetition = Repetition { time: Duration::from_millis(300), least: 11, most: 2_001 };
+const FEWEST: Repetition = Repetition { time: Duration::from_millis(100), least: 5, most: 5 };
+const LONG_REQUEST: Duration = Duration::from_millis(20);
 /// A check that takes longer is not repeated.
 const LONGEST_REPEATED: Duration = Duration::from_secs(2);
 
@@ -132,47 +134,41 @@ pub fn pages(given: &Given) -> Option<Printing> {
     Some(Printing { length: answer.length, verified, baseline })
 }
 
-/// A comparison by both programs.
+/// A request at the desk, and the call beside the check, by each program.
 pub struct Comparing {
-    pub compared: Compared,
-    pub turns: Turns,
-    /// So many calls are made in a turn.
-    pub calls: u32,
+    pub answer: Answer,
+    pub verified: Turns,
+    pub baseline: Turns,
 }
 
-/// A turn has as many calls as take this long, or this many.
-const TURN: Duration = Duration::from_micros(500);
-const MOST_CALLS: u128 = 4_096;
-
-/// Checks that both agree on the middles of the book's last two lines, then times them by turns; by each comparison.
-pub fn pair(given: &Given, budget: u32) -> Option<[Comparing; 2]> {
-    let (_, [mut ours, theirs], _) = given.checked()?;
-    let limit = given.limit as usize;
-    let pair = Pair::of_last_lines(given.lines, &theirs);
-    pair.put(&mut ours.work, limit);
-    let mut accepted = Accepted::new(given.lines, &theirs);
-    let [first, second] = Order::BOTH.map(|order| {
-        let mut verified = || verified::compare(order, limit, budget, &mut ours);
-        let mut baseline = || accepted.compare(order, &pair, limit, budget).0;
-        let start = Instant::now();
-        let (compared, other) = (verified(), baseline());
-        let calls = (TURN.as_nanos() / start.elapsed().as_nanos().max(1)).clamp(1, MOST_CALLS) as u32;
-        if compared != other {
-            given.differs("pair", format!("{order:?}: {compared:?} verified, {other:?} baseline"));
-            return None;
-        }
-        let turns = repeated(&FEW, || (timed_calls(calls, &mut verified), timed_calls(calls, &mut baseline)));
-        Some(Comparing { compared, turns, calls })
-    });
-    Some([first?, second?])
-}
-
-fn timed_calls(calls: u32, mut call: impl FnMut() -> Compared) -> Duration {
-    let start = Instant::now();
-    for _ in 0..calls {
-        black_box(call());
+/// Checks that both give one answer to a request and leave the same, then times the call and the check by turns, of each program.
+pub fn request(given: &Given, request: &Request, repetition: &Repetition) -> Option<Comparing> {
+    let Given { book, limit, .. } = *given;
+    let mut ours = given.stores();
+    let mut theirs = given.stores();
+    let (answer, time) = timed(&mut ours, |s| verified::compare(book, u32::MAX, limit, s, request));
+    let (other, _) = timed(&mut theirs, |s| baseline::compare(book, u32::MAX, limit, s, request));
+    let alike = ours == theirs;
+    if answer != other || !alike || answer.line != 0 {
+        let order = request.order;
+        given.differs("request", format!("{order:?}: {answer:?} verified, {other:?} baseline, stores alike: {alike}"));
+        return None;
     }
-    start.elapsed()
+    cut(&mut ours);
+    let repetition = if time > LONG_REQUEST { &FEWEST } else { repetition };
+    let verified = by_turns(
+        repetition, &mut ours, |s| verified::compare(book, u32::MAX, limit, s, request), |s| given.verified(s),
+    );
+    let baseline = by_turns(
+        repetition, &mut ours, |s| baseline::compare(book, u32::MAX, limit, s, request), |s| given.baseline(s),
+    );
+    Some(Comparing { answer, verified, baseline })
+}
+
+/// The middles of the last two lines of a book that both accept.
+pub fn last_lines(given: &Given) -> Option<Pair> {
+    let (_, [stores, _], _) = given.checked()?;
+    Some(Pair::of_last_lines(given.lines, &stores))
 }
 
 /// The check of a book, which both programs agree on, and its check with the second comparison in the place of the first.

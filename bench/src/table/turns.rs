@@ -41,15 +41,10 @@ impl Turns {
 pub fn by_turns<R, Q>(
     repetition: &Repetition, stores: &mut Stores, mut first: impl FnMut(&mut Stores) -> R, mut second: impl FnMut(&mut Stores) -> Q,
 ) -> Turns {
-    repeated(repetition, || (timed(stores, &mut first).1, timed(stores, &mut second).1))
-}
-
-/// Takes turns, each of which gives the times of its two calls.
-pub fn repeated(repetition: &Repetition, mut turn: impl FnMut() -> (Duration, Duration)) -> Turns {
     let mut times = Vec::new();
     let start = Instant::now();
     while times.len() < repetition.least || times.len() < repetition.most && start.elapsed() < repetition.time {
-        times.push(turn());
+        times.push((timed(stores, &mut first).1, timed(stores, &mut second).1));
     }
     Turns::of(&times)
 }
