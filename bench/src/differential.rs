@@ -8,6 +8,7 @@ mod desk;
 mod divided;
 mod division;
 mod expressions;
+mod faults;
 mod flat;
 mod largest;
 mod layout;
@@ -19,10 +20,12 @@ mod printed;
 mod situations;
 mod spoiled;
 mod stored;
+mod strings;
 mod text;
 mod theory;
 mod trees;
 mod typed;
+mod whole;
 mod widths;
 mod worked;
 
@@ -43,7 +46,7 @@ const LONGEST: Duration = Duration::from_secs(150);
 const BOOKS_FROM_ONE: usize = 15;
 
 /// Prints how often each code, and each situation of refused and of completed lines, of paragraphs, of lists, of pages, of narrowed
-/// shelves and of pairs, was met; false if there was a difference, or one of these was not met.
+/// shelves, of pairs and of strings, was met; false if there was a difference, or one of these was not met.
 pub fn run() -> bool {
     let start = Instant::now();
     let mut comparison = Comparison::default();

@@ -4,6 +4,7 @@ use super::calls::{pattern, Call, Question};
 use super::pairs::Pairs;
 use super::printed::Printed;
 use super::situations::Situations;
+use super::strings::Strings;
 use super::widths::Widths;
 use crate::baseline::{self, Notes};
 use crate::random::Random;
@@ -39,12 +40,13 @@ pub struct Comparison {
     pub(super) printed: Printed,
     pub(super) widths: Widths,
     pub(super) pairs: Pairs,
+    pub(super) strings: Strings,
     steps: u64,
     differences: usize,
 }
 
 impl Comparison {
-    /// Compares the checks of a book, then of some books what a line rests on, their pages, and pairs at their desks.
+    /// Compares the checks of a book, then of some books what a line rests on, their pages, and pairs and strings at their desks.
     pub fn compare(&mut self, random: &mut Random, book: &[u8], call: &Call) {
         let outcome = self.check(book, call);
         self.shelf_of_some_books(&outcome);
@@ -54,6 +56,7 @@ impl Comparison {
         }
         self.print(random, book, call, &outcome);
         self.pairs_of_some_books(book, call, &outcome);
+        self.strings_of_some_books(book, call, &outcome);
     }
 
     pub fn check(&mut self, book: &[u8], call: &Call) -> Outcome {
@@ -137,7 +140,8 @@ impl Comparison {
         println!("5 for a constant as indicator: {}", self.constant_indicators);
         let divisions = ("accepted books divided into paragraphs, with the same cells", self.divisions);
         let others = self.situations.counts().chain([divisions]).chain(self.printed.counts()).chain(self.widths.counts());
-        let others: Vec<_> = others.chain(self.pairs.counts()).collect();
+        let others = others.chain(self.pairs.counts()).map(|(what, count)| (what.to_string(), count));
+        let others: Vec<_> = others.chain(self.strings.counts()).collect();
         for (what, count) in &others {
             println!("{what}: {count}");
         }
@@ -155,8 +159,8 @@ impl Comparison {
             (&self.printed.codes, |code| code <= 12 || code == 14 || code == 15 || code == 17),
             (&self.widths.widened, |code| code == 0 || code == 15),
             (&self.widths.narrowed, |code| code == 0 || code == 15 || code == 16),
-            (&self.pairs.codes[0], |code| matches!(code, 0 | 9 | 10 | 11)),
-            (&self.pairs.codes[1], |code| matches!(code, 0 | 9 | 10 | 11)),
+            (&self.pairs.codes[0], |code| code <= 12 || code == 14 || code == 17 || code == 18),
+            (&self.pairs.codes[1], |code| code <= 12 || code == 14 || code == 17 || code == 18),
         ]
     }
 

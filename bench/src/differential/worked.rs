@@ -5,7 +5,7 @@ use super::comparison::Comparison;
 use super::desk::Desk;
 use crate::baseline::cells;
 use crate::pairs::{Order, Pair};
-use crate::sizes::{Cell, NESTING};
+use crate::sizes::{Cell, NESTING, SMALLEST_LIMIT};
 
 const BOOK: &str = "\
 *nat:=PN:type
@@ -80,6 +80,28 @@ fn pairs() -> Vec<Worked> {
     ]
 }
 
+/// Strings that are not whole, each beside `one`.
+const NOT_WHOLE: [&str; 24] = [
+    "", "suc", "suc one one", "one one", "suc 0", "0 0", "[ n suc", "17", "27", "3", "1", "123", "6", "7", "12 one one", "13 nat one", "8",
+    "4294967295", "x", "[ x one", "[ nat 10", "< [ nat x x", "< one", "[ nat",
+];
+
+/// Pairs under the smallest limit: strings of 15 cells, of 16 and of 17, and such that are not whole.
+fn long_pairs() -> Vec<Worked> {
+    let bodies = |count: usize, last: &str| "[ nat ".repeat(count) + last;
+    vec![
+        worked(&bodies(7, "nat"), &bodies(7, "nat"), 1000, [(0, 0); 2]),
+        worked(&bodies(7, "suc one"), &bodies(7, "two"), 1000, [(0, 1); 2]),
+        worked(&bodies(8, "nat"), &bodies(8, "nat"), 1000, [(10, 0); 2]),
+        worked(&bodies(8, "nat"), "nat", 1000, [(10, 0); 2]),
+        worked("nat", &bodies(8, "x"), 0, [(10, 0); 2]),
+        worked(&bodies(8, "nat"), "[", 1000, [(18, 0); 2]),
+        worked("", &bodies(8, "nat"), 1000, [(18, 0); 2]),
+        worked(&bodies(8, "66"), "nat", 1000, [(18, 0); 2]),
+        worked(&bodies(8, "58"), "nat", 1000, [(10, 0); 2]),
+    ]
+}
+
 fn cell(word: &str) -> Cell {
     let named = |(line, text): (usize, &str)| {
         let (_, rest) = text.split_once('*')?;
@@ -103,7 +125,10 @@ fn side(words: &str) -> Vec<Cell> {
 impl Comparison {
     /// Both programs must give what was worked out.
     pub fn worked_pairs(&mut self) {
+        let beside = |string: &&str| [worked(string, "one", 1000, [(18, 0); 2]), worked("one", string, 1000, [(18, 0); 2])];
         self.worked(LIMIT, pairs());
+        self.worked(LIMIT, NOT_WHOLE.iter().flat_map(beside).collect());
+        self.worked(SMALLEST_LIMIT, long_pairs());
     }
 
     fn worked(&mut self, limit: u32, pairs: Vec<Worked>) {
