@@ -8,6 +8,7 @@ mod desk;
 mod divided;
 mod division;
 mod expressions;
+mod extremes;
 mod faults;
 mod flat;
 mod largest;
@@ -17,6 +18,7 @@ mod mutate;
 mod pairs;
 mod place;
 mod printed;
+mod short;
 mod situations;
 mod spoiled;
 mod stored;
@@ -57,10 +59,13 @@ pub fn run() -> bool {
         comparison.shelf_of_book(&outcome);
         comparison.last_line(&book, &call, &outcome);
         comparison.whole_pages(&book, &call, &outcome);
+        comparison.strings_of_largest(&book, &call, &outcome);
     }
     comparison.shelves();
     comparison.worked_pairs();
     comparison.pairs_of_table();
+    comparison.short_strings();
+    comparison.extreme_strings();
     let written = written_books();
     let mut books = 0;
     while books < BOOKS && start.elapsed() < LONGEST {

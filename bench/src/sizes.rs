@@ -18,9 +18,10 @@ pub const WORK_UNITS: usize = 128;
 /// Table cells for each line.
 pub const ROW_WIDTH: usize = 9;
 
-/// Where the indicator and the kind of a line, the places of its middle and its category, the end of its cells and the number of its
-/// paragraph stand in its row.
+/// Where the indicator, the length of the context and the kind of a line, the places of its middle and its category, the end of its
+/// cells and the number of its paragraph stand in its row.
 pub const INDICATOR: usize = 2;
+pub const CONTEXT_LENGTH: usize = 3;
 pub const KIND: usize = 4;
 pub const MIDDLE: usize = 5;
 pub const CATEGORY: usize = 6;

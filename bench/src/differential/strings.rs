@@ -47,13 +47,17 @@ pub struct Strings {
     met: [usize; MET.len()],
     /// Strings that are not whole for each of the faults.
     faults: [usize; FAULTS.len()],
+    /// Whole strings among all short ones; strings at the extremes.
+    pub short: usize,
+    pub extreme: usize,
 }
 
 impl Strings {
     /// Each count that must not be 0, with what it counts.
     pub fn counts(&self) -> Vec<(String, usize)> {
         let faults = FAULTS.iter().zip(self.faults).map(|((_, title), count)| (format!("18 for {title}"), count));
-        MET.into_iter().zip(self.met).map(|(title, count)| (title.to_string(), count)).chain(faults).collect()
+        let others = [("whole strings among all short ones", self.short), ("strings at the extremes", self.extreme)];
+        MET.into_iter().zip(self.met).chain(others).map(|(title, count)| (title.to_string(), count)).chain(faults).collect()
     }
 
     /// Notes a pair over an accepted book, by which of its strings are whole.

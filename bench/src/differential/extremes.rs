@@ -1,0 +1,95 @@
+//! Strings far above the limit, in which a number of cells, of parts still to come or of bindings passes a power of two.
+
+use super::calls::Call;
+use super::comparison::Comparison;
+use super::desk::Desk;
+use crate::baseline::cells::{cell, ABSTRACTION, APPLICATION, BOUND, CONSTANT, VARIABLE};
+use crate::pairs::{Order, Pair, Request};
+use crate::sizes::{Cell, CONTEXT_LENGTH, KIND, LARGEST_LIMIT, MOST_LINES, SMALLEST_LIMIT};
+use crate::Outcome;
+
+const BOOK: &[u8] = b"*nat:=PN:type\n";
+const NAT: Cell = cell(CONSTANT, 1);
+const MANY: usize = 1 << 16;
+/// Far from their binding.
+const VARIABLES: usize = 4_000;
+
+/// Strings over the book, and whether they are whole.
+fn strings() -> Vec<(Vec<Cell>, bool)> {
+    let nested = |first: Cell, count: usize| vec![first; count];
+    let leaves = |count: usize| vec![NAT; count];
+    let bodies = |count: usize, last: usize| [[ABSTRACTION, NAT].repeat(count), vec![cell(BOUND, last as Cell)]].concat();
+    let far = |last: Cell| [vec![ABSTRACTION, NAT], [APPLICATION, cell(BOUND, 0)].repeat(VARIABLES), vec![cell(BOUND, last)]].concat();
+    vec![
+        (nested(APPLICATION, MANY - 1), false),
+        (nested(APPLICATION, MANY), false),
+        ([nested(APPLICATION, MANY), leaves(MANY + 1)].concat(), true),
+        ([nested(APPLICATION, MANY), leaves(MANY)].concat(), false),
+        ([nested(APPLICATION, MANY), leaves(MANY + 2)].concat(), false),
+        ([nested(ABSTRACTION, MANY), leaves(MANY + 1)].concat(), true),
+        ([nested(ABSTRACTION, MANY), leaves(MANY)].concat(), false),
+        ([APPLICATION, NAT].repeat(MANY), false),
+        ([vec![APPLICATION, NAT].repeat(MANY), leaves(1)].concat(), true),
+        (bodies(MANY, 0), true),
+        (bodies(MANY, MANY - 1), true),
+        (bodies(MANY, MANY), false),
+        (bodies(MANY + 1, MANY), true),
+        (far(0), true),
+        (far(1), false),
+    ]
+}
+
+/// A book's last line and a line above it; of a constant all arguments, one missing, one too many, and with very many in uses inside
+/// each other as many fewer as a number of 32 bits does not show.
+fn strings_of_last(desk: &Desk) -> Vec<(Vec<Cell>, bool)> {
+    let last = desk.outcome.line;
+    let row = desk.left.row(last as usize - 1);
+    let arguments = row[CONTEXT_LENGTH] as usize;
+    let kind = if row[KIND] == 0 { VARIABLE } else { CONSTANT };
+    let first = if desk.left.row(0)[KIND] == 0 { cell(VARIABLE, 1) } else { cell(CONSTANT, 1) };
+    let applied = |uses: usize, count: usize| [vec![cell(kind, last); uses], vec![first; count]].concat();
+    let mut strings = vec![(applied(1, arguments), true), (vec![cell(VARIABLE, last + 1)], false), (vec![cell(CONSTANT, last + 1)], false)];
+    strings.push((applied(1, arguments + 1), false));
+    if arguments > 0 {
+        strings.push((applied(1, arguments - 1), false));
+    }
+    if arguments > MANY / 2 {
+        let uses = (1 << 32) / (arguments - 1) + 1;
+        strings.push((applied(uses, uses * (arguments - 1) + 1 - (1 << 32)), false));
+    }
+    strings
+}
+
+impl Comparison {
+    pub fn extreme_strings(&mut self) {
+        let desk = Desk::new(BOOK, Call::ample(BOOK, SMALLEST_LIMIT));
+        self.extremes(&desk, strings());
+    }
+
+    /// Over an accepted book of as many lines as there can be, under the largest limit.
+    pub fn strings_of_largest(&mut self, book: &[u8], call: &Call, outcome: &Outcome) {
+        if outcome.code == 0 && outcome.line as usize == MOST_LINES && call.limit == LARGEST_LIMIT {
+            let desk = Desk::new(book, *call);
+            let strings = strings_of_last(&desk);
+            self.extremes(&desk, strings);
+        }
+    }
+
+    /// Each string on both sides: 0 if it is whole, 10 if it is above the limit too.
+    fn extremes(&mut self, desk: &Desk, strings: Vec<(Vec<Cell>, bool)>) {
+        for (number, (string, whole)) in strings.into_iter().enumerate() {
+            let code = match (whole, string.len() > desk.call.limit as usize) {
+                (false, _) => 18,
+                (true, above) => if above { 10 } else { 0 },
+            };
+            let pair = Pair { left: string.clone(), right: string };
+            let request = Request { order: Order::BOTH[number % 2], pair: &pair, budget: 0 };
+            let (answer, _) = self.request(desk, &request);
+            if answer.code != code {
+                let length = pair.left.len();
+                self.differ(&[], &format!("string {number} of {length} cells: {answer:?}, not {code}"));
+            }
+            self.strings.extreme += 1;
+        }
+    }
+}
