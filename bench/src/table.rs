@@ -17,7 +17,7 @@ const SEED: u64 = 1;
 
 /// The lines of the books whose time for a line is taken; the last is the most that there can be.
 const SIZES: [usize; 8] = [500, 1_000, 2_000, 4_000, 8_000, 16_000, 32_000, MOST_LINES];
-/// The lines of the books of which lists and pages are asked for.
+/// The lines of the books of which lists and pages are asked for, and at whose desk strings are compared.
 const CALLED_LINES: usize = 8_000;
 
 /// The limits that are compared, and the books with their lines.
@@ -31,7 +31,7 @@ pub type Check = fn(&[u8], u32, u32, &mut Stores) -> Outcome;
 
 /// Prints the tables; false if some book is not accepted by both with the same rows and cells.
 pub fn print() -> bool {
-    [ratios, lengths, limits, resting, printing, desk::pairs, orders].iter().all(|table| table().is_some())
+    [ratios, lengths, limits, resting, printing, desk::pairs, desk::strings, orders].iter().all(|table| table().is_some())
 }
 
 /// The book of a kind with so many lines, or as many as there is room for, and how many it has.

@@ -1,14 +1,22 @@
-//! Times of requests at the desk, on pairs that take more and more steps.
+//! Times of requests at the desk: on pairs that take more and more steps, and on longer and longer strings over a long book.
 
 use super::measure::{self, Comparing, Given};
 use super::turns::milliseconds;
-use crate::generate::{self, PairKind};
-use crate::pairs::{Order, Request};
+use super::{book, CALLED_LINES};
+use crate::baseline::cells::{cell, ABSTRACTION, APPLICATION, BOUND, CONSTANT};
+use crate::generate::{self, Kind, PairKind};
+use crate::pairs::{Order, Pair, Request};
+use crate::sizes::{Cell, LARGEST_LIMIT};
 
 /// The lengths of the pairs that are compared, and their budget.
 const PAIR_LENGTHS: [usize; 6] = [4, 8, 12, 16, 20, 24];
 const PAIR_BUDGET: u32 = 1_000_000;
 const PAIR_LIMIT: u32 = 256;
+
+/// The strings, and how many cells they have; the last are above the limit.
+const STRINGS: [(&str, fn(&Names, usize) -> Vec<Cell>); 3] =
+    [("arguments", Names::arguments), ("bound", Names::bound), ("bindings", Names::bindings)];
+const STRING_LENGTHS: [usize; 4] = [16, 256, 4_096, 16_384];
 
 /// The baseline's least time, in microseconds, that a ratio is given to.
 const LEAST_COMPARED: f64 = 0.5;
@@ -38,6 +46,35 @@ pub fn pairs() -> Option<()> {
     Some(())
 }
 
+/// What tests and comparison of two identical strings take: beside the check of a long book, and by themselves over a short one.
+pub fn strings() -> Option<()> {
+    let (book, lines) = book(Kind::Theories, CALLED_LINES);
+    let short_book = PairKind::Differing.book(0);
+    let long = Given { title: Kind::Theories.title(), book: &book, lines, limit: LARGEST_LIMIT };
+    let short = Given { title: "short", book: &short_book, lines: generate::count_lines(&short_book), limit: LARGEST_LIMIT };
+    println!("\nidentical strings, L = {LARGEST_LIMIT}: the call over theories of {lines} lines beside its check, verified; and over a book of");
+    println!("{} lines without its check, us, both programs", short.lines);
+    println!("string       cells  code  runs      call ms     check ms   ratio     verified    baseline   ratio");
+    for (title, string) in STRINGS {
+        for length in STRING_LENGTHS {
+            let [long, short] = [(&long, "_0"), (&short, "")].map(|(given, own)| {
+                let string = string(&Names::of(given.book, own), length);
+                let pair = Pair { left: string.clone(), right: string };
+                let request = Request { order: Order::StepsFirst, pair: &pair, budget: 0 };
+                measure::request(given, &request, &measure::MANY)
+            });
+            let (Comparing { answer, verified, .. }, short) = (long?, short?);
+            let [own, baseline] = own_times(&short);
+            println!(
+                "{title:<10}{length:>8}{:>6}{:>6}{:>13.3}{:>13.3}{:>8.2}{own:>13.1}{baseline:>12.1}{}",
+                answer.code, verified.runs, milliseconds(verified.first), milliseconds(verified.second), verified.ratio,
+                shown(ratio(&short)),
+            );
+        }
+    }
+    Some(())
+}
+
 /// What the calls of both programs take beside the checks, in microseconds.
 fn own_times(comparing: &Comparing) -> [f64; 2] {
     [&comparing.verified, &comparing.baseline].map(|turns| turns.surplus * 1e3)
@@ -51,4 +88,46 @@ fn ratio(comparing: &Comparing) -> f64 {
 
 fn shown(ratio: f64) -> String {
     if ratio.is_nan() { format!("{:>8}", "-") } else { format!("{ratio:>8.2}") }
+}
+
+/// The cells of constants that the books have.
+struct Names {
+    nat: Cell,
+    one: Cell,
+    suc: Cell,
+    plus: Cell,
+}
+
+impl Names {
+    /// In a book without paragraphs, under names with this end.
+    fn of(book: &[u8], end: &str) -> Names {
+        let [nat, one, suc, plus] = ["nat", "one", "suc", "plus"].map(|name| {
+            let named = format!("*{name}{end}:=");
+            let is_its = |line: &[u8]| line.windows(named.len()).any(|part| part == named.as_bytes());
+            let place = book.split(|&b| b == b'\n').position(is_its).expect("a line of this name");
+            cell(CONSTANT, place as Cell + 1)
+        });
+        Names { nat, one, suc, plus }
+    }
+
+    /// `suc(plus(one,plus(one,..)))`.
+    fn arguments(&self, length: usize) -> Vec<Cell> {
+        [vec![self.suc], [self.plus, self.one].repeat((length - 2) / 2), vec![self.one]].concat()
+    }
+
+    /// `[x,nat]suc(<x><x>..x)`.
+    fn bound(&self, length: usize) -> Vec<Cell> {
+        let variable = cell(BOUND, 0);
+        [vec![ABSTRACTION, self.nat, self.suc], [APPLICATION, variable].repeat((length - 4) / 2), vec![variable]].concat()
+    }
+
+    /// `[x,nat]suc([y,<x>x][z,<x>x]..x)`: every variable is the outermost binding's.
+    fn bindings(&self, length: usize) -> Vec<Cell> {
+        let mut string = vec![ABSTRACTION, self.nat, self.suc];
+        let count = (length - 4) / 4;
+        let outermost = |inside: usize| cell(BOUND, inside as Cell);
+        (0..count).for_each(|inside| string.extend([ABSTRACTION, APPLICATION, outermost(inside), outermost(inside)]));
+        string.push(outermost(count));
+        string
+    }
 }
