@@ -37,8 +37,8 @@ pub fn pairs() -> Option<()> {
                 let request = Request { order, pair: &pair, budget: PAIR_BUDGET };
                 let comparing = measure::request(&given, &request, &measure::SHORT)?;
                 let Comparing { answer, verified, .. } = &comparing;
-                let [call, own, ratio] = [milliseconds(verified.first) * 1e3, own_times(&comparing)[0], ratio(&comparing)];
-                print!("{:>6}{:>9}{call:>12.1}{own:>12.1}{}", answer.code, answer.steps, shown(ratio));
+                let (call, [own, _]) = (milliseconds(verified.first) * 1e3, own_times(&comparing));
+                print!("{:>6}{:>9}{call:>12.1}{own:>12.1}{:>8}", answer.code, answer.steps, ratio(&comparing));
             }
             println!();
         }
@@ -66,9 +66,9 @@ pub fn strings() -> Option<()> {
             let (Comparing { answer, verified, .. }, short) = (long?, short?);
             let [own, baseline] = own_times(&short);
             println!(
-                "{title:<10}{length:>8}{:>6}{:>6}{:>13.3}{:>13.3}{:>8.2}{own:>13.1}{baseline:>12.1}{}",
+                "{title:<10}{length:>8}{:>6}{:>6}{:>13.3}{:>13.3}{:>8.2}{own:>13.1}{baseline:>12.1}{:>8}",
                 answer.code, verified.runs, milliseconds(verified.first), milliseconds(verified.second), verified.ratio,
-                shown(ratio(&short)),
+                ratio(&short),
             );
         }
     }
@@ -80,14 +80,10 @@ fn own_times(comparing: &Comparing) -> [f64; 2] {
     [&comparing.verified, &comparing.baseline].map(|turns| turns.surplus * 1e3)
 }
 
-/// Of the times beside the checks; none where they are too short.
-fn ratio(comparing: &Comparing) -> f64 {
+/// Of the times beside the checks, as it is printed.
+fn ratio(comparing: &Comparing) -> String {
     let [verified, baseline] = own_times(comparing);
-    if baseline < LEAST_COMPARED { f64::NAN } else { verified / baseline }
-}
-
-fn shown(ratio: f64) -> String {
-    if ratio.is_nan() { format!("{:>8}", "-") } else { format!("{ratio:>8.2}") }
+    if baseline < LEAST_COMPARED { "-".to_string() } else { format!("{:.2}", verified / baseline) }
 }
 
 /// The cells of constants that the books have.
