@@ -1,9 +1,9 @@
 //! Times of requests at the desk: on pairs that take more and more steps, and on longer and longer strings over a long book.
 
-use super::measure::{self, Comparing, Given};
+use super::measure::{self, Beside, Comparing, Given};
 use super::turns::milliseconds;
 use super::{book, CALLED_LINES};
-use crate::baseline::cells::{cell, ABSTRACTION, APPLICATION, BOUND, CONSTANT};
+use crate::baseline::cells::{cell, ABSTRACTION, APPLICATION, BOUND, CONSTANT, TYPE};
 use crate::generate::{self, Kind, PairKind};
 use crate::pairs::{Order, Pair, Request};
 use crate::sizes::{Cell, LARGEST_LIMIT};
@@ -24,8 +24,9 @@ const LEAST_COMPARED: f64 = 0.5;
 /// What each comparison takes on pairs of growing length.
 pub fn pairs() -> Option<()> {
     println!("\npairs by the first comparison and by the second, L = {PAIR_LIMIT}, at most {PAIR_BUDGET} steps; us verified of the call, and");
-    println!("without the check of the book, with the ratio of this to the baseline's");
-    println!("pair       length{}", "  code    steps     call us     without   ratio".repeat(2));
+    println!("beyond that of `type` and `type`, with the ratio of this to the baseline's");
+    println!("pair       length{}", "  code    steps     call us      beyond   ratio".repeat(2));
+    let least = Pair { left: vec![TYPE], right: vec![TYPE] };
     for kind in PairKind::ALL {
         for length in PAIR_LENGTHS {
             let book = kind.book(length);
@@ -35,7 +36,8 @@ pub fn pairs() -> Option<()> {
             print!("{:<11}{length:>6}", kind.title());
             for order in Order::BOTH {
                 let request = Request { order, pair: &pair, budget: PAIR_BUDGET };
-                let comparing = measure::request(&given, &request, &measure::SHORT)?;
+                let beside = Beside::Request(&Request { pair: &least, ..request });
+                let comparing = measure::request(&given, &request, &beside, &measure::SHORT)?;
                 let Comparing { answer, verified, .. } = &comparing;
                 let (call, [own, _]) = (milliseconds(verified.first) * 1e3, own_times(&comparing));
                 print!("{:>6}{:>9}{call:>12.1}{own:>12.1}{:>8}", answer.code, answer.steps, ratio(&comparing));
@@ -61,7 +63,7 @@ pub fn strings() -> Option<()> {
                 let string = string(&Names::of(given.book, own), length);
                 let pair = Pair { left: string.clone(), right: string };
                 let request = Request { order: Order::StepsFirst, pair: &pair, budget: 0 };
-                measure::request(given, &request, &measure::MANY)
+                measure::request(given, &request, &Beside::Check, &measure::MANY)
             });
             let (Comparing { answer, verified, .. }, short) = (long?, short?);
             let [own, baseline] = own_times(&short);
@@ -75,12 +77,12 @@ pub fn strings() -> Option<()> {
     Some(())
 }
 
-/// What the calls of both programs take beside the checks, in microseconds.
+/// What the calls of both programs take beyond those beside them, in microseconds.
 fn own_times(comparing: &Comparing) -> [f64; 2] {
     [&comparing.verified, &comparing.baseline].map(|turns| turns.surplus * 1e3)
 }
 
-/// Of the times beside the checks, as it is printed.
+/// Of these times, as it is printed.
 fn ratio(comparing: &Comparing) -> String {
     let [verified, baseline] = own_times(comparing);
     if baseline < LEAST_COMPARED { "-".to_string() } else { format!("{:.2}", verified / baseline) }

@@ -134,15 +134,21 @@ pub fn pages(given: &Given) -> Option<Printing> {
     Some(Printing { length: answer.length, verified, baseline })
 }
 
-/// A request at the desk, and the call beside the check, by each program.
+/// What a request is timed beside: the check of its book, or another request there.
+pub enum Beside<'r> {
+    Check,
+    Request(&'r Request<'r>),
+}
+
+/// A request at the desk, beside another call, by each program.
 pub struct Comparing {
     pub answer: Answer,
     pub verified: Turns,
     pub baseline: Turns,
 }
 
-/// Checks that both give one answer to a request and leave the same, then times the call and the check by turns, of each program.
-pub fn request(given: &Given, request: &Request, repetition: &Repetition) -> Option<Comparing> {
+/// Checks that both give one answer to a request and leave the same, then times it and the other call by turns, of each program.
+pub fn request(given: &Given, request: &Request, beside: &Beside, repetition: &Repetition) -> Option<Comparing> {
     let Given { book, limit, .. } = *given;
     let mut ours = given.stores();
     let mut theirs = given.stores();
@@ -156,12 +162,18 @@ pub fn request(given: &Given, request: &Request, repetition: &Repetition) -> Opt
     }
     cut(&mut ours);
     let repetition = if time > LONG_REQUEST { &FEWEST } else { repetition };
-    let verified = by_turns(
-        repetition, &mut ours, |s| verified::compare(book, u32::MAX, limit, s, request), |s| given.verified(s),
-    );
-    let baseline = by_turns(
-        repetition, &mut ours, |s| baseline::compare(book, u32::MAX, limit, s, request), |s| given.baseline(s),
-    );
+    let verified = |s: &mut Stores, request| verified::compare(book, u32::MAX, limit, s, request);
+    let baseline = |s: &mut Stores, request| baseline::compare(book, u32::MAX, limit, s, request);
+    let [verified, baseline] = match beside {
+        Beside::Check => [
+            by_turns(repetition, &mut ours, |s| verified(s, request), |s| given.verified(s)),
+            by_turns(repetition, &mut ours, |s| baseline(s, request), |s| given.baseline(s)),
+        ],
+        Beside::Request(other) => [
+            by_turns(repetition, &mut ours, |s| verified(s, request), |s| verified(s, other)),
+            by_turns(repetition, &mut ours, |s| baseline(s, request), |s| baseline(s, other)),
+        ],
+    };
     Some(Comparing { answer, verified, baseline })
 }
 
