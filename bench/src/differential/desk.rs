@@ -48,7 +48,8 @@ impl Comparison {
         let (theirs, notes) = baseline::compare_noting(book, call.budget, call.limit, &mut self.theirs, request);
         let kept = [&self.ours, &self.theirs].map(|stores| stores == left);
         if ours != theirs || kept != [true; 2] || !desk.may_give(&theirs) {
-            self.differ(book, &format!("{call:?} {request:?}\n{ours:?} verified\n{theirs:?} baseline, cells as after the check: {kept:?}"));
+            let how = format!("{ours:?} verified\n{theirs:?} baseline, cells as after the check: {kept:?}");
+            self.differ(book, &format!("{call:?} {request:?}\n{how}"));
         }
         self.pairs.codes[request.order as usize][theirs.code as usize] += 1;
         (theirs, notes)

@@ -16,20 +16,22 @@ const VARIABLES: usize = 4_000;
 
 /// Strings over the book, and whether they are whole.
 fn strings() -> Vec<(Vec<Cell>, bool)> {
-    let nested = |first: Cell, count: usize| vec![first; count];
-    let leaves = |count: usize| vec![NAT; count];
+    let nested = |outer: Cell, leaves: usize| [vec![outer; MANY], vec![NAT; leaves]].concat();
     let bodies = |count: usize, last: usize| [[ABSTRACTION, NAT].repeat(count), vec![cell(BOUND, last as Cell)]].concat();
-    let far = |last: Cell| [vec![ABSTRACTION, NAT], [APPLICATION, cell(BOUND, 0)].repeat(VARIABLES), vec![cell(BOUND, last)]].concat();
+    let far = |last: Cell| {
+        let variables = [APPLICATION, cell(BOUND, 0)].repeat(VARIABLES);
+        [vec![ABSTRACTION, NAT], variables, vec![cell(BOUND, last)]].concat()
+    };
     vec![
-        (nested(APPLICATION, MANY - 1), false),
+        (vec![APPLICATION; MANY - 1], false),
+        (nested(APPLICATION, 0), false),
         (nested(APPLICATION, MANY), false),
-        ([nested(APPLICATION, MANY), leaves(MANY + 1)].concat(), true),
-        ([nested(APPLICATION, MANY), leaves(MANY)].concat(), false),
-        ([nested(APPLICATION, MANY), leaves(MANY + 2)].concat(), false),
-        ([nested(ABSTRACTION, MANY), leaves(MANY + 1)].concat(), true),
-        ([nested(ABSTRACTION, MANY), leaves(MANY)].concat(), false),
+        (nested(APPLICATION, MANY + 1), true),
+        (nested(APPLICATION, MANY + 2), false),
+        (nested(ABSTRACTION, MANY), false),
+        (nested(ABSTRACTION, MANY + 1), true),
         ([APPLICATION, NAT].repeat(MANY), false),
-        ([vec![APPLICATION, NAT].repeat(MANY), leaves(1)].concat(), true),
+        ([[APPLICATION, NAT].repeat(MANY), vec![NAT]].concat(), true),
         (bodies(MANY, 0), true),
         (bodies(MANY, MANY - 1), true),
         (bodies(MANY, MANY), false),
@@ -39,17 +41,20 @@ fn strings() -> Vec<(Vec<Cell>, bool)> {
     ]
 }
 
-/// A book's last line and a line above it; of a constant all arguments, one missing, one too many, and with very many in uses inside
-/// each other as many fewer as a number of 32 bits does not show.
+/// The last line of a book with all arguments, one more and one fewer, and a line above it. Where it takes very many, as many uses of
+/// it inside each other as await 2^32 parts or more, with so many behind that a number of 32 bits would say none is missing.
 fn strings_of_last(desk: &Desk) -> Vec<(Vec<Cell>, bool)> {
+    let named = |line: u32| {
+        let variable = desk.left.row(line as usize - 1)[KIND] == 0;
+        cell(if variable { VARIABLE } else { CONSTANT }, line)
+    };
     let last = desk.outcome.line;
     let row = desk.left.row(last as usize - 1);
-    let arguments = row[CONTEXT_LENGTH] as usize;
-    let kind = if row[KIND] == 0 { VARIABLE } else { CONSTANT };
-    let first = if desk.left.row(0)[KIND] == 0 { cell(VARIABLE, 1) } else { cell(CONSTANT, 1) };
-    let applied = |uses: usize, count: usize| [vec![cell(kind, last); uses], vec![first; count]].concat();
-    let mut strings = vec![(applied(1, arguments), true), (vec![cell(VARIABLE, last + 1)], false), (vec![cell(CONSTANT, last + 1)], false)];
-    strings.push((applied(1, arguments + 1), false));
+    let arguments = if named(last) == cell(CONSTANT, last) { row[CONTEXT_LENGTH] as usize } else { 0 };
+    let applied = |uses: usize, count: usize| [vec![named(last); uses], vec![named(1); count]].concat();
+    let above = [VARIABLE, CONSTANT].map(|kind| (vec![cell(kind, last + 1)], false));
+    let mut strings = vec![(applied(1, arguments), true), (applied(1, arguments + 1), false)];
+    strings.extend(above);
     if arguments > 0 {
         strings.push((applied(1, arguments - 1), false));
     }
@@ -80,11 +85,11 @@ impl Comparison {
         for (number, (string, whole)) in strings.into_iter().enumerate() {
             let code = match (whole, string.len() > desk.call.limit as usize) {
                 (false, _) => 18,
-                (true, above) => if above { 10 } else { 0 },
+                (true, true) => 10,
+                (true, false) => 0,
             };
             let pair = Pair { left: string.clone(), right: string };
-            let request = Request { order: Order::BOTH[number % 2], pair: &pair, budget: 0 };
-            let (answer, _) = self.request(desk, &request);
+            let (answer, _) = self.request(desk, &Request { order: Order::BOTH[number % 2], pair: &pair, budget: 0 });
             if answer.code != code {
                 let length = pair.left.len();
                 self.differ(&[], &format!("string {number} of {length} cells: {answer:?}, not {code}"));

@@ -128,8 +128,8 @@ impl Comparison {
         let smaller = self.pair(smaller_desk, pair, smaller_budget);
         for (at, (under_smaller, under_ample)) in smaller.iter().zip(&ample).enumerate() {
             if under_smaller.ended() && under_smaller != under_ample {
-                let how = format!("{pair:?}\n{:?}, {budget} steps: {ample:?}\nL = {limit}, {smaller_budget}: {smaller:?}", desk.call);
-                self.differ(desk.book, &how);
+                let how = format!("{budget} steps: {ample:?}\nL = {limit}, {smaller_budget} steps: {smaller:?}");
+                self.differ(desk.book, &format!("{:?} {pair:?}\n{how}", desk.call));
             }
             let less = limit < desk.call.limit || smaller_budget < budget;
             self.pairs.kept[at] += usize::from(under_smaller.ended() && less);

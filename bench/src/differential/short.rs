@@ -38,7 +38,8 @@ fn count(length: usize, bindings: usize) -> usize {
         // Beside bound variables there are `nat`, `n` and `m`.
         return if length == 1 { 3 + bindings.min(2) } else { 0 };
     }
-    let pairs = |under: usize| (1..length - 1).map(|first| count(first, bindings) * count(length - 1 - first, under)).sum::<usize>();
+    let pair = |first: usize, under: usize| count(first, bindings) * count(length - 1 - first, under);
+    let pairs = |under: usize| (1..length - 1).map(|first| pair(first, under)).sum::<usize>();
     // Under `suc`, under `left` and in applications, in abstractions.
     count(length - 1, bindings) + 2 * pairs(bindings) + pairs(bindings + 1)
 }

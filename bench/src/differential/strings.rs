@@ -105,7 +105,11 @@ struct StringMaker<'s> {
 
 impl StringMaker<'_> {
     fn pair(&mut self) -> [Made; 2] {
-        let faulty = *self.random.choose(&[[true, false], [true, false], [false, true], [false, true], [true, true], [false, false]]);
+        let faulty = match self.random.below(6) {
+            0..=1 => [true, false],
+            2..=3 => [false, true],
+            both => [both == 4; 2],
+        };
         let first = self.whole();
         let second = if self.random.once_in(3) { first.clone() } else { self.whole() };
         let [left, right] = [(first, faulty[0]), (second, faulty[1])]

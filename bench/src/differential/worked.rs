@@ -82,8 +82,8 @@ fn pairs() -> Vec<Worked> {
 
 /// Strings that are not whole, each beside `one`.
 const NOT_WHOLE: [&str; 24] = [
-    "", "suc", "suc one one", "one one", "suc 0", "0 0", "[ n suc", "17", "27", "3", "1", "123", "6", "7", "12 one one", "13 nat one", "8",
-    "4294967295", "x", "[ x one", "[ nat 10", "< [ nat x x", "< one", "[ nat",
+    "", "suc", "suc one one", "one one", "suc 0", "0 0", "[ n suc", "17", "27", "3", "1", "123", "6", "7", "12 one one", "13 nat one",
+    "8", "4294967295", "x", "[ x one", "[ nat 10", "< [ nat x x", "< one", "[ nat",
 ];
 
 /// Pairs under the smallest limit: strings of 15 cells, of 16 and of 17, and such that are not whole.

@@ -23,8 +23,8 @@ const LEAST_COMPARED: f64 = 0.5;
 
 /// What each comparison takes on pairs of growing length.
 pub fn pairs() -> Option<()> {
-    println!("\npairs by the first comparison and by the second, L = {PAIR_LIMIT}, at most {PAIR_BUDGET} steps; us verified of the call, and");
-    println!("beyond that of `type` and `type`, with the ratio of this to the baseline's");
+    println!("\npairs by the first comparison and by the second, L = {PAIR_LIMIT}, at most {PAIR_BUDGET} steps; us verified of");
+    println!("the call, and beyond that of `type` and `type`, with the ratio of this to the baseline's");
     println!("pair       length{}", "  code    steps     call us      beyond   ratio".repeat(2));
     let least = Pair { left: vec![TYPE], right: vec![TYPE] };
     for kind in PairKind::ALL {
@@ -54,8 +54,8 @@ pub fn strings() -> Option<()> {
     let short_book = PairKind::Differing.book(0);
     let long = Given { title: Kind::Theories.title(), book: &book, lines, limit: LARGEST_LIMIT };
     let short = Given { title: "short", book: &short_book, lines: generate::count_lines(&short_book), limit: LARGEST_LIMIT };
-    println!("\nidentical strings, L = {LARGEST_LIMIT}: the call over theories of {lines} lines beside its check, verified; and over a book of");
-    println!("{} lines without its check, us, both programs", short.lines);
+    println!("\nidentical strings, L = {LARGEST_LIMIT}: the call over theories of {lines} lines beside its check, verified; and");
+    println!("over a book of {} lines without its check, us, both programs", short.lines);
     println!("string       cells  code  runs      call ms     check ms   ratio     verified    baseline   ratio");
     for (title, string) in STRINGS {
         for length in STRING_LENGTHS {
