@@ -12,7 +12,7 @@ pub const FEW: Repetition = Repetition { time: Duration::from_millis(600), least
 /// Of short calls, and of requests that take long.
 pub const SHORT: Repetition = Repetition { time: Duration::from_millis(300), least: 11, most: 2_001 };
 const FEWEST: Repetition = Repetition { time: Duration::from_millis(100), least: 5, most: 5 };
-const LONG_REQUEST: Duration = Duration::from_millis(20);
+const LONG_REQUEST: Duration = Duration::from_millis(40);
 /// A check that takes longer is not repeated.
 const LONGEST_REPEATED: Duration = Duration::from_secs(2);
 
