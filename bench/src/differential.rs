@@ -87,18 +87,27 @@ pub fn run() -> bool {
 /// The books of examples/ and of the test programs, from the repository's root.
 fn written_books() -> Vec<Vec<u8>> {
     let mut books = Vec::new();
-    for (folder, header) in [("examples", false), ("crates/cases/data", true), ("crates/page_cases/data", true)] {
+    for (folder, header) in [("examples", false), ("crates/cases/data", true), ("crates/call_cases/data", true)] {
         let mut files: Vec<_> = std::fs::read_dir(folder).into_iter().flatten().flatten().map(|f| f.path()).collect();
         files.sort();
         for file in files.iter().filter(|f| header || is_book(f)) {
             let bytes = std::fs::read(file).unwrap_or_default();
-            let skipped = if header { bytes.iter().position(|&b| b == b'\n').map_or(0, |at| at + 1) } else { 0 };
-            books.push(bytes[skipped..].to_vec());
+            books.push(if header { behind_header(&bytes).to_vec() } else { bytes });
         }
     }
     books.retain(|b| b.len() < 4_096);
     assert!(!books.is_empty(), "run from the root of the repository");
     books
+}
+
+/// A header of nine numbers has a line of its own behind it in call_cases, the strings that are compared; in cases it has none.
+fn behind_header(bytes: &[u8]) -> &[u8] {
+    let mut lines = bytes.splitn(3, |&b| b == b'\n');
+    let first = lines.next().unwrap_or_default();
+    let second = lines.next().unwrap_or_default();
+    let strings = first.iter().filter(|&&b| b == b' ').count() == 8 && second.iter().all(|b| b.is_ascii_digit() || *b == b' ');
+    let skipped = if strings { first.len() + second.len() + 2 } else { first.len() + 1 };
+    &bytes[skipped.min(bytes.len())..]
 }
 
 fn is_book(file: &Path) -> bool {
