@@ -81,9 +81,9 @@ module _ {second : Bool} {tb ts w : List ℕ} {limit lines : ℕ} {left right : 
             means = λ ls B e long. isTooLarge (saysLeft .means ls (B .rows) e .0 wholeLeft) (saysRight .means ls (B .rows) e .0 wholeRight) h refl refl;
           }
 
-      module _ {a b : ℕ} {w₁ w₂ w₃ : List ℕ} {code rest : ℕ} (h : length left ≤ limit) (k : length right ≤ limit)
+      module _ (w₀ : List ℕ) {a b : ℕ} {w₁ w₂ w₃ : List ℕ} {code rest : ℕ} (same : length w₀ ≡ length w) (h : length left ≤ limit) (k : length right ≤ limit)
           (first : limit ≤ largestLimit → a ≡ unitAt limit (levelUnit 0)) (next : limit ≤ largestLimit → b ≡ unitAt limit (levelUnit 1))
-          (c : w₁ ≡ copyCells left 0 (length left) w a) (d : w₂ ≡ copyCells right 0 (length right) w₁ b) (C : ComparesOne second tb ts w₂ limit budget a b w₃ code rest) where
+          (c : w₁ ≡ copyCells left 0 (length left) w₀ a) (d : w₂ ≡ copyCells right 0 (length right) w₁ b) (C : ComparesOne second tb ts w₂ limit budget a b w₃ code rest) where
         pub judged-compared : {answered line steps count : ℕ} → Named code answered → line ≡ 0 → steps ≡ budget - rest → count ≡ 0
             → JudgedPost second tb ts w limit lines left right budget answered line steps count
         unfolding Whole
@@ -94,7 +94,7 @@ module _ {second : Bool} {tb ts w : List ℕ} {limit lines : ℕ} {left right : 
               means = λ ls B e long.
                   let (l, u) = saysLeft .means ls (B .rows) e .0 wholeLeft in
                   let (r, v) = saysRight .means ls (B .rows) e .0 wholeRight in
-                  let R = C .compares .means ls 0 l r B (omega arith) (omega arith) (still-long left right w (B .limit) long first next c d h k) (placed left right w (B .limit) long first next c d h k ls u v) in
+                  let R = C .compares .means ls 0 l r B (omega arith) (omega arith) (still-long left right w₀ (B .limit) (omega arith) first next c d h k) (placed left right w₀ (B .limit) (omega arith) first next c d h k ls u v) in
                   let (p, q) = result-code (subst (λ (f : Comparison). Result (λ _. Unit {0}) code rest (f l r budget)) (from-first second ls limit) R) in
                   isCompared l r u v h k (n (named second ls (B .resolved) l r p) ∙ p) (g ∙ ap (λ (x : ℕ). budget - x) q);
             }

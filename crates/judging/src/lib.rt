@@ -84,8 +84,8 @@ pub fn judge(
 ) -> Answer
     ensures { λ r. ⌜ JudgedPost second (now (table .entry)) (now (terms .entry)) (now (w .entry)) limit lines (now (left .entry)) (now (right .entry)) budget (codeOfAnswer r) (lineOfAnswer r) (stepsOfAnswer r) (lengthOfAnswer r) ⌝ }
 {
-    if is_whole(table, lines, left) {
-        if is_whole(table, lines, right) {
+    if is_whole(table, lines, left, w) {
+        if is_whole(table, lines, right, w) {
             if left.len() > limit {
                 return Answer::Declined {
                     cause: Cause::TooLarge,

@@ -2,4 +2,5 @@
 pub mod ReadLaws
 pub mod WalkLaws
 pub mod CellLaws
+pub mod NoteLaws
 pub mod WholeLaws

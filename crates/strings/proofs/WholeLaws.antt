@@ -10,6 +10,7 @@ use Rattle.aut68.specs.Lines.{Lines}
 use Rattle.aut68.specs.Rules.Strings.{Whole}
 use Rattle.cells.specs.Rows.{Rows}
 use Rattle.strings.specs.Levels.{levelsAt}
+use Rattle.strings.specs.Notes.{Notes}
 use Rattle.strings.specs.Posts.{SaysRight, SaysWhole}
 use Rattle.strings.proofs.ReadLaws.{holds-whole, type-whole, whole-holds}
 use Rattle.strings.proofs.CellLaws.{Rest, Reached, holds-long, rest-next, rest-none, none-rest, reached-next}
@@ -41,13 +42,14 @@ module _ {tb s : List ℕ} {lines : ℕ} where
     says-short l = says-broken (λ ls R e h. omega (arith, holds-long ls tb (levelsAt tb s i) (drop i s) h, length-drop i s))
 
     -- the next cell is not right
-    pub says-wrong : i < length s → 0 < length (levelsAt tb s i) → {answer : Bool} → SaysRight tb lines s i answer → answer ≡ false → SaysWhole tb lines s false
-    says-wrong l p r f = says-broken (λ ls R e h. true≢false (sym (r .means ls R e p .1 (rest-next ls tb s i l p h .0)) ∙ f))
+    pub says-wrong : i < length s → {w : List ℕ} {at : ℕ} {answer : Bool} → Notes tb s i w → at + 1 ≡ length (levelsAt tb s i) → SaysRight tb lines s i w at answer → answer ≡ false
+        → SaysWhole tb lines s false
+    says-wrong l N e r f = says-broken (λ ls R q h. true≢false (sym (r .means ls R q N e .1 (rest-next ls tb s i l (omega arith) h .0)) ∙ f))
 
     -- it is right
-    pub says-right : i < length s → 0 < length (levelsAt tb s i) → {answer : Bool} → SaysRight tb lines s i answer → answer ≡ true → (ls : Lines) (R : Rows ls tb) → length ls ≡ lines
-        → Reached ls tb s (i + 1)
-    says-right l p r t ls R e = reached-next ls tb s i l p (r .means ls R e p .0 t) (reached ls R e)
+    pub says-right : i < length s → {w : List ℕ} {at : ℕ} {answer : Bool} → Notes tb s i w → at + 1 ≡ length (levelsAt tb s i) → SaysRight tb lines s i w at answer → answer ≡ true
+        → (ls : Lines) (R : Rows ls tb) → length ls ≡ lines → Reached ls tb s (i + 1)
+    says-right l N e r t ls R q = reached-next ls tb s i l (omega arith) (r .means ls R q N e .0 t) (reached ls R q)
 
     -- nothing is to come, and cells are left over
     pub says-left-over : i < length s → length (levelsAt tb s i) ≡ 0 → SaysWhole tb lines s false

@@ -17,11 +17,11 @@ is-whole-requires-2 c κs = tt
 
 returns : tie.Need-returns
 unfolding declineCode codeOf
-returns c = judged-large (c .before .before .before .before .is-whole .ensures) (c .before .before .is-whole2 .ensures) (c .before .before .before .if1 .taken) (c .before .if2 .taken) (inl (c .if3 .taken))
+returns c = judged-large (c .before .before .before .before .before .before .before .before .before .is-whole .ensures) (c .before .before .before .before .is-whole2 .ensures) (c .before .before .before .before .before .before .if1 .taken) (c .before .if2 .taken) (inl (c .if3 .taken))
 
 returns-2 : tie.Need-returns-2
 unfolding declineCode codeOf
-returns-2 c = judged-large (c .before .before .before .before .before .is-whole .ensures) (c .before .before .before .is-whole2 .ensures) (c .before .before .before .before .if1 .taken) (c .before .before .if2 .taken) (inr (c .if4 .taken))
+returns-2 c = judged-large (c .before .before .before .before .before .before .before .before .before .before .is-whole .ensures) (c .before .before .before .before .before .is-whole2 .ensures) (c .before .before .before .before .before .before .before .if1 .taken) (c .before .before .if2 .taken) (inr (c .if4 .taken))
 
 level-at-requires : tie.Need-level-at-requires
 level-at-requires c κs = tt
@@ -47,21 +47,39 @@ answer-of-requires c κs = tt
 same-length : tie.Need-same-length
 same-length c = search needs
 
+same-length-2 : tie.Need-same-length-2
+same-length-2 c = search needs
+
+same-length-3 : tie.Need-same-length-3
+same-length-3 c =
+    c .before .before .before .before .compare-by .kept .1 .1 .0
+    ∙ c .before .before .before .before .before .before .before .before .load2 .kept .1 .1 .1 .0
+    ∙ c .before .before .before .before .before .before .before .before .before .before .before .before .load .kept .1 .1 .1 .0
+    ∙ c .before .before .before .before .before .before .before .before .before .before .before .before .before .before .before .before .before .before .before .before .before .is-whole2 .kept .1 .1 .1 .0
+    ∙ c .before .before .before .before .before .before .before .before .before .before .before .before .before .before .before .before .before .before .before .before .before .before .before .before .before .before .is-whole .kept .1 .1 .1 .0
+
+same-length-4 : tie.Need-same-length-4
+same-length-4 c = search needs
+
+same-length-5 : tie.Need-same-length-5
+same-length-5 c = search needs
+
 returns-3 : tie.Need-returns-3
 returns-3 c =
     let a = c .answer-of .ensures in
     let s = c .before .spent .ensures in
-    judged-compared (c .before .before .before .before .before .before .before .before .before .before .before .before .before .before .before .before .before .before .before .before .before .is-whole .ensures) (c .before .before .before .before .before .before .before .before .before .before .before .before .before .before .before .before .before .before .before .is-whole2 .ensures) (c .before .before .before .before .before .before .before .before .before .before .before .before .before .before .before .before .before .before .before .before .if1 .taken) (c .before .before .before .before .before .before .before .before .before .before .before .before .before .before .before .before .before .before .if2 .taken) (omega (arith, c .before .before .before .before .before .before .before .before .before .before .before .before .before .before .before .before .before .if3 .left)) (omega (arith, c .before .before .before .before .before .before .before .before .before .before .before .before .before .before .before .before .if4 .left))
+    judged-compared (c .before .before .before .before .before .before .before .before .before .before .before .before .before .before .before .before .before .before .before .before .before .before .before .before .before .before .is-whole .ensures) (c .before .before .before .before .before .before .before .before .before .before .before .before .before .before .before .before .before .before .before .before .before .is-whole2 .ensures) (c .before .before .before .before .before .before .before .before .before .before .before .before .before .before .before .before .before .before .before .before .before .before .before .if1 .taken) (c .before .before .before .before .before .before .before .before .before .before .before .before .before .before .before .before .before .before .if2 .taken) (c .before .before .before .before .before .before .before .before .before .before .before .before .before .before .before .before .before .before .before .before .before .is-whole2 .last .1 .1 .1 .0) (c .before .before .before .before .before .before .before .before .before .before .before .before .before .before .before .before .before .before .before .before .before .is-whole2 .kept .1 .1 .1 .0 ∙ c .before .before .before .before .before .before .before .before .before .before .before .before .before .before .before .before .before .before .before .before .before .before .before .before .before .before .is-whole .kept .1 .1 .1 .0)
+    (omega (arith, c .before .before .before .before .before .before .before .before .before .before .before .before .before .before .before .before .before .if3 .left)) (omega (arith, c .before .before .before .before .before .before .before .before .before .before .before .before .before .before .before .before .if4 .left))
     (λ l. c .before .before .before .before .before .before .before .before .before .before .before .before .before .before .before .level-at .ensures l (omega arith)) (λ l. c .before .before .before .before .before .before .before .before .before .before .before .before .before .before .level-at2 .ensures l (omega arith)) (c .before .before .before .before .before .before .before .before .before .before .before .before .load .ensures) (c .before .before .before .before .before .before .before .before .load2 .ensures)
     (c .before .before .before .before .compare-by .ensures) (a .0) (a .1) (a .2 ∙ s) (a .3)
 
 returns-4 : tie.Need-returns-4
 unfolding declineCode codeOf
-returns-4 c = right-not-whole (c .before .before .before .is-whole .ensures) (c .before .is-whole2 .ensures) (c .if2 .left)
+returns-4 c = right-not-whole (c .before .before .before .before .before .before .before .before .is-whole .ensures) (c .before .before .before .is-whole2 .ensures) (c .if2 .left)
 
 returns-5 : tie.Need-returns-5
 unfolding declineCode codeOf
-returns-5 c = left-not-whole (c .before .is-whole .ensures) (c .if1 .left)
+returns-5 c = left-not-whole (c .before .before .before .is-whole .ensures) (c .if1 .left)
 
 pub judge-spec : {M : Type 1} → statement M
 judge-spec =
@@ -69,7 +87,9 @@ judge-spec =
     (tie.spec
     is-whole-requires
     is-whole-requires-2
+    same-length
     returns
+    same-length-2
     returns-2
     level-at-requires
     level-at-requires-2
@@ -78,7 +98,9 @@ judge-spec =
     compare-by-requires
     spent-requires
     answer-of-requires
-    same-length
+    same-length-3
     returns-3
+    same-length-4
     returns-4
+    same-length-5
     returns-5)
