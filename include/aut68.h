@@ -154,9 +154,9 @@ Aut68Answer aut68_pages(const uint8_t *book, size_t book_length,
    - else they are compared, at most own steps being made: 0, they have a common expression; 9, they have none; 10, a side grew above the
      limit, or the comparison went below depth 32; 11, the steps are spent.
    steps are those of the comparison, length is 0. The strings are read only; they may overlap each other and the book, not the stores.
-   0, 9 and 18 are kept under every larger budget, limit and own, with the same steps. The test of a string takes at most as many turns as
-   its cells, and for each of its bound variables as many as lie between it and its binding. Stack: at most about 1 MB, as of a check;
-   strings may be nested as deep as they are long. */
+   0, 9 and 18 are kept under every larger budget, limit and own, with the same steps. The test of a string takes time in its cells, unless
+   bound variables stand ahead of more than AUT68_WORK_UNITS * limit expressions still to come: for each of these also in the cells between
+   it and its binding. Stack: at most about 1 MB, as of a check; strings may be nested as deep as they are long. */
 Aut68Answer aut68_compare(const uint8_t *book, size_t book_length,
                           uint32_t budget, uint32_t limit,
                           uint32_t *table, size_t table_length,
