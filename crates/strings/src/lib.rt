@@ -16,8 +16,8 @@ use constants::CELL_FACTOR;
 use constants::Cell;
 use constants::KIND;
 
-// Do more than n bindings stand around the cell at index i of s? `have` counts the whole expressions between cell j and cell i: a cell
-// with more parts than these encloses cell i, in its body if it is an abstraction and they are one.
+// Do more than n bindings stand around the cell at index i of s? Walking back, `have` counts the whole expressions between cell j and cell
+// i: a cell with more parts than these encloses cell i, in its body if it is an abstraction and they are one.
 fn is_bound(table: &[u32], s: &[Cell], i: usize, n: usize) -> bool
     requires { ⌜ i ≤ length (now s) ⌝ }
     ensures { λ r. ⌜ SaysBound (now (table .entry)) (now (s .entry)) i n r ⌝ }
@@ -51,7 +51,7 @@ fn above(note: Cell, n: usize) -> bool
     n < note as usize
 }
 
-// The same by the note at index `at` of w, if there is one.
+// Do more than n bindings stand around the cell at index i of s, whose note is at index `at` of w, if w goes so far?
 fn is_noted(table: &[u32], s: &[Cell], i: usize, n: usize, w: &[Cell], at: usize) -> bool
     requires { ⌜ i ≤ length (now s) ⌝ }
     ensures { λ r. ⌜ SaysNoted (now (table .entry)) (now (s .entry)) i n (now (w .entry)) at r ⌝ }
