@@ -7,34 +7,33 @@
 #include "book.h"
 
 #include <stdlib.h>
+#include <string.h>
 
 static Aut68Cell left[LIMIT], right[LIMIT];
 
-/* The cells of a text, as many as there is room for. */
-static size_t read_cells(const char *text, Aut68Cell *cells)
+/* The cells of a text, their number to *length; 0 if it holds anything but cells, or more of them than an expression may have. */
+static int read_cells(const char *text, Aut68Cell *cells, size_t *length)
 {
-    size_t n = 0;
     char *end;
-    for (; n < LIMIT; n++, text = end) {
+    *length = 0;
+    for (text += strspn(text, " "); *text != '\0'; text = end + strspn(end, " ")) {
         unsigned long cell = strtoul(text, &end, 10);
-        if (end == text)
-            break;
-        cells[n] = (Aut68Cell)cell;
+        if (end == text || cell > UINT32_MAX || *length == LIMIT)
+            return 0;
+        cells[(*length)++] = (Aut68Cell)cell;
     }
-    return n;
+    return 1;
 }
 
 int main(int argc, char **argv)
 {
-    if (argc != 4) {
+    size_t length, left_length, right_length;
+    if (argc != 4 || !read_cells(argv[2], left, &left_length) || !read_cells(argv[3], right, &right_length)) {
         fputs("usage: compare BOOK LEFT RIGHT\n", stderr);
         return 2;
     }
-    size_t length;
     if (!read_book(argv[1], &length))
         return 2;
-    size_t left_length = read_cells(argv[2], left);
-    size_t right_length = read_cells(argv[3], right);
 
     Aut68Answer a = aut68_compare(book, length, BUDGET, LIMIT, table, TABLE, terms, TERMS, work, WORK, entries, INDEX,
                                   left, left_length, right, right_length, BUDGET);
