@@ -10,9 +10,10 @@ use constants::SMALLEST_LIMIT;
 use constants::WORK_TOO_SMALL;
 use constants::WORK_UNITS;
 use copies::clear;
+use outcomes::spent;
 ghost use mathlib.Core.Path.{_≡_};
 ghost use mathlib.Core.Logic.{_≢_};
-ghost use Prim.Native.Nat.{_+_, _-_, _<_};
+ghost use Prim.Native.Nat.{_+_, _<_};
 ghost use Rattle.aut68.specs.Language.{aut68};
 ghost use Rattle.aut68.specs.Sizes.{lineLimit};
 ghost use Rattle.aut68.specs.Stores.{stores, limitsOf};
@@ -38,16 +39,6 @@ fn reported(code: u32, lines: usize) -> u32
         return lines as u32;
     }
     (lines + 1) as u32
-}
-
-// The steps: what is gone of the budget.
-fn spent(budget: u32, rest: u32) -> u32
-    ensures { λ r. ⌜ r ≡ budget - rest ⌝ }
-{
-    if rest > budget {
-        return 0;
-    }
-    budget - rest
 }
 
 // Checks a book (run). Limit out of range, working store too small: every cell is as it was. Else: the rows, the term cells and the

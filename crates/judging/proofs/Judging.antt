@@ -3,7 +3,7 @@ use mathlib.Core.Path.{_≡_, refl, sym, ap, _∙_, subst}
 use mathlib.Core.Logic.{_⊎_}
 use mathlib.Core.Bool.{Bool, true, false, true≢false}
 use mathlib.Core.List.{List}
-use Prim.Native.Nat.{ℕ, _+_, _*_, _-_, _≤_, _<_}
+use Prim.Native.Nat.{ℕ, _-_, _≤_, _<_}
 use native.Mathlib.Omega.{arith}
 use lib.ListN.{length}
 use Rattle.aut68.specs.Sizes.{largestLimit, nesting}
@@ -13,9 +13,9 @@ use Rattle.aut68.specs.Procedure.Answer.{Answer, codeIn, restIn, codeOf, mismat
 use Rattle.aut68.specs.Procedure.Calls.{declineCode, notWhole, stringTooLarge}
 use Rattle.aut68.specs.Procedure.Compare.{Comparison, compare}
 use Rattle.aut68.specs.Procedure.PartsFirst.{partsFirst, partsFirstAt}
-use Rattle.aut68.specs.Rules.Strings.{Reads, Whole}
+use Rattle.aut68.specs.Rules.Strings.{Whole}
 use Rattle.aut68.specs.Comparing.{FindsEquality}
-use Rattle.aut68.specs.Desk.{comparisonOf, Judged, isNotWhole, isTooLarge, isCompared}
+use Rattle.aut68.specs.Desk.{comparisonOf, isNotWhole, isTooLarge, isCompared}
 use Rattle.agreement.specs.Claims.{both-comparisons}
 use Rattle.calculus.specs.Resolved.{ResolvedLines}
 use Rattle.cells.specs.Cells.{copyCells}

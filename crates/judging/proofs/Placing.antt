@@ -34,10 +34,10 @@ module _ (left right w : List ℕ) {limit a b : ℕ} {w₁ w₂ : List ℕ} (sma
   behind : a + limit ≤ b
   behind = omega (arith, first small, next small, unit-next limit (levelUnit 0))
 
-  below : b + limit ≤ (sidesAt limit)
+  below : b + limit ≤ sidesAt limit
   below = omega (arith, next small, unit-below limit {j = levelUnit 1} {k = sideUnit nesting} (omega arith))
 
-  inside : (sidesAt limit) ≤ length w
+  inside : sidesAt limit ≤ length w
   inside = omega (arith, unit-inside limit {k = sideUnit nesting} (omega arith))
 
   string-at : (s : List ℕ) → At s 0 s []
@@ -63,7 +63,7 @@ module _ (left right w : List ℕ) {limit a b : ℕ} {w₁ w₂ : List ℕ} (sma
     right-at =
         subst (λ x. At x b right (drop (b + length right) w₁)) (sym d) (copy-at right 0 w₁ b (string-at right) (omega arith) (omega (arith, below, inside, same₁)))
 
-    side : (ls : Lines) {s : List ℕ} {at : ℕ} {e : Expr} {rest : List ℕ} → length s ≤ limit → at + limit ≤ (sidesAt limit) → Reads ls s e → At w₂ at s rest → Side ls limit 0 (take (sidesAt limit) w₂) at e
+    side : (ls : Lines) {s : List ℕ} {at : ℕ} {e : Expr} {rest : List ℕ} → length s ≤ limit → at + limit ≤ sidesAt limit → Reads ls s e → At w₂ at s rest → Side ls limit 0 (take (sidesAt limit) w₂) at e
     side ls {s} {at} {e} l m r p =
         record {
           known = reads-known ls r;

@@ -11,9 +11,9 @@ use constants::NESTING;
 use constants::TOO_LARGE;
 use copies::load;
 use outcomes::Answer;
+use outcomes::spent;
 use strings::is_whole;
 ghost use mathlib.Core.Path.{_≡_};
-ghost use Prim.Native.Nat.{_-_};
 ghost use Rattle.judging.specs.Posts.{ComparesOne, Named, JudgedPost};
 ghost use Rattle.outcomes.specs.Answers.{codeOfAnswer, lineOfAnswer, stepsOfAnswer, lengthOfAnswer};
 
@@ -34,16 +34,6 @@ fn compare_by(
         return compare_parts_first(table, terms, w, limit, budget, a, b, NESTING);
     }
     compare(table, terms, w, limit, budget, a, b, NESTING)
-}
-
-// The steps: what is gone of the budget.
-fn spent(budget: u32, rest: u32) -> u32
-    ensures { λ r. ⌜ r ≡ budget - rest ⌝ }
-{
-    if rest > budget {
-        return 0;
-    }
-    budget - rest
 }
 
 // What a comparison says, of the codes that it has: 0, 9, 10, 11.

@@ -86,3 +86,13 @@ pub fn recorded(r: Numbers) -> u32
     }
     r.line - 1
 }
+
+// The steps: what is gone of the budget.
+pub fn spent(budget: u32, rest: u32) -> u32
+    ensures { λ r. ⌜ r ≡ budget - rest ⌝ }
+{
+    if rest > budget {
+        return 0;
+    }
+    budget - rest
+}

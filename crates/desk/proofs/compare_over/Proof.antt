@@ -1,6 +1,5 @@
 -- `compare_over`: a refusal is passed on; else the strings are judged, and the working store is cleared (Calling).
 use mathlib.Core.Path.{sym}
-use native.Mathlib.Omega.{arith}
 use lib.Seq.{length-take-le}
 use borrow.Author.Needs.{needs}
 use Rattle.aut68.specs.Language.{aut68}
