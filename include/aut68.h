@@ -25,7 +25,7 @@ enum {
 
 /* What the check of a book ends with: 0 to 12, 14 or 17. Codes 0, 3 to 9, 14 and 17 are verdicts; all of them but 0 call the book
    wrong. Any other call on a book checks it first and passes a refusal on; of an accepted book it ends with 0, 12, 13 or 15, a comparison
-   with 0, 9, 10, 11 or 18. A call on a shelf ends with 0, 15 or 16. */
+   of two strings with 0, 9, 10, 11 or 18. A call on a shelf ends with 0, 15 or 16. */
 enum {
     AUT68_ACCEPTED = 0,
     AUT68_WORK_TOO_SMALL = 1,     /* under AUT68_WORK_UNITS * limit working cells; line 0, nothing written */
@@ -45,7 +45,8 @@ enum {
     AUT68_NO_SUCH_LINE = 13,      /* the line is 0 or above the last */
     AUT68_NOT_IN_CONTEXT = 14,    /* the name has an EB line, outside the context of the line that uses it: its block has closed.
                                      Of 5, 6 and 14 a line gets that of the first name, from the left, that has one of them */
-    AUT68_STORE_TOO_SMALL = 15,   /* the pages do not fit into the page store, or the source not into the target */
+    AUT68_STORE_TOO_SMALL = 15,   /* the pages do not fit into the page store, the source not into the target, or the sheet is shorter
+                                     than the list */
     AUT68_CELL_TOO_LARGE = 16,    /* a cell above 65,535 is to be narrowed */
     AUT68_UNBALANCED = 17,        /* a closing that is not of the innermost open paragraph; or one is left open at the end */
     AUT68_NOT_WHOLE = 18          /* the left or the right string is no whole expression over the lines of the book */
@@ -179,6 +180,34 @@ Aut68Answer aut68_compare_parts_first(const uint8_t *book, size_t book_length,
                                       const Aut68Cell *left, size_t left_length,
                                       const Aut68Cell *right, size_t right_length,
                                       uint32_t own);
+
+/* Two strings for a comparison, each by its first cell, from 0, and its length in one lent slice of cells; and the steps that may be made. */
+typedef struct {
+    uint32_t left;
+    uint32_t left_length;
+    uint32_t right;
+    uint32_t right_length;
+    uint32_t budget;
+} Aut68Pair;
+
+/* Compares a list of pairs of strings over a book, which is checked once, first, under budget and limit, with all that aut68_check says of
+   its arguments and of the four stores afterwards. pairs_count and sheet_count count pairs and places. Then, in this order:
+   - the sheet has fewer places than the list has pairs: 15;
+   - else 0; each pair is compared as by aut68_compare, in the order of the list, and its place on the sheet gets what that call would end
+     with: code 0, 9, 10, 11 or 18, line 0, the steps, length 0. A string that reaches past the last cell, or is of length 0, is not
+     whole: 18.
+   steps are 0, and length is the number of pairs (4,294,967,295, if there are more). Each pair has its own budget, and no pair changes what
+   another gets. Every other place of the sheet is as it was; after any code but 0 all of them are. Cells and pairs are read only; strings
+   may overlap, and cells outside them are not looked at. The sheet must not overlap the stores, the book, the cells or the pairs. */
+Aut68Answer aut68_compare_sheet(const uint8_t *book, size_t book_length,
+                                uint32_t budget, uint32_t limit,
+                                uint32_t *table, size_t table_length,
+                                Aut68Cell *terms, size_t terms_length,
+                                Aut68Cell *work, size_t work_length,
+                                uint32_t *index, size_t index_length,
+                                const Aut68Cell *cells, size_t cells_length,
+                                const Aut68Pair *pairs, size_t pairs_count,
+                                Aut68Answer *sheet, size_t sheet_count);
 
 /* Puts the cells of a shelf that was stored in 16 bits each into cells of 32 bits. In this order:
    - the source has more cells than the target, or more than 4,294,967,295: 15;

@@ -2,6 +2,7 @@
 use constants::Cell;
 use constants::NarrowCell;
 use outcomes::AnswerNumbers;
+use pairs::Pair;
 ghost use mathlib.Core.Bool.{true, false};
 ghost use Rattle.aut68.specs.Language.{aut68};
 ghost use Rattle.aut68.specs.Stores.{stores};
@@ -12,6 +13,7 @@ ghost use Rattle.aut68.specs.Desk.{ComparesStrings};
 ghost use Rattle.aut68.specs.Sizes.{cellValues, narrowValues};
 ghost use Rattle.aut68.specs.Widths.{Converts};
 ghost use Rattle.names.specs.Known.{IdentifierPlaced};
+ghost use Rattle.pairs.specs.Sheet.{ComparesSheet};
 
 // Document 01's numbers of an outcome: code, line, steps.
 #[repr(C)]
@@ -141,6 +143,36 @@ pub extern "C" fn aut68_compare_parts_first(
         own,
     );
     verifier::answer_numbers(a)
+}
+
+// Compares a list of pairs of strings over a book, each on its own budget, into the places of the sheet.
+#[no_mangle]
+pub extern "C" fn aut68_compare_sheet(
+    book: &[u8],
+    budget: u32,
+    limit: u32,
+    table: &mut [u32],
+    terms: &mut [Cell],
+    work: &mut [Cell],
+    index: &mut [u32],
+    cells: &[Cell],
+    pairs: &[Pair],
+    sheet: &mut [AnswerNumbers],
+) -> AnswerNumbers
+    ensures { λ r. ⌜ ComparesSheet (now (book .entry)) budget limit (stores (now (table .entry)) (now (terms .entry)) (now (work .entry)) (now (index .entry))) (now (cells .entry)) (now (pairs .entry)) (now (sheet .entry)) (r .code) (r .line) (r .steps) (r .length) (stores (now (table .exit)) (now (terms .exit)) (now (work .exit)) (now (index .exit))) (now (sheet .exit)) ⌝ }
+{
+    verifier::compare_sheet(
+        book,
+        budget,
+        limit,
+        table,
+        terms,
+        work,
+        index,
+        cells,
+        pairs,
+        sheet,
+    )
 }
 
 // Puts the cells of a shelf into cells of 32 bits, the first of the target.

@@ -1,11 +1,12 @@
 -- What a call on a book has of its admission: the lines of an accepted book, a refusal passed on, and an answer.
 use mathlib.Core.Path.{_≡_, refl, sym, ap, _∙_, subst}
 use mathlib.Core.Logic.{_⊎_, _≢_, inl, inr, ⊎-elim}
-use mathlib.Core.List.{List, []}
+use mathlib.Core.List.{List, [], _++_}
 use Prim.Native.Nat.{ℕ, _*_, _≤_}
 use native.Mathlib.Omega.{arith}
-use lib.ListN.{length, take, drop, replicate, length-take, length-replicate}
+use lib.ListN.{length, take, drop, replicate, length-take, length-replicate, take-append-drop}
 use lib.Seq.{take-all, take-at}
+use borrow.Author.Tests.{le-leb}
 use Rattle.aut68.specs.Language.{Language}
 use Rattle.aut68.specs.Sizes.{bookLimit, workUnits}
 use Rattle.aut68.specs.Stores.{Stores, stores, limitsOf}
@@ -21,6 +22,7 @@ use Rattle.lookup.specs.Answers.{code-nonzero}
 use Rattle.lookup.specs.Runs.{verdict-admitted}
 use Rattle.reading.specs.Readings.{book-unique}
 use Rattle.orders.specs.Limits.{same-ending}
+use Rattle.cells.specs.Posts.{cleared}
 use Rattle.heads.specs.Book.{Book}
 use Rattle.records.specs.OnRecord.{on-record}
 use Rattle.theorems.specs.Demands.{accepted-is-correct}
@@ -119,6 +121,14 @@ module _ (language : Language) (book : Bytes) (N L : ℕ) (s : Stores) where
     -- it has them
     pub work-fits : workUnits * L ≤ length w
     work-fits = omega (arith, front-long, length-take (workUnits * L) w)
+
+    -- and cleared behind a call's own work it is as it was
+    pub work-cleared : (w′ : List ℕ) → length w′ ≡ length w → drop (workUnits * L) w′ ≡ drop (workUnits * L) w → cleared (workUnits * L) w′ ≡ w
+    unfolding cleared over
+    work-cleared w′ e q =
+        let n = workUnits * L in
+        rw (le-leb n (length w′) (omega (arith, e, work-fits)), cleared)
+        (ap (λ (k : ℕ). replicate n 0 ++ drop k w′) (length-replicate n 0) ∙ ap (λ (l : List ℕ). replicate n 0 ++ l) q ∙ ap (λ (l : List ℕ). l ++ drop n w) (sym front-zeros) ∙ take-append-drop n w)
 
     -- the rows and cells of the lines are in the stores
     pub lines-held : Book (recordedAt ending .recorded) L tb ts

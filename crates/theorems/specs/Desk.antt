@@ -54,6 +54,25 @@ unfolding codeIn codeOf
 refusal (done tt b) e = absurd (omega arith)
 refusal (stop r b) e = (b, ap (λ s. stop s b) (code-injective r mismatch e))
 
+-- a whole string is one expression, so what is judged is determined
+module _ {ls : Lines} (once : (s : List ℕ) (e f : Expr) → Reads ls s e → Reads ls s f → e ≡ f) {second : Bool} {L N : ℕ} {left right : List ℕ} {code steps code′ steps′ : ℕ} where
+  pub judged-once : Judged second ls L N left right code steps → Judged second ls L N left right code′ steps′ → (code′ ≡ code) × (steps′ ≡ steps)
+  unfolding Whole
+  judged-once (isNotWhole n c z) (isNotWhole n′ c′ z′) = (c′ ∙ sym c, z′ ∙ sym z)
+  judged-once (isNotWhole n c z) (isTooLarge u v m c′ z′) = absurd (n (u, v))
+  judged-once (isNotWhole n c z) (isCompared l r u v m m′ c′ z′) = absurd (n ((l, u), (r, v)))
+  judged-once (isTooLarge u v m c z) (isNotWhole n c′ z′) = absurd (n (u, v))
+  judged-once (isTooLarge u v m c z) (isTooLarge u′ v′ m′ c′ z′) = (c′ ∙ sym c, z′ ∙ sym z)
+  judged-once (isTooLarge u v (inl n) c z) (isCompared l r u′ v′ m m′ c′ z′) = absurd (omega arith)
+  judged-once (isTooLarge u v (inr n) c z) (isCompared l r u′ v′ m m′ c′ z′) = absurd (omega arith)
+  judged-once (isCompared l r u v m m′ c z) (isNotWhole n c′ z′) = absurd (n ((l, u), (r, v)))
+  judged-once (isCompared l r u v m m′ c z) (isTooLarge u′ v′ (inl n) c′ z′) = absurd (omega arith)
+  judged-once (isCompared l r u v m m′ c z) (isTooLarge u′ v′ (inr n) c′ z′) = absurd (omega arith)
+  judged-once (isCompared l r u v m m′ c z) (isCompared l′ r′ u′ v′ n n′ c′ z′) =
+      let p = once left l′ l u′ u in
+      let q = once right r′ r v′ v in
+      (c′ ∙ ap₂ (λ a b. codeIn (comparisonOf second ls L a b N)) p q ∙ sym c, z′ ∙ ap₂ (λ a b. N - restIn (comparisonOf second ls L a b N)) p q ∙ sym z)
+
 module _ {ls : Lines} (both : BothComparisons ls) (once : (s : List ℕ) (e f : Expr) → Reads ls s e → Reads ls s f → e ≡ f) where
   finds : (second : Bool) → FindsEquality ls (comparisonOf second ls)
   unfolding comparisonOf

@@ -1,0 +1,3 @@
+-- Laws that the proofs of this crate cite.
+pub mod Calling
+pub mod Lending
