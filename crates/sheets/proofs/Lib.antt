@@ -1,3 +1,2 @@
 -- Laws that the proofs of this crate cite.
 pub mod Calling
-pub mod Lending

@@ -24,7 +24,6 @@ use contract.Running.{givenOf, tables, tablesOf}
 use types.Kit.{Given, Item, Sq, runs, anyQ, atRet, ‵, raw, given, _⊛_, ⋆, some, later, _$_, _∵_, !, qed, by, move, keep, drop, use1, use2, use3, rewrite, split, join, group, pick, learn, fsplit, fjoin, feqL, feqI, suffices, frame, await, done}
 use types.Run.{look, look-raw, init, store, store-raw, forget, stop, hop, fld, from, load, lit, unit-lit, addr, of-opd, bin, and-then, no-more, assigns, assigns-last, land, first, blocks, loops, again, stays, leaves-loop, exec, returns, enter, alloc1, alloc0, params1, pass1, pass0, free1, free0, Below}
 use types.Part.{agg, whole, sub, look-in}
-use types.Tokens.{lft-new, lft-end}
 use sound.WpLaws.{FmC, fmOf, WpFn-mono}
 use denote.RattleType.{owns}
 use denote.Shadow.{pureI}
@@ -52,10 +51,10 @@ use Rattle.outcomes.specs.declared.answers.AnswerNumbers.{AnswerNumbers}
 use Rattle.outcomes.proofs.answers.AnswerNumbers as N
 use Rattle.outcomes.proofs.answers.AnswerNumbers.Laws as N′
 use Rattle.pairs.specs.declared.Pair.{Pair}
+use Rattle.pairs.specs.Lending.{apart, Mut, Loan, under, MutLoan, lends-mut, mut-back}
 use Rattle.pairs.specs.Posts.{PairPost, PairsPost}
 use Rattle.pairs.proofs.Pair as P
 use Rattle.pairs.proofs.Pair.Laws as P′
-use Rattle.pairs.proofs.Again.{LentAgain, lends-again, comes-back}
 use Rattle.pairs.proofs.Marking.{unmarked, marks}
 use Rattle.pairs.proofs.compare_pair as compare-pair
 use Rattle.pairs.proofs.compare_pair.Symbol as compare-pair-def
@@ -172,39 +171,24 @@ module _ {M : Type 1} (𝓤 : URA M) (H : Heap 𝓤) (A : Atoms 𝓤) (W : Given
       move ! (3 ∷ 0 ∷ []) $ fjoin ! $ move ! (2 ∷ 0 ∷ []) $ fjoin ! $ move ! (1 ∷ 0 ∷ []) $ fjoin ! $ frame ! $
       feqI ! (List Val) (vunit ∷ []) (vunit ∷ []) refl $ done !
 
-  -- ---- the call: working cells w are lent again, for a lifetime ν and under the name δ
-  module _ (ν : ℕ) (w : List ℕ) (p : Pair) (e : length w ≡ length ws) where
-    abbrev Lent : GName → Fml
-    Lent δ = MutSlice (named 2) (ν ∷ []) u32 .own (ref (wb, wo) δ w) (sliceVal (wb, wo) (length ws) ∷ [])
+  -- ---- the call: the working cells w are lent for it
+  module _ (ν : Loan) (w : List ℕ) (p : Pair) where
+    abbrev Lent : Fml
+    Lent = Mut (ν .0 ∷ []) u32 (under (ref (wb, wo) wγ w) ν) (sliceVal (wb, wo) (length ws))
 
-    abbrev Kept : GName → Fml
-    Kept δ = LentAgain u32 κ₂ (ν ∷ []) q₂ wγ wb wo δ w
-
-    lent : ent 𝓤 (sep 𝓤 (sem 𝓤 H A (Ws w)) (A .lft κ₂ q₂)) (H .⇛ (ex 𝓤 (λ (δ : GName). sep 𝓤 (sem 𝓤 H A (Lent δ)) (sem 𝓤 H A (Kept δ)))))
-    lent = subst
-        (λ (m : ℕ). ent 𝓤 (sep 𝓤 (sem 𝓤 H A (MutSlice (named 2) κ₂ u32 .own (ref (wb, wo) wγ w) (sliceVal (wb, wo) m ∷ []))) (A .lft κ₂ q₂))
-        (H .⇛ (ex 𝓤 (λ (δ : GName). sep 𝓤 (sem 𝓤 H A (MutSlice (named 2) (ν ∷ []) u32 .own (ref (wb, wo) δ w) (sliceVal (wb, wo) m ∷ []))) (sem 𝓤 H A (Kept δ))))))
-        e (lends-again u32 κ₂ (ν ∷ []) q₂ wγ wb wo 𝓤 H A W (named 2) (named 2) w)
-
-    back : (δ : GName) (w′ : List ℕ) → length w′ ≡ length w → ent 𝓤 (sep 𝓤 (A .dead (ν ∷ [])) (sep 𝓤 (sem 𝓤 H A (Kept δ)) (sem 𝓤 H A (finally u32 δ w′)))) (H .⇛ (sep 𝓤 (sem 𝓤 H A (Ws w′)) (A .lft κ₂ q₂)))
-    back δ w′ l = subst
-        (λ (m : ℕ). ent 𝓤 (sep 𝓤 (A .dead (ν ∷ [])) (sep 𝓤 (sem 𝓤 H A (Kept δ)) (sem 𝓤 H A (finally u32 δ w′))))
-        (H .⇛ (sep 𝓤 (sem 𝓤 H A (MutSlice (named 2) κ₂ u32 .own (ref (wb, wo) wγ w′) (sliceVal (wb, wo) m ∷ []))) (A .lft κ₂ q₂))))
-        e (comes-back u32 κ₂ (ν ∷ []) q₂ wγ wb wo 𝓤 H A W (named 2) (named 2) w δ w′ (subst (Room u32) (sym e) w-room) l)
-
-    abbrev passed : GName → RefT (List ℕ) × (RefT (List ℕ) × (RefT (List ℕ) × (ℕ × (ℕ × (RefT (List ℕ) × (Pair × Unit {0}))))))
-    passed δ = (tb, (ts, (ref (wb, wo) δ w, (limit, (lines, (cs, (p, tt)))))))
+    abbrev passed : RefT (List ℕ) × (RefT (List ℕ) × (RefT (List ℕ) × (ℕ × (ℕ × (RefT (List ℕ) × (Pair × Unit {0}))))))
+    passed = (tb, (ts, (ref (wb, wo) (ν .1) w, (limit, (lines, (cs, (p, tt)))))))
 
     abbrev κs′ : Lfts 4
-    κs′ = (κ₀, (κ₁, (ν ∷ [], (κ₃, tt))))
+    κs′ = (κ₀, (κ₁, (ν .0 ∷ [], (κ₃, tt))))
 
-    abbrev to : GName → ComparePair 𝓤 H A mem run .Ghost
-    to δ = (
+    abbrev to : ComparePair 𝓤 H A mem run .Ghost
+    to = (
       (
         κs′,
         (q₀, (q₁, (fullShare, (q₃, tt)))),
         tt,
-        passed δ,
+        passed,
         (sl tb ∷ [], (sl ts ∷ [], (sliceVal (wb, wo) (length ws) ∷ [], (vint w32 limit ∷ [], (vint w32 lines ∷ [], (sl cs ∷ [], (P′.lowered p ∷ [], tt))))))),
       ),
       tt,
@@ -214,10 +198,10 @@ module _ {M : Type 1} (𝓤 : URA M) (H : Heap 𝓤) (A : Atoms 𝓤) (W : Given
     PairOwn = P.the-row .own p (P′.lowered p ∷ [])
 
     -- what the call asks for
-    asks : (δ : GName) → workUnits * limit ≤ length w → ent 𝓤 (⋆ 𝓤 H A (‵ (flft κ₀ q₀) ∷ ‵ (flft κ₁ q₁) ∷ ‵ (flft (ν ∷ []) fullShare) ∷ ‵ (flft κ₃ q₃) ∷ ‵ Tb ∷ ‵ Ts ∷ ‵ (Lent δ) ∷ ‵ Cs ∷ ‵ PairOwn ∷ []))
-        (ComparePair 𝓤 H A mem run .pre (to δ))
-    asks δ fits =
-        qed W (‵ (flft κ₀ q₀) ∷ ‵ (flft κ₁ q₁) ∷ ‵ (flft (ν ∷ []) fullShare) ∷ ‵ (flft κ₃ q₃) ∷ ‵ Tb ∷ ‵ Ts ∷ ‵ (Lent δ) ∷ ‵ Cs ∷ ‵ PairOwn ∷ []) ∵ says ! fits $
+    asks : workUnits * limit ≤ length w → ent 𝓤 (⋆ 𝓤 H A (‵ (flft κ₀ q₀) ∷ ‵ (flft κ₁ q₁) ∷ ‵ (flft (ν .0 ∷ []) fullShare) ∷ ‵ (flft κ₃ q₃) ∷ ‵ Tb ∷ ‵ Ts ∷ ‵ Lent ∷ ‵ Cs ∷ ‵ PairOwn ∷ []))
+        (ComparePair 𝓤 H A mem run .pre to)
+    asks fits =
+        qed W (‵ (flft κ₀ q₀) ∷ ‵ (flft κ₁ q₁) ∷ ‵ (flft (ν .0 ∷ []) fullShare) ∷ ‵ (flft κ₃ q₃) ∷ ‵ Tb ∷ ‵ Ts ∷ ‵ Lent ∷ ‵ Cs ∷ ‵ PairOwn ∷ []) ∵ says ! fits $
         nothing ! $ move ! (1 ∷ 2 ∷ 3 ∷ 4 ∷ 0 ∷ []) $ group ! 5 $ frame ! $
         nothing ! $ move ! (5 ∷ 0 ∷ []) $ fjoin ! $ move ! (4 ∷ 0 ∷ []) $ fjoin ! $
         owned ! u32 (Is u32) (uint-makes 𝓤 H A W w32) lines _ (refl, lines-fits) $ fjoin ! $ owned ! u32 (Is u32) (uint-makes 𝓤 H A W w32) limit _ (refl, limit-fits) $ fjoin ! $
@@ -302,26 +286,27 @@ module _ {M : Type 1} (𝓤 : URA M) (H : Heap 𝓤) (A : Atoms 𝓤) (W : Given
         assigns ! (agg ! (and-then ! (load ! (from ! (stop !)) (look ! 6 refl)) (and-then ! (load ! (from ! (fld ! refl (stop !))) (look-in ! 34 (sub ! 1 refl (whole !)))) (no-more !)))) (from ! (stop !))
         (init ! 4 refl (tt, (tt, (record { fits = w-room .0 }, tt)))) $
         -- the working cells are lent again, and what the call asks for is put together
-        lft-new ! tt (λ ν. move ! (50 ∷ 45 ∷ []) $ use2 W (later (some (λ (δ : GName). ‵ (Lent ν w p e δ) ⊛ ‵ (Kept ν w p e δ)))) (lent ν w p e) $ await ! tt $ pick ! (λ δ. split ! $
+        move ! (49 ∷ 44 ∷ []) $ use2 W (later (some (MutLoan u32 κ₂ q₂ (ref (wb, wo) wγ w) (sliceVal (wb, wo) (length ws)) 𝓤))) (lends-mut u32 κ₂ q₂ (ref (wb, wo) wγ w) (sliceVal (wb, wo) (length ws)) 𝓤 H A W) $ await ! tt $
+        pick ! (λ ν. split ! $ move ! (1 ∷ []) $ split ! $
         move ! (49 ∷ []) $ use1 W (‵ Tb ⊛ ‵ Tb) (shr-slice-copy 𝓤 H A W (named 0) κ₀ u32 .twice tb (sl tb ∷ [])) $ split ! $
         move ! (51 ∷ []) $ use1 W (‵ Ts ⊛ ‵ Ts) (shr-slice-copy 𝓤 H A W (named 1) κ₁ u32 .twice ts (sl ts ∷ [])) $ split ! $
         move ! (53 ∷ []) $ use1 W (‵ Cs ⊛ ‵ Cs) (shr-slice-copy 𝓤 H A W (named 3) κ₃ u32 .twice cs (sl cs ∷ [])) $ split ! $
         owned ! P.the-row (Is P.the-row) (LL.makes P.the-type P′.the-plain 𝓤 H A) p _ is $
-        move ! (52 ∷ 53 ∷ 9 ∷ 54 ∷ 5 ∷ 3 ∷ 7 ∷ 1 ∷ 0 ∷ []) $ group ! 9 $ use1 W (raw (ComparePair 𝓤 H A mem run .pre (to ν w p e δ))) (asks ν w p e δ fits) $
-        calls-at ! (fmOf 𝓤 H (W .laws) 𝓣) (ComparePair 𝓤 H A mem run) known (to ν w p e δ)
+        move ! (52 ∷ 53 ∷ 9 ∷ 54 ∷ 5 ∷ 3 ∷ 7 ∷ 1 ∷ 0 ∷ []) $ group ! 9 $ use1 W (raw (ComparePair 𝓤 H A mem run .pre (to ν w p))) (asks ν w p fits) $
+        calls-at ! (fmOf 𝓤 H (W .laws) 𝓣) (ComparePair 𝓤 H A mem run) known (to ν w p)
         (and-then ! (load ! (from ! (stop !)) (look ! 43 refl)) (and-then ! (load ! (from ! (stop !)) (look ! 41 refl)) (and-then ! (load ! (from ! (stop !)) (look ! 9 refl)) (and-then ! (load ! (from ! (stop !)) (look ! 37 refl)) (and-then ! (load ! (from ! (stop !)) (look ! 35 refl)) (and-then ! (load ! (from ! (stop !)) (look ! 33 refl)) (and-then ! (load ! (from ! (stop !)) (look ! 23 refl)) (no-more !)))))))) (λ u.
-        use1 W (later (some (λ (r : AnswerNumbers). ((‵ (flft κ₀ q₀) ⊛ ‵ (flft κ₁ q₁) ⊛ ‵ (flft (ν ∷ []) fullShare) ⊛ ‵ (flft κ₃ q₃) ⊛ ‵ ftrue) ⊛ ‵ (N.the-row .own r (u ∷ [])))
-        ⊛ raw (ensured 𝓤 H A compare-pair.ended (compare-pair.clauses 𝓤 H A mem run) (κs′ ν w p e) (passed ν w p e δ) tt r)))) (id⊢ 𝓤 _) $ await ! tt $ pick ! (λ r. split ! $
+        use1 W (later (some (λ (r : AnswerNumbers). ((‵ (flft κ₀ q₀) ⊛ ‵ (flft κ₁ q₁) ⊛ ‵ (flft (ν .0 ∷ []) fullShare) ⊛ ‵ (flft κ₃ q₃) ⊛ ‵ ftrue) ⊛ ‵ (N.the-row .own r (u ∷ [])))
+        ⊛ raw (ensured 𝓤 H A compare-pair.ended (compare-pair.clauses 𝓤 H A mem run) (κs′ ν w p) (passed ν w p) tt r)))) (id⊢ 𝓤 _) $ await ! tt $ pick ! (λ r. split ! $
         -- what the call ensures, at the working cells that it left
-        move ! (1 ∷ []) $ use1 W (some (λ (zs : LastsOf). ‵ (lasts compare-pair.ended (κs′ ν w p e) (passed ν w p e δ) zs) ⊛ raw (fact 𝓤 (Judgement w r (zs .1 .1 .0))))) (id⊢ 𝓤 _) $ pick ! (λ zs.
+        move ! (1 ∷ []) $ use1 W (some (λ (zs : LastsOf). ‵ (lasts compare-pair.ended (κs′ ν w p) (passed ν w p) zs) ⊛ raw (fact 𝓤 (Judgement w r (zs .1 .1 .0))))) (id⊢ 𝓤 _) $ pick ! (λ zs.
         split ! $ move ! (1 ∷ []) $ heard ! (Judgement w r (zs .1 .1 .0)) (λ j. fsplit ! $ drop ! $ fsplit ! $ drop ! $ fsplit ! $ fsplit ! $ move ! (1 ∷ []) $ feqL ! (λ l.
         move ! (1 ∷ []) $ drop ! $ move ! (1 ∷ []) $ split ! $ move ! (1 ∷ []) $ peeks ! N.the-row (Is N.the-row) (shows 𝓤 H A N.the-row) r (u ∷ []) (λ is′.
         land ! (from ! (stop !)) (init ! 23 refl (LL.lawful N.the-type N′.the-laws 𝓤 H A W .typed r _ is′ .0)) $
         rewrite ! 23 (λ (x : Val). ‵ (fat fullShare N′.mir l₁₂ 0 x)) (ap only (LL.tells N.the-type N′.the-laws r _ is′)) refl $
         rewrite ! 0 (λ (us : List Val). ‵ (N.the-row .own r us)) (LL.tells N.the-type N′.the-laws r _ is′) refl $
         -- the lifetime is ended, and the working cells come back
-        move ! (1 ∷ []) $ split ! $ move ! (1 ∷ []) $ split ! $ move ! (1 ∷ []) $ split ! $ move ! (1 ∷ []) $ split ! $ move ! (2 ∷ []) $ lft-end ! tt $ move ! (0 ∷ 10 ∷ 6 ∷ []) $
-        use3 W (later (‵ (Ws (zs .1 .1 .0)) ⊛ ‵ (flft κ₂ q₂))) (back ν w p e δ (zs .1 .1 .0) l) $ await ! tt $ split ! $
+        move ! (1 ∷ []) $ split ! $ move ! (1 ∷ []) $ split ! $ move ! (1 ∷ []) $ split ! $ move ! (1 ∷ []) $ split ! $ move ! (2 ∷ 10 ∷ 6 ∷ []) $
+        use3 W (later (‵ (Ws (zs .1 .1 .0)) ⊛ ‵ (flft κ₂ q₂))) (mut-back u32 κ₂ q₂ (ref (wb, wo) wγ w) (sliceVal (wb, wo) (length ws)) 𝓤 H A W ν (zs .1 .1 .0) l) $ await ! tt $ split ! $
         -- sheet[i] = r: the slice is opened, and the place at i is written. [the working cells; tokens; what r owns; the other slices; the locals; ..]
         assigns ! (bin ! (load ! (from ! (stop !)) (look ! 30 refl)) (lit ! tt) (record { fits = s-place })) (from ! (stop !)) (store ! 22 refl (tt, record { fits = s-place })) $
         assigns ! (bin ! (load ! (from ! (fld ! refl (stop !))) (look-in ! 34 (sub ! 0 refl (whole !)))) (load ! (from ! (stop !)) (look ! 22 refl)) tt) (from ! (stop !)) (init ! 12 refl (tt, tt)) $
@@ -335,7 +320,7 @@ module _ {M : Type 1} (𝓤 : URA M) (H : Heap 𝓤) (A : Atoms 𝓤) (W : Given
         assigns-last ! (bin ! (load ! (from ! (stop !)) (look ! 32 refl)) (lit ! tt) (record { fits = i-next })) (from ! (stop !)) (store ! 32 refl (tt, record { fits = i-next })) $
         forget ! 14 refl $ forget ! 16 refl $ forget ! 18 refl $ forget ! 20 refl $ forget ! 22 refl $ forget ! 24 refl $ forget ! 26 refl $ forget ! 28 refl $ forget ! 30 refl $
         keep ! (14 ∷ 15 ∷ 16 ∷ 17 ∷ 18 ∷ 19 ∷ 20 ∷ 21 ∷ 22 ∷ 23 ∷ 24 ∷ 25 ∷ 26 ∷ 27 ∷ 28 ∷ 29 ∷ 30 ∷ 31 ∷ 32 ∷ 33 ∷ 34 ∷ 35 ∷ 36 ∷ 37 ∷ 38 ∷ 39 ∷ 40 ∷ 41 ∷ 42 ∷ 43 ∷ 44 ∷ 45 ∷ 46 ∷ 47 ∷ 48 ∷ 49 ∷ 50 ∷ 51 ∷ 52 ∷ 53 ∷ 8 ∷ 7 ∷ 4 ∷ 5 ∷ 13 ∷ 1 ∷ 11 ∷ 10 ∷ 3 ∷ 9 ∷ 12 ∷ 0 ∷ []) $
-        again ! Nearer At (i, w, s, e, f, le, d) (next r (zs .1 .1 .0) l j) (omega (arith, ltb-true i n less)))))))))))))
+        again ! Nearer At (i, w, s, e, f, le, d) (next r (zs .1 .1 .0) l j) (omega (arith, ltb-true i n less))))))))))))
       where
         p-place : i * 20 < 2 ^ 64
         p-place = omega (arith, p-room, n-pairs, ltb-true i n less)
@@ -404,8 +389,8 @@ module _ {M : Type 1} (𝓤 : URA M) (H : Heap 𝓤) (A : Atoms 𝓤) (W : Given
         pass1 ! (init ! 30 refl (tt, record { fits = limit-fits })) $ pass1 ! (init ! 28 refl (tt, record { fits = lines-fits })) $ pass1 ! (init ! 26 refl (tt, (tt, (record { fits = c-room .0 }, tt)))) $
         pass1 ! (init ! 24 refl (tt, (tt, (record { fits = p-room .0 }, tt)))) $ pass1 ! (init ! 22 refl (tt, (tt, (record { fits = s-room .0 }, tt)))) $ pass1 ! (init ! 20 refl (tt, record { fits = n-fits })) $ pass0 ! $
         assigns ! (of-opd ! (lit ! tt)) (from ! (stop !)) (init ! 18 refl (tt, record { fits = lit< tt })) $
-        move ! (40 ∷ 41 ∷ []) $ use2 W (‵ (flft κ₀ q₀) ⊛ ‵ (flft κ₁ q₁) ⊛ ‵ (flft κ₂ q₂) ⊛ ‵ (flft κ₃ q₃) ⊛ ‵ (flft κ₄ q₄) ⊛ ‵ (flft κ₅ q₅) ⊛ ‵ Tb ⊛ ‵ Ts ⊛ ‵ (Ws ws) ⊛ ‵ Cs ⊛ ‵ Ps ⊛ ‵ (Ss ss)) takes-apart $ split ! $ move ! (1 ∷ []) $ split ! $ move ! (1 ∷ []) $ split ! $ move ! (1 ∷ []) $ split ! $ move ! (1 ∷ []) $ split ! $ move ! (1 ∷ []) $ split ! $ move ! (1 ∷ []) $ split ! $ move ! (1 ∷ []) $ split ! $ move ! (1 ∷ []) $ split ! $ move ! (1 ∷ []) $ split ! $ move ! (1 ∷ []) $ split ! $
-        keep ! (12 ∷ 13 ∷ 14 ∷ 15 ∷ 16 ∷ 17 ∷ 18 ∷ 19 ∷ 20 ∷ 21 ∷ 22 ∷ 23 ∷ 24 ∷ 25 ∷ 26 ∷ 27 ∷ 28 ∷ 29 ∷ 30 ∷ 31 ∷ 32 ∷ 33 ∷ 34 ∷ 35 ∷ 36 ∷ 37 ∷ 38 ∷ 39 ∷ 40 ∷ 41 ∷ 42 ∷ 43 ∷ 44 ∷ 45 ∷ 46 ∷ 47 ∷ 48 ∷ 49 ∷ 50 ∷ 51 ∷ 11 ∷ 10 ∷ 9 ∷ 8 ∷ 7 ∷ 6 ∷ 5 ∷ 4 ∷ 3 ∷ 2 ∷ 0 ∷ 1 ∷ []) $ begins fits-n n-pairs n-places 𝓣 known l₀ l₁ l₂ l₃ l₄ l₅ l₆ l₇ l₈ l₉ l₁₀ l₁₁ l₁₂ l₁₃ l₁₄ l₁₅ l₁₆ l₁₇ l₁₈ l₁₉))))))))))))))))))))
+        move ! (40 ∷ 41 ∷ []) $ join ! $ apart W (Had ws ss) takes-apart $
+        keep ! (12 ∷ 13 ∷ 14 ∷ 15 ∷ 16 ∷ 17 ∷ 18 ∷ 19 ∷ 20 ∷ 21 ∷ 22 ∷ 23 ∷ 24 ∷ 25 ∷ 26 ∷ 27 ∷ 28 ∷ 29 ∷ 30 ∷ 31 ∷ 32 ∷ 33 ∷ 34 ∷ 35 ∷ 36 ∷ 37 ∷ 38 ∷ 39 ∷ 40 ∷ 41 ∷ 42 ∷ 43 ∷ 44 ∷ 45 ∷ 46 ∷ 47 ∷ 48 ∷ 49 ∷ 50 ∷ 51 ∷ 0 ∷ 1 ∷ 2 ∷ 3 ∷ 4 ∷ 5 ∷ 6 ∷ 7 ∷ 8 ∷ 9 ∷ 10 ∷ 11 ∷ []) $ begins fits-n n-pairs n-places 𝓣 known l₀ l₁ l₂ l₃ l₄ l₅ l₆ l₇ l₈ l₉ l₁₀ l₁₁ l₁₂ l₁₃ l₁₄ l₁₅ l₁₆ l₁₇ l₁₈ l₁₉))))))))))))))))))))
 
 module _ {M : Type 1} (𝓤 : URA M) (H : Heap 𝓤) (A : Atoms 𝓤) (W : Given 𝓤 H A) (mem : Memory → SProp 𝓤) (run : Routine → Fun 𝓤) (𝓣 : Tables 𝓤 H) (known : Triple 𝓤 (𝓣 .C #pairs·compare-pair) (ComparePair 𝓤 H A mem run)) where
   compare-pairs-walks : Walks 𝓤 H A compare-pairs.ended stayed (WpFn 𝓤 H (𝓣 .C) (𝓣 .Λ) code.function) (compare-pairs.clauses 𝓤 H A mem run)

@@ -57,7 +57,7 @@ use Rattle.pairs.proofs.compare_pairs.Met as compare-pairs-thm
 use Rattle.sheets.specs.Posts.{Opens, Closes}
 use Rattle.sheets.specs.declared.Opened.{Opened}
 use Rattle.sheets.proofs.Calling.{opened-fits, sheet-compared}
-use Rattle.sheets.proofs.Lending.{apart, Mut, Shr, Loan, under, MutKept, ShrKept, MutLoan, ShrLoan, lends-mut, mut-back, lends-shr, shr-back}
+use Rattle.pairs.specs.Lending.{apart, Mut, Shr, Loan, under, MutKept, ShrKept, MutLoan, ShrLoan, lends-mut, mut-back, lends-shr, shr-back}
 use Rattle.sheets.proofs.Opened as O
 use Rattle.sheets.proofs.Opened.Laws as O′
 use Rattle.sheets.proofs.open_sheet as open-sheet
