@@ -1,8 +1,16 @@
-// The test program of calls on a book: printed pages, and strings compared. Each argument names a file with one case: a header line of seven
-// numbers, the last of them the bytes of the page store, then the book; it writes what the call ends with, the pages, and how many bytes
-// changed behind them. Or the header has nine, the last three the budget of the call, 1 or 2 for the comparison, and the cells of the left
-// string; then come the cells of the right string and the cells of both on a line, and the book; it writes what the call ends with, and what
-// became of the stores. All stores hold 7 in each cell before each call.
+// The test program of calls other than the check. Each argument names a file with one case, which begins with a line of numbers.
+// Seven: the last is the bytes of the page store, and the book follows. It writes what the call ends with, the pages, and how many bytes
+// changed behind them. Nine, the eighth being 1 or 2: two strings, compared by the first or by the second comparison. The seventh is the
+// budget of the call, the ninth the cells of the left string; the cells of the right string and the cells of both are on the next line, and
+// the book follows. It writes what the call ends with, and what became of the stores. Nine, the eighth being 3: a list of pairs. The seventh
+// is the places of the sheet, the ninth the pairs; the number of the cells that they share, these cells, and five numbers for each of eight
+// pairs are on the next line, and the book follows. It writes the same, and eight places of the sheet and behind it. Or the case begins with `widen`
+// or `narrow` and the cells of the target, and the source, if there is one, is on the next line. It writes what the conversion ends with,
+// the cells that were written, and how many cells changed behind them. All stores hold 7 in each cell before each call.
+mod conversions;
+mod lists;
+mod numbers;
+mod sheet_cases;
 mod strings;
 
 use constants::Cell;
@@ -49,6 +57,10 @@ fn call(
     page: &mut [u8],
 ) {
     if q.asks {
+        if q.line == 3 {
+            sheet_cases::compare(h, q, text, table, terms, work, index);
+            return;
+        }
         strings::compare(h, q, text, table, terms, work, index);
         return;
     }
@@ -110,23 +122,40 @@ fn case_of(
     );
 }
 
-// The case in an open file.
-fn case_in(fd: i32) {
-    let mut text = [0u8; TEXT];
-    let n = io::read_full(fd, &mut text);
+// A case of a call on a book.
+fn on_book(text: &[u8]) {
     let mut table = [7u32; ROW_WIDTH * LINES];
     let mut terms: [Cell; TERMS] = [7; TERMS];
     let mut work: [Cell; WORK_UNITS * LIMIT] = [7; WORK_UNITS * LIMIT];
     let mut index = [7u32; INDEX];
     let mut page = [7u8; PAGE];
     case_of(
-        &text[..n],
+        text,
         &mut table,
         &mut terms,
         &mut work,
         &mut index,
         &mut page,
     );
+}
+
+// Whether the text begins with a number, as every case of a call on a book does.
+fn begins_with_number(text: &[u8]) -> bool {
+    if text.len() == 0 {
+        return true;
+    }
+    text[0] <= b'9'
+}
+
+// The case in an open file.
+fn case_in(fd: i32) {
+    let mut text = [0u8; TEXT];
+    let n = io::read_full(fd, &mut text);
+    if begins_with_number(&text[..n]) {
+        on_book(&text[..n]);
+        return;
+    }
+    conversions::convert(&text[..n]);
 }
 
 // The case in the file that argument i names.

@@ -1,4 +1,5 @@
 // Two strings of cells compared over a book.
+use crate::numbers::numbers;
 use constants::Cell;
 use outcomes::AnswerNumbers;
 use reports::header;
@@ -8,19 +9,6 @@ use reports::report;
 
 // The most cells of a string.
 const STRING: usize = 64;
-
-// As many numbers of the text from index `start` on as there are cells. The index behind them.
-fn numbers(text: &[u8], start: usize, cells: &mut [Cell]) -> usize {
-    let mut at = start;
-    let mut n = 0;
-    while n < cells.len() {
-        let x = header::number(text, at);
-        cells[n] = header::narrow(x.value);
-        at = x.next;
-        n = n + 1;
-    }
-    at
-}
 
 // What the comparison ends with, the first or the second.
 fn compared(
@@ -77,8 +65,8 @@ fn compare_read(
     left: &mut [Cell],
     right: &mut [Cell],
 ) {
-    let between = numbers(text, at, left);
-    let start = numbers(text, between, right);
+    let between = numbers(text, at, left).next;
+    let start = numbers(text, between, right).next;
     if start > text.len() {
         return;
     }

@@ -264,3 +264,9 @@ pub fn compared(
     entries(index, n, 0);
     other_cells(table, terms, work, n, limit);
 }
+
+// A place of a sheet.
+pub fn place(r: AnswerNumbers) {
+    io::write_all(STDOUT_FILENO, b"place ");
+    numbers(r, 10);
+}

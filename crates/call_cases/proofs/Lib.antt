@@ -1,0 +1,2 @@
+-- Laws that the proofs of this crate cite.
+pub mod Prefixes
