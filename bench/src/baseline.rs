@@ -18,6 +18,7 @@ mod notes;
 mod pages;
 mod reader;
 mod scope;
+mod sheet;
 mod source;
 mod whole;
 mod widths;
@@ -32,6 +33,7 @@ use lines::Lines;
 pub use dependencies::primitives;
 pub use notes::{Notes, PairNotes};
 pub use pages::{page_length, read_back, text_lengths};
+pub use sheet::compare_sheet;
 pub use widths::{narrow, widen};
 
 /// Why a book or a call is refused; the numbers are the specification's codes.

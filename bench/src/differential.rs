@@ -13,11 +13,13 @@ mod faults;
 mod flat;
 mod largest;
 mod layout;
+mod lists;
 mod many;
 mod mutate;
 mod pairs;
 mod place;
 mod printed;
+mod sheets;
 mod short;
 mod situations;
 mod spoiled;
@@ -30,6 +32,7 @@ mod typed;
 mod whole;
 mod widths;
 mod worked;
+mod worked_sheets;
 
 use std::path::Path;
 use std::time::{Duration, Instant};
@@ -48,7 +51,7 @@ const LONGEST: Duration = Duration::from_secs(150);
 const BOOKS_FROM_ONE: usize = 15;
 
 /// Prints how often each code, and each situation of refused and of completed lines, of paragraphs, of lists, of pages, of narrowed
-/// shelves, of pairs and of strings, was met; false if there was a difference, or one of these was not met.
+/// shelves, of pairs, of strings and of sheets, was met; false if there was a difference, or one of these was not met.
 pub fn run() -> bool {
     let start = Instant::now();
     let mut comparison = Comparison::default();
@@ -63,6 +66,7 @@ pub fn run() -> bool {
     }
     comparison.shelves();
     comparison.worked_pairs();
+    comparison.worked_sheets();
     comparison.pairs_of_table();
     comparison.short_strings();
     comparison.extreme_strings();

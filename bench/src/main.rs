@@ -5,6 +5,7 @@ mod differential;
 mod generate;
 mod pairs;
 mod random;
+mod sheets;
 mod sizes;
 mod stores;
 mod table;
@@ -46,11 +47,12 @@ fn main() -> ExitCode {
     let arguments: Vec<&str> = arguments.iter().map(String::as_str).collect();
     let agreed = match arguments[..] {
         ["table"] => table::print(),
+        ["table", title] => table::print_one(title),
         ["differential"] => differential::run(),
         ["profile", book, program] => profile(book, program, None),
         ["profile", book, program, lines, limit] => profile(book, program, lines.parse().ok().zip(limit.parse().ok())),
         _ => {
-            eprintln!("usage: bench table | differential | profile <book> <verified or baseline> [<lines> <limit>]");
+            eprintln!("usage: bench table [<title>] | differential | profile <book> <verified or baseline> [<lines> <limit>]");
             return ExitCode::from(2);
         }
     };

@@ -2,6 +2,8 @@
 
 mod desk;
 mod measure;
+mod sheets;
+mod strings;
 mod turns;
 
 use std::time::{Duration, Instant};
@@ -17,7 +19,7 @@ const SEED: u64 = 1;
 
 /// The lines of the books whose time for a line is taken; the last is the most that there can be.
 const SIZES: [usize; 8] = [500, 1_000, 2_000, 4_000, 8_000, 16_000, 32_000, MOST_LINES];
-/// The lines of the books of which lists and pages are asked for, and at whose desk strings are compared.
+/// The lines of the books of which lists and pages are asked for, and at whose desk strings and lists of pairs are compared.
 const CALLED_LINES: usize = 8_000;
 
 /// The limits that are compared, and the books with their lines.
@@ -29,9 +31,24 @@ const TIME_TO_PROFILE: Duration = Duration::from_secs(2);
 
 pub type Check = fn(&[u8], u32, u32, &mut Stores) -> Outcome;
 
-/// Prints the tables; false if some book is not accepted by both with the same rows and cells.
+/// The tables with their titles. None is given if some book is not accepted by both with the same rows and cells, or a call differs.
+const TABLES: [(&str, fn() -> Option<()>); 9] = [
+    ("checks", ratios), ("lengths", lengths), ("limits", limits), ("resting", resting), ("pages", printing), ("pairs", desk::pairs),
+    ("strings", desk::strings), ("orders", orders), ("sheets", sheets::sheets),
+];
+
+/// Prints the tables; false if there is a difference.
 pub fn print() -> bool {
-    [ratios, lengths, limits, resting, printing, desk::pairs, desk::strings, orders].iter().all(|table| table().is_some())
+    TABLES.iter().all(|(_, table)| table().is_some())
+}
+
+/// Prints one of them.
+pub fn print_one(title: &str) -> bool {
+    let Some((_, table)) = TABLES.iter().find(|(other, _)| *other == title) else {
+        eprintln!("no table has the title {title}");
+        return false;
+    };
+    table().is_some()
 }
 
 /// The book of a kind with so many lines, or as many as there is room for, and how many it has.

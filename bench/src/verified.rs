@@ -1,6 +1,7 @@
 //! The verified program, linked from its archive.
 
 use crate::pairs::{Order, Request};
+use crate::sheets::{List, ListedPair};
 use crate::sizes::{Cell, NarrowCell};
 use crate::stores::Stores;
 use crate::{Answer, Outcome};
@@ -56,6 +57,17 @@ extern "C" {
         left: *const Cell, left_length: usize,
         right: *const Cell, right_length: usize,
         own_budget: u32,
+    ) -> Answer;
+    fn aut68_compare_sheet(
+        book: *const u8, book_length: usize,
+        budget: u32, limit: u32,
+        table: *mut u32, table_length: usize,
+        terms: *mut Cell, terms_length: usize,
+        work: *mut Cell, work_length: usize,
+        index: *mut u32, index_length: usize,
+        cells: *const Cell, cells_length: usize,
+        pairs: *const ListedPair, pairs_count: usize,
+        sheet: *mut Answer, sheet_count: usize,
     ) -> Answer;
 }
 
@@ -118,6 +130,20 @@ pub fn compare(book: &[u8], budget: u32, limit: u32, stores: &mut Stores, reques
             book.as_ptr(), book.len(), budget, limit,
             table.as_mut_ptr(), table.len(), terms.as_mut_ptr(), terms.len(), work.as_mut_ptr(), work.len(),
             index.as_mut_ptr(), index.len(), left.as_ptr(), left.len(), right.as_ptr(), right.len(), request.budget,
+        )
+    }
+}
+
+pub fn compare_sheet(book: &[u8], budget: u32, limit: u32, stores: &mut Stores, list: &List, sheet: &mut [Answer]) -> Answer {
+    let Stores { table, terms, work, index } = stores;
+    let List { cells, pairs } = list;
+    // Sound: as above; cells and pairs are borrowed for reading, and the sheet apart from them and from the stores.
+    unsafe {
+        aut68_compare_sheet(
+            book.as_ptr(), book.len(), budget, limit,
+            table.as_mut_ptr(), table.len(), terms.as_mut_ptr(), terms.len(), work.as_mut_ptr(), work.len(),
+            index.as_mut_ptr(), index.len(), cells.as_ptr(), cells.len(), pairs.as_ptr(), pairs.len(),
+            sheet.as_mut_ptr(), sheet.len(),
         )
     }
 }

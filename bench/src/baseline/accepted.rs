@@ -3,23 +3,24 @@
 use super::comparison::{Book, Budget, Comparer};
 use super::lines::Lines;
 use super::notes::PairNotes;
-use super::whole::is_whole;
+use super::whole::Tester;
 use super::{declined, Refusal};
-use crate::pairs::Request;
+use crate::pairs::{Order, Request};
 use crate::sizes::{Cell, ROW_WIDTH};
 use crate::stores::Stores;
 use crate::Answer;
 
-/// The lines of an accepted book and their cells, and the stores that comparisons share.
+/// The lines of an accepted book and their cells, and the stores that tests and comparisons share.
 pub struct Accepted<'t> {
     lines: Lines,
     terms: &'t [Cell],
+    tester: Tester,
     comparer: Comparer,
 }
 
 impl<'t> Accepted<'t> {
     pub fn new(lines: Lines, terms: &'t [Cell]) -> Self {
-        Accepted { lines, terms, comparer: Comparer::new() }
+        Accepted { lines, terms, tester: Tester::default(), comparer: Comparer::new() }
     }
 
     /// So many lines, as the check left them.
@@ -27,13 +28,17 @@ impl<'t> Accepted<'t> {
         Accepted::new(Lines::of_rows(&stores.table[..ROW_WIDTH * lines]), &stores.terms)
     }
 
-    pub fn is_whole(&self, string: &[Cell]) -> bool {
-        is_whole(string, &self.lines)
+    pub fn is_whole(&mut self, string: &[Cell]) -> bool {
+        self.tester.is_whole(string, &self.lines)
     }
 
-    /// What a request ends with, and what was met in its comparison. Nothing but vectors of the comparison's own is written.
+    /// What a request ends with, and what was met in its comparison.
     pub fn answer(&mut self, limit: u32, request: &Request) -> (Answer, PairNotes) {
-        let [left, right] = request.pair.sides();
+        self.judge(limit, request.order, request.pair.sides(), request.budget)
+    }
+
+    /// What two strings end with. Nothing but the shared vectors is written.
+    pub fn judge(&mut self, limit: u32, order: Order, [left, right]: [&[Cell]; 2], budget: u32) -> (Answer, PairNotes) {
         let limit = limit as usize;
         if !self.is_whole(left) || !self.is_whole(right) {
             return (declined(Refusal::NotWhole), PairNotes::default());
@@ -42,8 +47,8 @@ impl<'t> Accepted<'t> {
             return (declined(Refusal::TooLarge), PairNotes::default());
         }
         let book = Book { lines: &self.lines, terms: self.terms, limit };
-        let mut budget = Budget::new(request.budget);
-        let refusal = self.comparer.compare(request.order, left, right, &book, &mut budget).err();
+        let mut budget = Budget::new(budget);
+        let refusal = self.comparer.compare(order, left, right, &book, &mut budget).err();
         let code = refusal.map_or(0, |r| r as u32);
         (Answer { code, line: 0, steps: budget.steps, length: 0 }, budget.notes)
     }

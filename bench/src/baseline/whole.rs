@@ -11,15 +11,25 @@ struct Awaited {
     bindings: usize,
 }
 
-/// Whether a string is `type` alone or one expression over the lines: arguments in full, every bound variable under its binding.
-pub fn is_whole(string: &[Cell], lines: &Lines) -> bool {
-    if string == [cells::TYPE] {
-        return true;
+/// The store that tests share: the expressions still to come, the next last.
+#[derive(Default)]
+pub struct Tester {
+    awaited: Vec<Awaited>,
+}
+
+impl Tester {
+    /// Whether a string is `type` alone or one expression over the lines: arguments in full, every bound variable under its binding.
+    pub fn is_whole(&mut self, string: &[Cell], lines: &Lines) -> bool {
+        self.awaited.clear();
+        self.awaited.push(Awaited { count: 1, bindings: 0 });
+        string == [cells::TYPE] || is_expression(string, &mut self.awaited, lines)
     }
-    // The next last.
-    let mut awaited = vec![Awaited { count: 1, bindings: 0 }];
+}
+
+/// Whether a string is what is awaited, no more and no less.
+fn is_expression(string: &[Cell], awaited: &mut Vec<Awaited>, lines: &Lines) -> bool {
     for &cell in string {
-        let Some(bindings) = next(&mut awaited) else { return false };
+        let Some(bindings) = next(awaited) else { return false };
         let (line, number) = (cells::value(cell), cells::value(cell) as usize);
         let here = |count| Awaited { count, bindings };
         match cells::kind(cell) {
@@ -31,7 +41,7 @@ pub fn is_whole(string: &[Cell], lines: &Lines) -> bool {
             _ => return false,
         }
     }
-    next(&mut awaited).is_none()
+    next(awaited).is_none()
 }
 
 /// Takes the expression that must come next, if there is one: how many bindings are around it.

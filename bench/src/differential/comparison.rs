@@ -3,6 +3,7 @@
 use super::calls::{pattern, Call, Question};
 use super::pairs::Pairs;
 use super::printed::Printed;
+use super::sheets::Sheets;
 use super::situations::Situations;
 use super::strings::Strings;
 use super::widths::Widths;
@@ -41,12 +42,14 @@ pub struct Comparison {
     pub(super) widths: Widths,
     pub(super) pairs: Pairs,
     pub(super) strings: Strings,
+    pub(super) sheets: Sheets,
     steps: u64,
     differences: usize,
 }
 
 impl Comparison {
-    /// Compares the checks of a book, then of some books what a line rests on, their pages, and pairs and strings at their desks.
+    /// Compares the checks of a book, then of some books what a line rests on, their pages, and pairs, strings and lists at their
+    /// desks.
     pub fn compare(&mut self, random: &mut Random, book: &[u8], call: &Call) {
         let outcome = self.check(book, call);
         self.shelf_of_some_books(&outcome);
@@ -57,6 +60,7 @@ impl Comparison {
         self.print(random, book, call, &outcome);
         self.pairs_of_some_books(book, call, &outcome);
         self.strings_of_some_books(book, call, &outcome);
+        self.sheets_of_some_books(book, call, &outcome);
     }
 
     pub fn check(&mut self, book: &[u8], call: &Call) -> Outcome {
@@ -124,7 +128,7 @@ impl Comparison {
 
     /// Prints the counts; true if there was no difference and each code and each situation was met.
     pub fn report(&self) -> bool {
-        println!("code    check rests_on    pages    widen   narrow    first   second");
+        println!("code    check rests_on    pages    widen   narrow    first   second    sheet   places");
         for code in 0..CODES {
             print!("{code:>4}");
             self.calls().iter().for_each(|(counts, _)| print!(" {:>8}", counts[code]));
@@ -140,7 +144,7 @@ impl Comparison {
         println!("5 for a constant as indicator: {}", self.constant_indicators);
         let divisions = ("accepted books divided into paragraphs, with the same cells", self.divisions);
         let others = self.situations.counts().chain([divisions]).chain(self.printed.counts()).chain(self.widths.counts());
-        let others = others.chain(self.pairs.counts()).map(|(what, count)| (what.to_string(), count));
+        let others = others.chain(self.pairs.counts()).chain(self.sheets.counts()).map(|(what, count)| (what.to_string(), count));
         let others: Vec<_> = others.chain(self.strings.counts()).collect();
         for (what, count) in &others {
             println!("{what}: {count}");
@@ -152,7 +156,7 @@ impl Comparison {
     }
 
     /// How often each call gave each code, and the codes that it can give.
-    fn calls(&self) -> [(&[usize; CODES], fn(usize) -> bool); 7] {
+    fn calls(&self) -> [(&[usize; CODES], fn(usize) -> bool); 9] {
         [
             (&self.codes, |code| code <= 12 || code == 14 || code == 17),
             (&self.answers, |code| code <= 14 || code == 17),
@@ -161,6 +165,8 @@ impl Comparison {
             (&self.widths.narrowed, |code| code == 0 || code == 15 || code == 16),
             (&self.pairs.codes[0], |code| code <= 12 || code == 14 || code == 17 || code == 18),
             (&self.pairs.codes[1], |code| code <= 12 || code == 14 || code == 17 || code == 18),
+            (&self.sheets.codes, |code| code <= 12 || code == 14 || code == 15 || code == 17),
+            (&self.sheets.places, |code| matches!(code, 0 | 9 | 10 | 11 | 18)),
         ]
     }
 

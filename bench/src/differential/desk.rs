@@ -13,7 +13,7 @@ pub struct Desk<'b> {
     pub call: Call,
     pub outcome: Outcome,
     /// The stores before a call, and as the check leaves them.
-    lent: Stores,
+    pub lent: Stores,
     pub left: Stores,
 }
 
@@ -30,11 +30,15 @@ impl<'b> Desk<'b> {
         self.outcome.code == 0
     }
 
+    /// What any call on the book gives if it is refused.
+    pub fn refusal(&self) -> Option<Answer> {
+        let Outcome { code, line, steps } = self.outcome;
+        (!self.accepted()).then_some(Answer { code, line, steps: steps as u32, length: 0 })
+    }
+
     /// Whether an answer is one that this book can get: the check's refusal, or line 0 and no length.
     fn may_give(&self, answer: &Answer) -> bool {
-        let Outcome { code, line, steps } = self.outcome;
-        let refusal = Answer { code, line, steps: steps as u32, length: 0 };
-        if self.accepted() { answer.line == 0 && answer.length == 0 } else { *answer == refusal }
+        self.refusal().map_or(answer.line == 0 && answer.length == 0, |refusal| *answer == refusal)
     }
 }
 

@@ -5,6 +5,7 @@ use super::comparison::Comparison;
 use super::desk::Desk;
 use crate::baseline::cells::{cell, ABSTRACTION, APPLICATION, BOUND, CONSTANT, VARIABLE};
 use crate::pairs::{Order, Pair, Request};
+use crate::sheets::{List, ListedPair};
 use crate::sizes::{Cell, CONTEXT_LENGTH, KIND, LARGEST_LIMIT, MOST_LINES, SMALLEST_LIMIT};
 use crate::Outcome;
 
@@ -80,8 +81,10 @@ impl Comparison {
         }
     }
 
-    /// Each string on both sides: 0 if it is whole, 10 if it is above the limit too.
+    /// Each string on both sides, alone and in one list: 0 if it is whole, 10 if it is above the limit too.
     fn extremes(&mut self, desk: &Desk, strings: Vec<(Vec<Cell>, bool)>) {
+        let mut list = List::default();
+        let mut codes = Vec::new();
         for (number, (string, whole)) in strings.into_iter().enumerate() {
             let code = match (whole, string.len() > desk.call.limit as usize) {
                 (false, _) => 18,
@@ -95,6 +98,13 @@ impl Comparison {
                 self.differ(&[], &format!("string {number} of {length} cells: {answer:?}, not {code}"));
             }
             self.strings.extreme += 1;
+            let [left, right] = pair.sides().map(|side| list.put(side));
+            list.pairs.push(ListedPair { left, right, budget: 0 });
+            codes.push(code);
+        }
+        let sheet = self.sheet(desk, &list, codes.len()).unwrap_or_default();
+        if !sheet.iter().map(|place| place.code).eq(codes.iter().copied()) {
+            self.differ(&[], &format!("{} strings in a list: {sheet:?}, not {codes:?}", codes.len()));
         }
     }
 }

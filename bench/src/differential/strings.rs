@@ -90,21 +90,21 @@ impl Strings {
 }
 
 /// A string, and the fault that was put in it.
-struct Made {
-    string: Vec<Cell>,
-    fault: Option<Fault>,
+pub struct Made {
+    pub string: Vec<Cell>,
+    pub fault: Option<Fault>,
 }
 
 /// Makes strings over some lines.
-struct StringMaker<'s> {
-    random: &'s mut Random,
-    theory: &'s Theory,
-    vocabulary: &'s Vocabulary,
-    limit: usize,
+pub struct StringMaker<'s> {
+    pub random: &'s mut Random,
+    pub theory: &'s Theory,
+    pub vocabulary: &'s Vocabulary,
+    pub limit: usize,
 }
 
 impl StringMaker<'_> {
-    fn pair(&mut self) -> [Made; 2] {
+    pub fn pair(&mut self) -> [Made; 2] {
         let faulty = match self.random.below(6) {
             0..=1 => [true, false],
             2..=3 => [false, true],

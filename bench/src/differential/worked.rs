@@ -7,7 +7,7 @@ use crate::baseline::cells;
 use crate::pairs::{Order, Pair};
 use crate::sizes::{Cell, NESTING, SMALLEST_LIMIT};
 
-const BOOK: &str = "\
+pub const BOOK: &str = "\
 *nat:=PN:type
 *one:=PN:nat
 *n:=EB:nat
@@ -23,7 +23,7 @@ m*fst:=n:nat
 *f:=EB:F
 f*tw:=[x,nat]<<x>f>f:F
 ";
-const LIMIT: u32 = 128;
+pub const LIMIT: u32 = 128;
 
 /// A pair, one word a cell, names and numbers; the budget; and the code and the steps of the first comparison, then of the second.
 struct Worked {
@@ -118,7 +118,7 @@ fn cell(word: &str) -> Cell {
     }
 }
 
-fn side(words: &str) -> Vec<Cell> {
+pub fn side(words: &str) -> Vec<Cell> {
     words.split_whitespace().map(cell).collect()
 }
 

@@ -1,9 +1,10 @@
 //! Times of requests at the desk: on pairs that take more and more steps, and on longer and longer strings over a long book.
 
 use super::measure::{self, Beside, Comparing, Given};
+use super::strings::Names;
 use super::turns::milliseconds;
 use super::{book, CALLED_LINES};
-use crate::baseline::cells::{cell, ABSTRACTION, APPLICATION, BOUND, CONSTANT, TYPE};
+use crate::baseline::cells::TYPE;
 use crate::generate::{self, Kind, PairKind};
 use crate::pairs::{Order, Pair, Request};
 use crate::sizes::{Cell, LARGEST_LIMIT};
@@ -86,46 +87,4 @@ fn own_times(comparing: &Comparing) -> [f64; 2] {
 fn ratio(comparing: &Comparing) -> String {
     let [verified, baseline] = own_times(comparing);
     if baseline < LEAST_COMPARED { "-".to_string() } else { format!("{:.2}", verified / baseline) }
-}
-
-/// The cells of constants that the books have.
-struct Names {
-    nat: Cell,
-    one: Cell,
-    suc: Cell,
-    plus: Cell,
-}
-
-impl Names {
-    /// In a book without paragraphs, under names with this end.
-    fn of(book: &[u8], end: &str) -> Names {
-        let [nat, one, suc, plus] = ["nat", "one", "suc", "plus"].map(|name| {
-            let named = format!("*{name}{end}:=");
-            let is_its = |line: &[u8]| line.windows(named.len()).any(|part| part == named.as_bytes());
-            let place = book.split(|&b| b == b'\n').position(is_its).expect("a line of this name");
-            cell(CONSTANT, place as Cell + 1)
-        });
-        Names { nat, one, suc, plus }
-    }
-
-    /// `suc(plus(one,plus(one,..)))`.
-    fn arguments(&self, length: usize) -> Vec<Cell> {
-        [vec![self.suc], [self.plus, self.one].repeat((length - 2) / 2), vec![self.one]].concat()
-    }
-
-    /// `[x,nat]suc(<x><x>..x)`.
-    fn bound(&self, length: usize) -> Vec<Cell> {
-        let variable = cell(BOUND, 0);
-        [vec![ABSTRACTION, self.nat, self.suc], [APPLICATION, variable].repeat((length - 4) / 2), vec![variable]].concat()
-    }
-
-    /// `[x,nat]suc([y,<x>x][z,<x>x]..x)`: every variable is the outermost binding's.
-    fn bindings(&self, length: usize) -> Vec<Cell> {
-        let mut string = vec![ABSTRACTION, self.nat, self.suc];
-        let count = (length - 4) / 4;
-        let outermost = |inside: usize| cell(BOUND, inside as Cell);
-        (0..count).for_each(|inside| string.extend([ABSTRACTION, APPLICATION, outermost(inside), outermost(inside)]));
-        string.push(outermost(count));
-        string
-    }
 }

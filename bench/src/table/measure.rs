@@ -3,7 +3,8 @@
 use std::time::Duration;
 
 use super::turns::{by_turns, cut, stores, timed, Repetition, Turns};
-use crate::pairs::{Pair, Request};
+use crate::pairs::{Order, Pair, Request};
+use crate::sheets::{List, ListedPair};
 use crate::stores::Stores;
 use crate::{baseline, verified, Answer, Outcome};
 
@@ -13,6 +14,8 @@ pub const FEW: Repetition = Repetition { time: Duration::from_millis(600), least
 pub const SHORT: Repetition = Repetition { time: Duration::from_millis(300), least: 11, most: 2_001 };
 const FEWEST: Repetition = Repetition { time: Duration::from_millis(100), least: 5, most: 5 };
 const LONG_REQUEST: Duration = Duration::from_millis(40);
+/// Of many single calls, which may take long.
+const SINGLES: Repetition = Repetition { time: Duration::from_millis(300), least: 1, most: 101 };
 /// A check that takes longer is not repeated.
 const LONGEST_REPEATED: Duration = Duration::from_secs(2);
 
@@ -175,6 +178,65 @@ pub fn request(given: &Given, request: &Request, beside: &Beside, repetition: &R
         ],
     };
     Some(Comparing { answer, verified, baseline })
+}
+
+/// A sheet, beside the check of its book by each program, and beside as many single calls by the verified one.
+pub struct Listing {
+    /// Of all pairs.
+    pub steps: u32,
+    pub verified: Turns,
+    pub baseline: Turns,
+    pub singles: Turns,
+}
+
+/// Checks that both fill the sheet alike and leave the same, then times the call and the others by turns. Single calls must give the same.
+pub fn sheet(given: &Given, pairs: &[(Pair, u32)], repetition: &Repetition) -> Option<Listing> {
+    let Given { book, limit, .. } = *given;
+    let list = listed(pairs);
+    let mut ours = given.stores();
+    let mut theirs = given.stores();
+    let mut sheet = vec![Answer { code: 0, line: 0, steps: 0, length: 0 }; pairs.len()];
+    let mut other_sheet = sheet.clone();
+    let (answer, _) = timed(&mut ours, |s| verified::compare_sheet(book, u32::MAX, limit, s, &list, &mut sheet));
+    let (other, _) = timed(&mut theirs, |s| baseline::compare_sheet(book, u32::MAX, limit, s, &list, &mut other_sheet));
+    if answer != other || sheet != other_sheet || ours != theirs || answer.code != 0 {
+        let alike = sheet == other_sheet;
+        given.differs("sheet", format!("{answer:?} verified, {other:?} baseline, sheets alike: {alike}"));
+        return None;
+    }
+    cut(&mut ours);
+    let mut verified = |s: &mut Stores| verified::compare_sheet(book, u32::MAX, limit, s, &list, &mut sheet);
+    let beside = by_turns(repetition, &mut ours, &mut verified, |s| given.verified(s));
+    let baseline = by_turns(
+        repetition, &mut ours, |s| baseline::compare_sheet(book, u32::MAX, limit, s, &list, &mut other_sheet), |s| given.baseline(s),
+    );
+    let mut alone = Vec::new();
+    let singles = by_turns(&SINGLES, &mut ours, &mut verified, |s| alone = single_calls(given, s, pairs));
+    if alone != sheet {
+        given.differs("sheet", "single calls give other answers".to_string());
+        return None;
+    }
+    let steps = sheet.iter().map(|place| place.steps).sum();
+    Some(Listing { steps, verified: beside, baseline, singles })
+}
+
+/// The list of these pairs with their budgets.
+fn listed(pairs: &[(Pair, u32)]) -> List {
+    let mut list = List::default();
+    for (pair, budget) in pairs {
+        let [left, right] = pair.sides().map(|side| list.put(side));
+        list.pairs.push(ListedPair { left, right, budget: *budget });
+    }
+    list
+}
+
+/// What the verified program gives for each pair alone, one after another.
+fn single_calls(given: &Given, stores: &mut Stores, pairs: &[(Pair, u32)]) -> Vec<Answer> {
+    let request = |(pair, budget): &'_ (Pair, u32)| {
+        let request = Request { order: Order::StepsFirst, pair, budget: *budget };
+        verified::compare(given.book, u32::MAX, given.limit, stores, &request)
+    };
+    pairs.iter().map(request).collect()
 }
 
 /// The middles of the last two lines of a book that both accept.
