@@ -96,7 +96,11 @@ fn written_books() -> Vec<Vec<u8>> {
         files.sort();
         for file in files.iter().filter(|f| header || is_book(f)) {
             let bytes = std::fs::read(file).unwrap_or_default();
-            books.push(if header { behind_header(&bytes).to_vec() } else { bytes });
+            if !header {
+                books.push(bytes);
+            } else if bytes.first().is_some_and(u8::is_ascii_digit) {
+                books.push(behind_header(&bytes).to_vec());
+            }
         }
     }
     books.retain(|b| b.len() < 4_096);
@@ -104,7 +108,8 @@ fn written_books() -> Vec<Vec<u8>> {
     books
 }
 
-/// A header of nine numbers has a line of its own behind it in call_cases, the strings that are compared; in cases it has none.
+/// A header of nine numbers has a line of its own behind it in call_cases, the strings that are compared; in cases it has none. A conversion
+/// begins with a word, and has no book.
 fn behind_header(bytes: &[u8]) -> &[u8] {
     let mut lines = bytes.splitn(3, |&b| b == b'\n');
     let first = lines.next().unwrap_or_default();
