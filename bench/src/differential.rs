@@ -96,11 +96,7 @@ fn written_books() -> Vec<Vec<u8>> {
         files.sort();
         for file in files.iter().filter(|f| header || is_book(f)) {
             let bytes = std::fs::read(file).unwrap_or_default();
-            if !header {
-                books.push(bytes);
-            } else if bytes.first().is_some_and(u8::is_ascii_digit) {
-                books.push(behind_header(&bytes).to_vec());
-            }
+            books.push(if header { behind_header(&bytes).to_vec() } else { bytes });
         }
     }
     books.retain(|b| b.len() < 4_096);
@@ -108,8 +104,7 @@ fn written_books() -> Vec<Vec<u8>> {
     books
 }
 
-/// A header of nine numbers has a line of its own behind it in call_cases, the strings that are compared; in cases it has none. A conversion
-/// begins with a word, and has no book.
+/// A header of nine numbers has a line of its own behind it in call_cases, the strings that are compared; in cases it has none.
 fn behind_header(bytes: &[u8]) -> &[u8] {
     let mut lines = bytes.splitn(3, |&b| b == b'\n');
     let first = lines.next().unwrap_or_default();

@@ -1,7 +1,7 @@
 // A list of at most eight pairs compared over a book, with the pairs and the sheet by value: so what calls it has no reference to a struct.
 use constants::Cell;
 use outcomes::AnswerNumbers;
-use verifier::Pair;
+use pairs::Pair;
 ghost use Prim.Native.Nat.{_≤_};
 
 // The numbers of the call, and the places of the sheet.
@@ -28,7 +28,7 @@ pub fn compare_list(
     requires { ⌜ (count ≤ 8) × (room ≤ 8) ⌝ }
 {
     let mut sheet = places;
-    let a = verifier::compare_sheet(
+    let a = sheets::compare_sheet(
         book,
         budget,
         limit,

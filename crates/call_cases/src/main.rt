@@ -4,18 +4,15 @@
 // budget of the call, the ninth the cells of the left string; the cells of the right string and the cells of both are on the next line, and
 // the book follows. It writes what the call ends with, and what became of the stores. Nine, the eighth being 3: a list of pairs. The seventh
 // is the places of the sheet, the ninth the pairs; the number of the cells that they share, these cells, and five numbers for each of eight
-// pairs are on the next line, and the book follows. It writes the same, and eight places of the sheet and behind it. Or the case begins with `widen`
-// or `narrow` and the cells of the target, and the source, if there is one, is on the next line. It writes what the conversion ends with,
-// the cells that were written, and how many cells changed behind them. All stores hold 7 in each cell before each call.
-mod conversions;
+// pairs are on the next line, and the book follows. It writes the same, and eight places of the sheet and behind it. All stores hold 7 in each cell before each call.
 mod lists;
-mod numbers;
 mod sheet_cases;
 mod strings;
 
 use constants::Cell;
 use constants::ROW_WIDTH;
 use constants::WORK_UNITS;
+use outcomes::answer_numbers;
 use programs::INDEX;
 use programs::LIMIT;
 use programs::LINES;
@@ -41,8 +38,8 @@ fn print(
     index: &mut [u32],
     page: &mut [u8],
 ) {
-    let a = verifier::print_pages(book, h.budget, h.limit, table, terms, work, index, page);
-    report::pages(verifier::answer_numbers(a), page);
+    let a = printing::print_pages(book, h.budget, h.limit, table, terms, work, index, page);
+    report::pages(answer_numbers(a), page);
 }
 
 // The call that the header asks for.
@@ -122,40 +119,23 @@ fn case_of(
     );
 }
 
-// A case of a call on a book.
-fn on_book(text: &[u8]) {
+// The case in an open file.
+fn case_in(fd: i32) {
+    let mut text = [0u8; TEXT];
+    let n = io::read_full(fd, &mut text);
     let mut table = [7u32; ROW_WIDTH * LINES];
     let mut terms: [Cell; TERMS] = [7; TERMS];
     let mut work: [Cell; WORK_UNITS * LIMIT] = [7; WORK_UNITS * LIMIT];
     let mut index = [7u32; INDEX];
     let mut page = [7u8; PAGE];
     case_of(
-        text,
+        &text[..n],
         &mut table,
         &mut terms,
         &mut work,
         &mut index,
         &mut page,
     );
-}
-
-// Whether the text begins with a number, as every case of a call on a book does.
-fn begins_with_number(text: &[u8]) -> bool {
-    if text.len() == 0 {
-        return true;
-    }
-    text[0] <= b'9'
-}
-
-// The case in an open file.
-fn case_in(fd: i32) {
-    let mut text = [0u8; TEXT];
-    let n = io::read_full(fd, &mut text);
-    if begins_with_number(&text[..n]) {
-        on_book(&text[..n]);
-        return;
-    }
-    conversions::convert(&text[..n]);
 }
 
 // The case in the file that argument i names.

@@ -1,13 +1,13 @@
 // A list of pairs of strings compared over a book.
 use crate::lists::compare_list;
-use crate::numbers::numbers;
+use crate::strings::numbers;
 use constants::Cell;
 use outcomes::AnswerNumbers;
+use pairs::Pair;
 use reports::header;
 use reports::header::Header;
 use reports::header::Question;
 use reports::report;
-use verifier::Pair;
 ghost use Prim.Native.Nat.{_+_, _≤_};
 
 // The most cells that the pairs share, and the most pairs and places.
@@ -58,8 +58,8 @@ fn blank() -> [AnswerNumbers; 8] {
 
 // The cells that pairs share, the numbers of the pairs, and where the book begins.
 fn read(text: &[u8], at: usize, cells: &mut [Cell], pairs: &mut [u32]) -> usize {
-    let between = numbers(text, at, cells).next;
-    numbers(text, between, pairs).next
+    let between = numbers(text, at, cells);
+    numbers(text, between, pairs)
 }
 
 // All places of a sheet.

@@ -1,7 +1,7 @@
 // Two strings of cells compared over a book.
-use crate::numbers::numbers;
 use constants::Cell;
 use outcomes::AnswerNumbers;
+use outcomes::answer_numbers;
 use reports::header;
 use reports::header::Header;
 use reports::header::Question;
@@ -9,6 +9,19 @@ use reports::report;
 
 // The most cells of a string.
 const STRING: usize = 64;
+
+// As many numbers of the text from index `start` on as there are cells. The index behind them.
+pub fn numbers(text: &[u8], start: usize, cells: &mut [Cell]) -> usize {
+    let mut at = start;
+    let mut n = 0;
+    while n < cells.len() {
+        let x = header::number(text, at);
+        cells[n] = header::narrow(x.value);
+        at = x.next;
+        n = n + 1;
+    }
+    at
+}
 
 // What the comparison ends with, the first or the second.
 fn compared(
@@ -23,7 +36,7 @@ fn compared(
     right: &[Cell],
 ) -> AnswerNumbers {
     if which == 2 {
-        let b = verifier::compare_strings_parts_first(
+        let b = desk::compare_strings_parts_first(
             book,
             h.budget,
             h.limit,
@@ -35,9 +48,9 @@ fn compared(
             right,
             h.last,
         );
-        return verifier::answer_numbers(b);
+        return answer_numbers(b);
     }
-    let a = verifier::compare_strings(
+    let a = desk::compare_strings(
         book,
         h.budget,
         h.limit,
@@ -49,7 +62,7 @@ fn compared(
         right,
         h.last,
     );
-    verifier::answer_numbers(a)
+    answer_numbers(a)
 }
 
 // Compares the strings of the text from index `at` on over the book behind them, and reports.
@@ -65,8 +78,8 @@ fn compare_read(
     left: &mut [Cell],
     right: &mut [Cell],
 ) {
-    let between = numbers(text, at, left).next;
-    let start = numbers(text, between, right).next;
+    let between = numbers(text, at, left);
+    let start = numbers(text, between, right);
     if start > text.len() {
         return;
     }

@@ -5,14 +5,14 @@ use mathlib.Core.Bool.{Bool, true, false}
 use mathlib.Core.List.{List, [], _∷_, _++_}
 use Prim.Native.Nat.{ℕ, zero, suc, _+_, _-_, _*_, _≤_, _<_}
 use native.Mathlib.Omega.{arith}
-use lib.Dec.{leb, ltb}
+use lib.Dec.{ltb}
 use lib.ListN.{length, take, drop, getD, set, length-take}
 use lib.Seq.{drop-at, drop-drop, drop-set-lt, getD-set-same, getD-set-other}
 use borrow.Author.Tests.{le-leb, lt-leb, ltb-true, ltb-false}
 use Rattle.aut68.specs.Sizes.{workUnits}
 use Rattle.aut68.specs.Lines.{Lines}
 use Rattle.aut68.specs.Rules.Strings.{Whole}
-use Rattle.aut68.specs.Desk.{Judged, isNotWhole}
+use Rattle.aut68.specs.Desk.{isNotWhole}
 use Rattle.cells.specs.Forests.{cells-long}
 use Rattle.heads.specs.Book.{Book}
 use Rattle.judging.specs.Posts.{JudgedPost}

@@ -1,10 +1,10 @@
--- `call_cases::conversions::low_bits` is safe and ends.
+-- `width_cases::low_bits` is safe and ends.
 use mathlib.Core.Path.{_≡_, refl}
 use Prim.Native.Nat.{_-_}
 use native.Mathlib.Omega.{arith}
 use lib.ListN.{length, length-set}
-use Rattle.call_cases.proofs.conversions.low_bits.Statement.{statement}
-use Rattle.call_cases.proofs.conversions.low_bits.Tie as tie
+use Rattle.width_cases.proofs.low_bits.Statement.{statement}
+use Rattle.width_cases.proofs.low_bits.Tie as tie
 
 abbrev Inv-loop : tie.InvT-loop
 Inv-loop wide narrow₀ i₀ narrow i = length narrow ≡ length narrow₀

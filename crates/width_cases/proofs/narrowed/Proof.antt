@@ -1,9 +1,9 @@
--- `call_cases::conversions::narrowed` is safe: each part that it lends is within its slice, by the tests.
+-- `width_cases::narrowed` is safe: each part that it lends is within its slice, by the tests.
 use native.Mathlib.Omega.{arith}
 use lib.ListN.{length-take}
 use borrow.Author.Needs.{needs}
-use Rattle.call_cases.proofs.conversions.narrowed.Statement.{statement}
-use Rattle.call_cases.proofs.conversions.narrowed.Tie as tie
+use Rattle.width_cases.proofs.narrowed.Statement.{statement}
+use Rattle.width_cases.proofs.narrowed.Tie as tie
 
 returns : tie.Need-returns
 returns c = search needs

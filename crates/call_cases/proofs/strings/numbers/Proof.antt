@@ -1,10 +1,10 @@
--- `call_cases::numbers::numbers` is safe and ends.
+-- `call_cases::strings::numbers` is safe and ends.
 use mathlib.Core.Path.{_≡_, refl}
 use Prim.Native.Nat.{_-_}
 use native.Mathlib.Omega.{arith}
 use lib.ListN.{length, length-set}
-use Rattle.call_cases.proofs.numbers.numbers.Statement.{statement}
-use Rattle.call_cases.proofs.numbers.numbers.Tie as tie
+use Rattle.call_cases.proofs.strings.numbers.Statement.{statement}
+use Rattle.call_cases.proofs.strings.numbers.Tie as tie
 
 abbrev Inv-loop : tie.InvT-loop
 Inv-loop text start cells₀ at₀ n₀ cells at n = length cells ≡ length cells₀
@@ -14,12 +14,6 @@ abbrev μ-loop : tie.MeasureT-loop
 
 loop-holds : tie.Need-loop-holds Inv-loop μ-loop
 loop-holds c = refl
-
-same-length : tie.Need-same-length Inv-loop μ-loop
-same-length c = omega arith
-
-returns : tie.Need-returns Inv-loop μ-loop
-returns c = tt
 
 number-requires : tie.Need-number-requires Inv-loop μ-loop
 number-requires c κs = tt
@@ -42,11 +36,11 @@ loop-less c = omega arith
 loop-again : tie.Need-loop-again Inv-loop μ-loop
 loop-again c = simp length-set (omega arith)
 
-same-length-2 : tie.Need-same-length-2 Inv-loop μ-loop
-same-length-2 c = omega arith
+same-length : tie.Need-same-length Inv-loop μ-loop
+same-length c = omega arith
 
-returns-2 : tie.Need-returns-2 Inv-loop μ-loop
-returns-2 c = tt
+returns : tie.Need-returns Inv-loop μ-loop
+returns c = tt
 
 pub numbers-spec : {M : Type 1} → statement M
 numbers-spec =
@@ -55,8 +49,6 @@ numbers-spec =
     Inv-loop
     μ-loop
     loop-holds
-    same-length
-    returns
     number-requires
     narrow-requires
     mul-cells
@@ -64,5 +56,5 @@ numbers-spec =
     add-n
     loop-less
     loop-again
-    same-length-2
-    returns-2)
+    same-length
+    returns)

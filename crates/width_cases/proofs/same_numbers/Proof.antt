@@ -1,10 +1,10 @@
--- `call_cases::conversions::same_numbers` is safe and ends.
+-- `width_cases::same_numbers` is safe and ends.
 use mathlib.Core.Path.{_≡_, refl}
 use Prim.Native.Nat.{_-_}
 use native.Mathlib.Omega.{arith}
 use lib.ListN.{length, length-set}
-use Rattle.call_cases.proofs.conversions.same_numbers.Statement.{statement}
-use Rattle.call_cases.proofs.conversions.same_numbers.Tie as tie
+use Rattle.width_cases.proofs.same_numbers.Statement.{statement}
+use Rattle.width_cases.proofs.same_numbers.Tie as tie
 
 abbrev Inv-loop : tie.InvT-loop
 Inv-loop narrow wide₀ i₀ wide i = length wide ≡ length wide₀
