@@ -1,10 +1,13 @@
-// The test program of calls other than the check. Each argument names a file with one case, which begins with a line of numbers.
-// Seven: the last is the bytes of the page store, and the book follows. It writes what the call ends with, the pages, and how many bytes
-// changed behind them. Nine, the eighth being 1 or 2: two strings, compared by the first or by the second comparison. The seventh is the
-// budget of the call, the ninth the cells of the left string; the cells of the right string and the cells of both are on the next line, and
-// the book follows. It writes what the call ends with, and what became of the stores. Nine, the eighth being 3: a list of pairs. The seventh
-// is the places of the sheet, the ninth the pairs; the number of the cells that they share, these cells, and five numbers for each of eight
-// pairs are on the next line, and the book follows. It writes the same, and eight places of the sheet and behind it. All stores hold 7 in each cell before each call.
+// The test program of calls other than the check. Each argument names a file with one case: a line of numbers, and the book behind it. All
+// stores hold 7 in each cell before each call.
+// - Seven numbers, the last the bytes of the page store: it writes what the call ends with, the pages, and how many bytes changed behind
+//   them.
+// - Nine, the eighth 1 or 2: two strings, by the first comparison or the second. The seventh is the budget of the call, the ninth the cells
+//   of the left string; the next line has the cells of the right string, and the cells of both. It writes what the call ends with, and what
+//   became of the stores.
+// - Nine, the eighth 3: a list of pairs. The seventh is the places of the sheet, the ninth the pairs; the next line has the number of the
+//   cells that they share, these cells, and five numbers for each of eight pairs. It writes the same, and eight places, of the sheet and
+//   behind it.
 mod lists;
 mod sheet_cases;
 mod strings;
