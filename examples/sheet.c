@@ -8,7 +8,6 @@
 #include "book.h"
 
 #include <stdlib.h>
-#include <string.h>
 
 enum { CELLS = 1 << 20, PAIRS = 1 << 12, TEXT = 1 << 16 };
 
@@ -29,20 +28,21 @@ static uint32_t read_cells(char **at, size_t *used)
     }
 }
 
-/* The pair in the text; 0 if there is none. */
+/* The pair in the text; 0 if there is none, or the line does not end in it. */
 static int read_pair(Aut68Pair *pair, size_t *used)
 {
     char *at;
-    pair->budget = (uint32_t)strtoul(text, &at, 10);
-    if (*at++ != ':')
+    unsigned long budget = strtoul(text, &at, 10);
+    if (at == text || budget > UINT32_MAX || *at++ != ':')
         return 0;
+    pair->budget = (uint32_t)budget;
     pair->left = (uint32_t)*used;
     pair->left_length = read_cells(&at, used);
     if (*at++ != ':')
         return 0;
     pair->right = (uint32_t)*used;
     pair->right_length = read_cells(&at, used);
-    return *at == '\n' || *at == '\0';
+    return *at == '\n' || (*at == '\0' && feof(stdin));
 }
 
 int main(int argc, char **argv)
@@ -60,6 +60,10 @@ int main(int argc, char **argv)
             return 2;
         }
         count++;
+    }
+    if (ferror(stdin)) {
+        perror("standard input");
+        return 2;
     }
 
     Aut68Answer a = aut68_compare_sheet(book, length, BUDGET, LIMIT, table, TABLE, terms, TERMS, work, WORK, entries, INDEX,

@@ -1,14 +1,14 @@
 -- Strings cut out of the lent cells, and the places of a sheet marked one by one.
 use mathlib.Core.Path.{_≡_, refl, sym, ap, _∙_, subst}
 use mathlib.Core.Logic.{_⊎_, _≢_, inl, inr, ⊎-elim}
-use mathlib.Core.Bool.{Bool, true, false}
+use mathlib.Core.Bool.{false}
 use mathlib.Core.List.{List, [], _∷_, _++_}
 use Prim.Native.Nat.{ℕ, zero, suc, _+_, _-_, _*_, _≤_, _<_}
+use native.Mathlib.Nat.{eq-or-lt-of-le}
 use native.Mathlib.Omega.{arith}
-use lib.Dec.{ltb}
 use lib.ListN.{length, take, drop, getD, set, length-take}
 use lib.Seq.{drop-at, drop-drop, drop-set-lt, getD-set-same, getD-set-other}
-use borrow.Author.Tests.{le-leb, lt-leb, ltb-true, ltb-false}
+use borrow.Author.Tests.{le-leb, lt-leb}
 use Rattle.aut68.specs.Sizes.{workUnits}
 use Rattle.aut68.specs.Lines.{Lines}
 use Rattle.aut68.specs.Rules.Strings.{Whole}
@@ -23,19 +23,16 @@ use Rattle.pairs.specs.Posts.{NotWhole, PairPost, PairsPost}
 
 -- ---- strings
 
-string-inside : (cells : List ℕ) (a n : ℕ) → a + n ≤ length cells → stringAt cells a n ≡ take n (drop a cells)
-unfolding stringAt
-string-inside cells a n h = rw (le-leb (a + n) (length cells) h, stringAt) refl
-
 string-outside : (cells : List ℕ) (a n : ℕ) → length cells < a + n → stringAt cells a n ≡ []
 unfolding stringAt
 string-outside cells a n h = rw (lt-leb (a + n) (length cells) h, stringAt) refl
 
 -- the part that is lent for it
 string-part : (cells : List ℕ) (a n : ℕ) → a + n ≤ length cells → take (a + n - a) (drop a cells) ≡ stringAt cells a n
+unfolding stringAt
 string-part cells a n h =
     let e : a + n - a ≡ n = omega arith in
-    ap (λ (x : ℕ). take x (drop a cells)) e ∙ sym (string-inside cells a n h)
+    rw (le-leb (a + n) (length cells) h, stringAt) (ap (λ (x : ℕ). take x (drop a cells)) e)
 
 -- no cells are no expression
 none-whole : (ls : Lines) (s : List ℕ) → s ≡ [] → ¬ Whole ls s
@@ -85,13 +82,6 @@ getD-any [] i d e h = absurd (omega arith)
 getD-any (x ∷ l) zero d e h = refl
 getD-any (x ∷ l) (suc i) d e h = getD-any l i d e (omega arith)
 
-below-or-last : (j i : ℕ) → j < i + 1 → (j < i) ⊎ (j ≡ i)
-below-or-last j i h = of (ltb j i) refl
-  where
-    of : (t : Bool) → ltb j i ≡ t → (j < i) ⊎ (j ≡ i)
-    of true q = inl (ltb-true j i q)
-    of false q = inr (omega (arith, ltb-false j i q))
-
 module _ (ls : Lines) (limit : ℕ) (cells : List ℕ) (pairs : List Pair) (i : ℕ) (sheet : List AnswerNumbers) (r : AnswerNumbers) where
   -- a store to the place at i leaves the others marked
   mark-kept : (j : ℕ) → j ≢ i → MarkedAt ls limit cells pairs sheet j → MarkedAt ls limit cells pairs (set sheet i r) j
@@ -115,12 +105,12 @@ module _ {tb ts w : List ℕ} {limit lines : ℕ} {cells : List ℕ} {pairs : Li
   unfolding MarkedUpTo
   marks i w′ w″ sheet′ d r inside l P J =
       record {
-        means = λ ls B e j h. at ls B e j (below-or-last j i h);
+        means = λ ls B e j h. at ls B e j (eq-or-lt-of-le (omega (arith, h)));
         restKept = J .restKept ∙ P .restKept;
         untouched = λ e. absurd (omega arith);
         placesKept = drop-set-lt (i + 1) sheet′ i r (omega arith) ∙ sym (drop-drop 1 i sheet′) ∙ ap (drop 1) (P .placesKept) ∙ drop-drop 1 i sheet;
       }
     where
-      at : (ls : Lines) → Book ls limit tb ts → length ls ≡ lines → (j : ℕ) → (j < i) ⊎ (j ≡ i) → MarkedAt ls limit cells pairs (set sheet′ i r) j
-      at ls B e j (inl s) = mark-kept ls limit cells pairs i sheet′ r j (λ q. absurd (omega arith)) (P .means ls B e j s)
-      at ls B e j (inr q) = subst (MarkedAt ls limit cells pairs (set sheet′ i r)) (sym q) (mark-made ls limit cells pairs i sheet′ r d inside l (J .means ls B e))
+      at : (ls : Lines) → Book ls limit tb ts → length ls ≡ lines → (j : ℕ) → (j ≡ i) ⊎ (j < i) → MarkedAt ls limit cells pairs (set sheet′ i r) j
+      at ls B e j (inr s) = mark-kept ls limit cells pairs i sheet′ r j (λ q. absurd (omega arith)) (P .means ls B e j s)
+      at ls B e j (inl q) = subst (MarkedAt ls limit cells pairs (set sheet′ i r)) (sym q) (mark-made ls limit cells pairs i sheet′ r d inside l (J .means ls B e))

@@ -1,8 +1,9 @@
 -- A call: the book is checked, the pairs are compared over its lines, and the working store is cleared again.
 use mathlib.Core.Path.{_≡_, refl, sym, _∙_, subst}
-use mathlib.Core.Logic.{_⊎_, _≢_, inl, inr, ⊎-elim}
+use mathlib.Core.Logic.{_≢_, ⊎-elim}
 use mathlib.Core.List.{List}
-use Prim.Native.Nat.{ℕ, zero, suc, _*_, _≤_, _<_}
+use Prim.Native.Nat.{ℕ, _*_, _≤_, _<_}
+use native.Mathlib.Nat.{eq-zero-or-pos}
 use native.Mathlib.Omega.{arith}
 use lib.ListN.{length, drop}
 use Rattle.aut68.specs.Language.{aut68}
@@ -20,10 +21,6 @@ use Rattle.sheets.specs.declared.Opened.{Opened}
 use Rattle.pairs.specs.Sheet.{MarkedAt, MarkedUpTo, counted, tooShort, marked, ComparesSheet}
 use Rattle.pairs.specs.Posts.{PairsPost}
 use Rattle.sheets.specs.Posts.{Opens, isRefused, isShort, isOpen, Closes}
-
-none-or-some : (n : ℕ) → (n ≡ 0) ⊎ (0 < n)
-none-or-some zero = inl refl
-none-or-some (suc n) = inr (omega arith)
 
 module _ (book : Bytes) (N L : ℕ) (s : Stores) where
   abbrev ending : Ending
@@ -87,19 +84,19 @@ module _ (book : Bytes) (N L : ℕ) (s : Stores) where
 
     -- the working store is as the admission left it
     work-restored : {code line steps : ℕ} {ix : List ℕ} → Determined ending L s code line steps (stores tb ts w ix) → code ≡ 0 → length w₁ ≡ length w → w₂ ≡ w
-    work-restored d a e = ⊎-elim work-kept (λ h. Cl .clearedBehind h ∙ work-cleared aut68 book N L s d a w₁ e (P .restKept)) (none-or-some (o .pairs))
+    work-restored d a e = ⊎-elim work-kept (λ h. Cl .clearedBehind h ∙ work-cleared aut68 book N L s d a w₁ e (P .restKept)) (eq-zero-or-pos (o .pairs))
 
   -- what the three functions leave, one after the other
   pub sheet-compared : (cells : List ℕ) (pairs : List Pair) (sheet : List AnswerNumbers) (o : Opened) (tb ts w ix w₁ w₂ : List ℕ) (sheet′ : List AnswerNumbers) (r : AnswerNumbers)
       → Opens book N L s (length pairs) (length sheet) o (stores tb ts w ix)
-      → PairsPost tb ts w L (o .lines) cells pairs sheet (o .pairs) w₁ sheet′ → length w₁ ≡ length w → length sheet′ ≡ length sheet
+      → PairsPost tb ts w L (o .lines) cells pairs sheet (o .pairs) w₁ sheet′ → length w₁ ≡ length w
       → Closes w₁ L o r w₂
       → ComparesSheet book N L s cells pairs sheet (r .code) (r .line) (r .steps) (r .length) (stores tb ts w₂ ix) sheet′
-  sheet-compared cells pairs sheet o tb ts w ix w₁ w₂ sheet′ r (isRefused code line steps d n (c, l, m, k, z)) P e f Cl =
+  sheet-compared cells pairs sheet o tb ts w ix w₁ w₂ sheet′ r (isRefused code line steps d n (c, l, m, k, z)) P e Cl =
       rw (work-kept P Cl z) (sheet-refused d n (Cl .codeIs ∙ c) (Cl .lineIs ∙ l) (Cl .stepsAre ∙ m) (Cl .lengthIs ∙ k) (sheet-kept P Cl z))
-  sheet-compared cells pairs sheet o tb ts w ix w₁ w₂ sheet′ r (isShort code line steps d a h (c, l, m, k, z)) P e f Cl =
+  sheet-compared cells pairs sheet o tb ts w ix w₁ w₂ sheet′ r (isShort code line steps d a h (c, l, m, k, z)) P e Cl =
       rw (work-kept P Cl z) (sheet-declined d a h (Cl .codeIs ∙ c) (Cl .lineIs ∙ l) (Cl .stepsAre ∙ m) (Cl .lengthIs ∙ k) (sheet-kept P Cl z))
-  sheet-compared cells pairs sheet o tb ts w ix w₁ w₂ sheet′ r (isOpen code line steps d a h (c, l, m, k) t z) P e f Cl =
+  sheet-compared cells pairs sheet o tb ts w ix w₁ w₂ sheet′ r (isOpen code line steps d a h (c, l, m, k) t z) P e Cl =
       rw (work-restored P Cl d a e)
       (sheet-marked d a h (Cl .codeIs ∙ c) (Cl .lineIs ∙ l) (Cl .stepsAre ∙ m) (Cl .lengthIs ∙ k)
       (subst (λ (i : ℕ). MarkedUpTo i (recordedAt ending .recorded) L cells pairs sheet′) z

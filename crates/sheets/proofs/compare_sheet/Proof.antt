@@ -411,7 +411,7 @@ module _ {M : Type 1} (𝓤 : URA M) (H : Heap 𝓤) (A : Atoms 𝓤) (W : Given
         exits v v₁ v₂ y f₁ f₂ f₃ =
             qed W (Had₃ v y) ∵ suffices ! _ (ends-at 𝓤 H A compare-sheet.ended stayed (compare-sheet.clauses 𝓤 H A mem run) W bound v (y .0) (tt, (tt, (tt, (tb, (ts, (y .1, (ix, (tt, (tt, (sheet′, tt))))))))))
             (tt, (tt, (tt, (f₁ .2, (f₁ .3, (f₃ .2 ∙ f₂ .2 ∙ f₁ .4, (f₁ .5, (tt, (tt, (f₂ .3, tt))))))))))) $
-            says ! (sheet-compared (now book) budget limit old (now cells) (now pairs) (now sheet) o tb ts wk ix w₁ (y .1) sheet′ (y .0) (f₁ .1) (f₂ .1) (f₂ .2) (f₂ .3) (f₃ .1)) $
+            says ! (sheet-compared (now book) budget limit old (now cells) (now pairs) (now sheet) o tb ts wk ix w₁ (y .1) sheet′ (y .0) (f₁ .1) (f₂ .1) (f₂ .2) (f₃ .1)) $
             -- [the result; the last list of work; its token; table; its token; terms; its token; the last list of index; the tokens 0, 4; the last list of sheet; the tokens 5 to 7]
             nothing ! $ move ! (9 ∷ 5 ∷ 7 ∷ 3 ∷ 10 ∷ 12 ∷ 13 ∷ 14 ∷ 0 ∷ []) $ group ! 9 $ frame ! $
             nothing ! $ nothing ! $ nothing ! $ nothing ! $ nothing ! $ nothing ! $ move ! (0 ∷ 1 ∷ 2 ∷ 8 ∷ 9 ∷ 7 ∷ 10 ∷ 3 ∷ 4 ∷ 11 ∷ 5 ∷ []) $ group ! 11 $ done !
