@@ -73,6 +73,14 @@ def collect():
     return names
 
 
+LIBRARY = re.compile(r"(?m)^ *(?:ghost )?(?:pub )?use (?!Rattle\.(?!std\b))[^\s;{]+?\.?\{([^;}]*)\}")
+
+
+def borrowed(text):
+    """The names that a file takes from the libraries."""
+    return {it.split(" as ")[0] for m in LIBRARY.finditer(text) for it in m[1].split(", ")}
+
+
 def table():
     """The new spelling of each name. A lemma `two-words` beside a function `twoWords` or `two_words` gets the ending _lem."""
     names, rows = collect(), {}
@@ -161,7 +169,7 @@ def main():
             print(a, b, sep="\t")
         return
     for path in glob.glob("crates/*/specs/**/*.antt", recursive=True) + glob.glob("crates/*/proofs/**/*.antt", recursive=True):
-        change(path, lambda t: in_code(ended(path, t), rows, "/proofs/" in path))
+        change(path, lambda t: in_code(ended(path, t), {a: b for a, b in rows.items() if a not in borrowed(t)}, "/proofs/" in path))
     for path in glob.glob("crates/*/src/**/*.rt", recursive=True):
         change(path, lambda t: in_source(t, rows))
     for path in ["README.md"] + glob.glob("docs/**/*.md", recursive=True):

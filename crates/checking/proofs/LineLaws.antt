@@ -8,7 +8,7 @@ use native.Mathlib.Omega.{arith}
 use lib.Dec.{leb, ltb}
 use lib.ListN.{length, take, drop, length-take}
 use lib.Seq.{sets, drop_at}
-use borrow.Author.Tests.{not_true, not-false}
+use borrow.Author.Tests.{not-true, not-false}
 use Rattle.aut68.specs.Language.{aut68}
 use Rattle.aut68.specs.Sizes.{line_limit, row_width, at_name_length, largest_limit, work_units}
 use Rattle.aut68.specs.Stores.{Stores, Limits, limits_of}
@@ -201,7 +201,7 @@ module _ {book : Bytes} {N limit : ℕ} {s₀ : Stores} {k : Recorded} {at n use
           → LineResult book N limit s₀ k at next bytes n budget tb ts ix 12 n used' entries' budget tb ts ix w''
       unfolding code_of
       ends_full {t} flag e =
-          P.refused (stops (no_room aut68 (state_of k) limits bytes budget here.found (sym room_same ∙ sym e ∙ not_true t flag))) refl refl refl refl refl
+          P.refused (stops (no_room aut68 (state_of k) limits bytes budget here.found (sym room_same ∙ sym e ∙ not-true t flag))) refl refl refl refl refl
 
       module _ {t : Bool} (flag : not t ≡ false) (fits : t ≡ fitting) where
         has_room : room k.recorded limits here.passed.line ≡ true

@@ -6,7 +6,7 @@ use Prim.Native.Nat.{ℕ, ◌+◌, ◌-◌, ◌/◌, ◌≤◌, ◌<◌}
 use native.Mathlib.Omega.{arith}
 use lib.ListN.{length, take, drop}
 use lib.Seq.{length-slice}
-use borrow.Author.Tests.{not_true, not-false, lt-ltb, le-ltb}
+use borrow.Author.Tests.{not-true, not-false, lt-ltb, le-ltb}
 use Rattle.aut68.specs.Language.{Language, aut68}
 use Rattle.aut68.specs.Sizes.{book_limit, name_limit, open_limit}
 use Rattle.aut68.specs.Bytes.{Bytes}
@@ -96,7 +96,7 @@ module _ {ks book tb : List ℕ} {n : ℕ} {w : List ℕ} {start len at next k :
   line_taken : {w' : List ℕ} {o' : Open} → t ≡ true → MovedResult book tb n w' next st bytes 4 o'
   unfolding code_of
   line_taken e =
-      refused {r = duplicate} (λ m c. check_opening_lem aut68 st m bytes c (is_signed a) ∙ stop_then _ (opening_taken st bytes c a.read (not_true _ (unused_is e)))) refl
+      refused {r = duplicate} (λ m c. check_opening_lem aut68 st m bytes c (is_signed a) ∙ stop_then _ (opening_taken st bytes c a.read (not-true _ (unused_is e)))) refl
 
   module _ (e : t ≡ false) where
     line_deep : {w' : List ℕ} {o' : Open} → open_limit ≤ o.depth → MovedResult book tb n w' next st bytes 12 o'

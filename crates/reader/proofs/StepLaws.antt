@@ -6,7 +6,7 @@ use mathlib.Core.List.{List, [], ◌∷◌}
 use Prim.Native.Nat.{ℕ, zero, suc, ◌+◌, ◌-◌, ◌≤◌, ◌<◌}
 use native.Mathlib.Omega.{arith}
 use lib.ListN.{length, length-append}
-use borrow.Author.Tests.{not_true, not-false}
+use borrow.Author.Tests.{not-true, not-false}
 use Rattle.aut68.specs.Bytes.{Bytes}
 use Rattle.aut68.specs.Source.{Middle, variable, primitive, meaning}
 use Rattle.aut68.specs.Expr.{Expr}
@@ -88,7 +88,7 @@ module _ {ks book tb w : List ℕ} {lines : ℕ} {taken : Bool} {word : Bytes} {
   name_unused e = not-false (unused word st) (sym (h.is st t k g l) ∙ e)
 
   pub name_taken : taken ≡ true → unused word st ≡ false
-  name_taken e = not_true (unused word st) (sym (h.is st t k g l) ∙ e)
+  name_taken e = not-true (unused word st) (sym (h.is st t k g l) ∙ e)
 
 -- ---- kinds and contexts
 

@@ -9,7 +9,7 @@ use lib.ListN.{set}
 use lib.Seq.{sets}
 use Rattle.aut68.specs.Sizes.{line_limit, row_width}
 use Rattle.cells.specs.CopyLaws.{and_false}
-use borrow.Author.Tests.{not_true, not-false, ltb-true, lt-ltb, le-ltb, le-leb, lt-leb, leb-true}
+use borrow.Author.Tests.{not-true, not-false, ltb-true, lt-ltb, le-ltb, le-leb, lt-leb, leb-true}
 
 -- ---- room
 
@@ -24,7 +24,7 @@ module _ (table terms index lines used entries size names : ℕ) where
   no_row h = rw (lt-leb (row_width * suc lines) table (omega arith), and_false (ltb (suc lines) line_limit))
 
   pub no_cells : {t : Bool} → not t ≡ true → t ≡ leb (used + size) terms → false ≡ fits
-  no_cells {t} h e = rw (← e, not_true t h, and_false (ltb (suc lines) line_limit && leb (row_width * suc lines) table))
+  no_cells {t} h e = rw (← e, not-true t h, and_false (ltb (suc lines) line_limit && leb (row_width * suc lines) table))
 
   pub no_entry : index ≤ names → false ≡ fits
   no_entry h =
