@@ -81,6 +81,10 @@ def borrowed(text):
     return {it.split(" as ")[0] for m in LIBRARY.finditer(text) for it in m[1].split(", ")}
 
 
+def without(rows, kept):
+    return {a: b for a, b in rows.items() if a not in kept} if kept else rows
+
+
 def table():
     """The new spelling of each name. A lemma `two-words` beside a function `twoWords` or `two_words` gets the ending _lem."""
     names, rows = collect(), {}
@@ -169,7 +173,7 @@ def main():
             print(a, b, sep="\t")
         return
     for path in glob.glob("crates/*/specs/**/*.antt", recursive=True) + glob.glob("crates/*/proofs/**/*.antt", recursive=True):
-        change(path, lambda t: in_code(ended(path, t), {a: b for a, b in rows.items() if a not in borrowed(t)}, "/proofs/" in path))
+        change(path, lambda t: in_code(ended(path, t), without(rows, borrowed(t)), "/proofs/" in path))
     for path in glob.glob("crates/*/src/**/*.rt", recursive=True):
         change(path, lambda t: in_source(t, rows))
     for path in ["README.md"] + glob.glob("docs/**/*.md", recursive=True):
