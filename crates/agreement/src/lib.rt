@@ -1,2 +1,4 @@
 // Theorems about the two comparisons; nothing runs here.
+#![tactic(auto)]
+
 pub fn nothing() {}

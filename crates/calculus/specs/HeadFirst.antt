@@ -201,7 +201,7 @@ module _ (ls : Lines) where
     postpone {g = g} (ibound {i = i}) x7 = elim x7 [ ]
     postpone {g = g} (iabs {p = p} {t = t} _ _) x10 = elim x10 [ ]
 
-    heads_first : {e f g : Expr} → Par ls e f → HeadsTo f g → (d : Expr) × HeadsTo e d × Par ls d g
+    heads_first : {f e g : Expr} → Par ls e f → HeadsTo f g → (d : Expr) × HeadsTo e d × Par ls d g
     heads_first {e} p done = (e, done, p)
     heads_first p (more s k) =
         let h = par_factors p in

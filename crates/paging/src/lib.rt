@@ -1,2 +1,3 @@
 // Theorems about printed pages: spaces dropped, lines read back; nothing runs here.
+#![tactic(auto)]
 pub fn nothing() {}
