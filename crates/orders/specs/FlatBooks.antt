@@ -142,6 +142,7 @@ derived_split (p ∷ ps) b qs (line d r) = let (mid, l, e, k, f) = derived_split
 pub flat_ordinary : {language : Language} {ls all : Lines} {ps : List Bytes} → Flat language ls ps all → NoParagraphs language ps
 flat_ordinary {language} (line d r) b here = formed_ordinary language d.form
 flat_ordinary (line d r) b (there m) = flat_ordinary r b m
+flat_ordinary no_more b h = elim h [ ]
 
 pub flat_signs : {language : Language} {ls all : Lines} {ps : List Bytes} → Flat language ls ps all → Signs language ps []
 flat_signs no_more = Signs.no_more

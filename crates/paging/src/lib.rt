@@ -1,3 +1,4 @@
 // Theorems about printed pages: spaces dropped, lines read back; nothing runs here.
 #![tactic(auto)]
+
 pub fn nothing() {}
