@@ -1,4 +1,6 @@
 // The check of a book: its pieces one after the other; and the whole call. specs/Loop has the contracts.
+#![tactic(auto)]
+
 mod admission;
 mod lines;
 

@@ -1,4 +1,6 @@
 // The calls for C and Rust: include/aut68.h declares them. Such callers prove nothing, so they require nothing.
+#![tactic(auto)]
+
 ghost use Rattle.std.specs.Prelude.{true, false};
 ghost use Rattle.aut68.specs.Language.{aut68};
 ghost use Rattle.aut68.specs.Stores.{stores};

@@ -8,6 +8,8 @@
 // - Nine, the eighth 3: a list of pairs. The seventh is the places of the sheet, the ninth the pairs; the next line has the number of the
 //   cells that they share, these cells, and five numbers for each of eight pairs. It writes the same, and eight places, of the sheet and
 //   behind it.
+#![tactic(auto)]
+
 mod lists;
 mod sheet_cases;
 mod strings;

@@ -2,6 +2,8 @@
 // seven numbers, or nine, then the book. For each case it writes the outcome, what is recorded, and what became of every other cell;
 // where the header has nine numbers, then the same of a call that asks what a line rests on. All stores hold 7 in each cell before
 // each call.
+#![tactic(auto)]
+
 use constants::{Cell, LARGEST_LIMIT, ROW_WIDTH, WORK_UNITS};
 use libc::STDOUT_FILENO;
 use outcomes::recorded;

@@ -8,6 +8,8 @@
 //
 // The functions that call each other are category, arguments, application and abstraction, the remaining cells falling; what they
 // do with what was found is in the crates `levels` and `typing`.
+#![tactic(auto)]
+
 ghost use Rattle.std.specs.Prelude.{◌≡◌, ℕ, ◌≤◌, ◌<◌, length, get_or};
 ghost use Rattle.aut68.specs.Sizes.{nesting};
 ghost use Rattle.categories.specs.Posts.{CategoryPost, ArgumentsPost, ApplicationPost, AbstractionPost};

@@ -1,4 +1,6 @@
 // Cells and rows: the layout of the working store, what a row says, scopes.
+#![tactic(auto)]
+
 mod layout;
 mod rows;
 mod scope;

@@ -1,4 +1,6 @@
 // Numbers right-justified in columns: the rows of a listing.
+#![tactic(auto)]
+
 use cells::field;
 use constants::{CATEGORY_START, CONTEXT_LENGTH, KIND, MIDDLE_START};
 use outcomes::Numbers;

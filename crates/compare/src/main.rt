@@ -3,6 +3,8 @@
 // are written as in the last row of the listing. Of an expression that is refused when it is read: the code, no steps, and for the line the
 // number of the book's lines and 1 for the left expression, 2 for the right one. Other arguments: a usage line on standard error, and nothing
 // else.
+#![tactic(auto)]
+
 ghost use Rattle.io.specs.Counts.{IsPrefixLen};
 
 use books::check_linked;

@@ -2,6 +2,8 @@
 //
 // The sides at depth 1 to NESTING have two units each. A pair at one depth is made of parts of the pair above it, so opening it
 // copies upwards, and nothing at a lesser depth changes.
+#![tactic(auto)]
+
 mod parts_first;
 
 ghost use Rattle.comparison.specs.Posts.{Compares, ComparesParts};

@@ -1,4 +1,6 @@
 // The published numbers: sizes and the codes of refusals. Each stands here once for the code, and once in aut68 for the contracts.
+#![tactic(auto)]
+
 mod codes;
 mod sizes;
 

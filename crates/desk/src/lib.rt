@@ -1,4 +1,6 @@
 // Two strings of cells compared over a book. The book is checked first, as `check_book` does it, and a refusal is passed on.
+#![tactic(auto)]
+
 ghost use Rattle.std.specs.Prelude.{true, false};
 ghost use Rattle.aut68.specs.Stores.{stores};
 ghost use Rattle.aut68.specs.Desk.{ComparesStrings};

@@ -1,4 +1,6 @@
 // Entries of the index: which lines a line names, and how they are put there. specs/Posts has the contracts.
+#![tactic(auto)]
+
 mod collecting;
 mod entries;
 

@@ -2,6 +2,8 @@
 //
 // The form comes first in what is answered: the walk goes on behind a name that means nothing, and only remembers it; 3 and 10
 // of the form end it at once.
+#![tactic(auto)]
+
 mod parts;
 mod walk;
 

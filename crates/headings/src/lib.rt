@@ -1,4 +1,6 @@
 // Lines of a book: where each ends, its heading, and paragraph lines. specs/Posts has the contracts, specs/ReadLine what stands behind a heading.
+#![tactic(auto)]
+
 mod before_middle;
 mod ends;
 mod signs;

@@ -1,5 +1,7 @@
 // Two strings of cells judged over the lines of a book. Both are tested first; whole strings that are not too large are put below the sides
 // of a comparison, where a category's first two levels would be. specs/Posts has the contracts.
+#![tactic(auto)]
+
 ghost use Rattle.std.specs.Prelude.{◌≡◌};
 ghost use Rattle.judging.specs.Posts.{ComparesOne, Named, JudgedPost};
 ghost use Rattle.outcomes.specs.Answers.{code_of_answer, line_of_answer, steps_of_answer, length_of_answer};

@@ -1,4 +1,6 @@
 // The kind of each of the 256 byte values.
+#![tactic(auto)]
+
 mod ranges;
 
 ghost use Rattle.std.specs.Prelude.{◌≡◌};

@@ -2,6 +2,8 @@
 // and of `[x,P]T` from T's, and whether it is `type`; the function that it reaches; the variables of a line's context.
 //
 // The category of an expression at a level lies at the start of that level's unit.
+#![tactic(auto)]
+
 mod arguments;
 mod binders;
 mod contexts;

@@ -1,4 +1,6 @@
 // Lists the book that is on standard input.
+#![tactic(auto)]
+
 use libc::{STDIN_FILENO, STDOUT_FILENO};
 
 fn main() {

@@ -1,4 +1,6 @@
 // The listing of a book: a row for each recorded line, then the outcome. Program `list` writes that of standard input.
+#![tactic(auto)]
+
 use columns::{ROW, put_lines, put_outcome};
 use constants::{Cell, OUT_OF_SPACE, ROW_WIDTH, WORK_UNITS};
 use outcomes::{Numbers, recorded};

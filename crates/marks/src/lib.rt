@@ -1,4 +1,6 @@
 // Marks on lines: a bit for each line's number, in the cells of a store. specs/Marks says what they are.
+#![tactic(auto)]
+
 ghost use Rattle.std.specs.Prelude.{◌≡◌};
 ghost use Rattle.marks.specs.Marks.{marked, MarkPost};
 

@@ -1,4 +1,6 @@
 // What names mean: bindings, lines, variables of the context.
+#![tactic(auto)]
+
 mod contexts;
 mod meanings;
 

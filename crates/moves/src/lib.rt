@@ -1,4 +1,6 @@
 // Paragraph lines: what they make of the place. specs/Posts has the contracts.
+#![tactic(auto)]
+
 ghost use Rattle.std.specs.Prelude.{List, [], ℕ, ◌+◌, ◌≤◌, ◌<◌, length};
 ghost use Rattle.aut68.specs.Bytes.{Bytes};
 ghost use Rattle.aut68.specs.Sizes.{cell_values, book_limit, open_limit};

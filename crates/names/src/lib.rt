@@ -1,4 +1,6 @@
 // Lines by their identifiers and paragraphs, and the identifiers of recorded lines.
+#![tactic(auto)]
+
 mod hints;
 mod names;
 

@@ -1,4 +1,6 @@
 // What the working store notes of paragraphs: specs/Note has the layout, specs/Posts the contracts.
+#![tactic(auto)]
+
 ghost use Rattle.std.specs.Prelude.{◌≡◌, ◌+◌, ◌/◌, ◌≤◌, ◌<◌, length, get_or};
 ghost use Rattle.aut68.specs.Sizes.{cell_values};
 ghost use Rattle.notes.specs.Note.{numbers, froms, arounds, capacity, entry_at, chain_of, entry_is, noted};

@@ -1,4 +1,6 @@
 // The note of paragraphs, written: notes' specs/Note has its layout, specs/Posts the contracts.
+#![tactic(auto)]
+
 ghost use Rattle.std.specs.Prelude.{List, ℕ, ◌+◌, ◌≤◌, ◌<◌, length};
 ghost use Rattle.aut68.specs.Sizes.{cell_values, book_limit, open_limit};
 ghost use Rattle.noting.specs.Posts.{Put, EntryPost, OpeningPost, ClosingPost};

@@ -1,5 +1,7 @@
 // Outcomes of the check of a book, and document 01's numbers for them; specs/Outcomes gives the numbers of each case. Other calls on
 // a book: answers.rt.
+#![tactic(auto)]
+
 mod answers;
 
 ghost use Rattle.std.specs.Prelude.{◌≡◌, ◌≢◌, ◌-◌};

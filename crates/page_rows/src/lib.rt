@@ -1,4 +1,6 @@
 // Printed pages: how many rows a book has, and their bytes. aut68's Pages has the layout, specs/Posts the contracts.
+#![tactic(auto)]
+
 ghost use Rattle.std.specs.Prelude.{◌≡◌, ◌*◌, ◌≤◌, ◌<◌, length, replicate};
 ghost use Rattle.aut68.specs.Sizes.{number_columns, page_row};
 ghost use Rattle.aut68.specs.Procedure.Run.{over};

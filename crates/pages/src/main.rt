@@ -1,5 +1,7 @@
 // Prints the book that is on standard input, on pages. Of a book that is refused it prints nothing; its code, line and steps are then on
 // standard error, as the listing has them.
+#![tactic(auto)]
+
 use columns::{ROW, put_outcome};
 use constants::{Cell, OUT_OF_SPACE, PAGE_ROW, ROW_WIDTH, TEXT_COLUMNS, WORK_UNITS};
 use libc::{STDERR_FILENO, STDIN_FILENO, STDOUT_FILENO};

@@ -1,5 +1,7 @@
 // A list of pairs of strings judged over the lines of a book, by the first comparison, each on a budget of its own. specs/Sheet says what
 // the sheet then holds, specs/Posts has the contracts.
+#![tactic(auto)]
+
 ghost use Rattle.std.specs.Prelude.{◌*◌, ◌≤◌, ◌<◌, length};
 ghost use Rattle.aut68.specs.Sizes.{work_units};
 ghost use Rattle.pairs.specs.Posts.{NotWhole, PairPost, PairsPost};

@@ -1,4 +1,6 @@
 // Lines and paragraphs by their names, from the innermost open paragraph outward. specs/Posts has the contracts.
+#![tactic(auto)]
+
 ghost use Rattle.aut68.specs.Procedure.Lookup.{paragraph_in, closed_in};
 ghost use Rattle.paragraphs.specs.Posts.{FoundIn, ClosedFound, PlainFound, UsedFound, TakenTold, CurrentTold};
 

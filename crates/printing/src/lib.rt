@@ -1,4 +1,6 @@
 // A book printed on pages.
+#![tactic(auto)]
+
 ghost use Rattle.aut68.specs.Language.{aut68};
 ghost use Rattle.aut68.specs.Stores.{stores};
 ghost use Rattle.aut68.specs.Printing.{PrintsPages};

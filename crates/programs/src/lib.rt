@@ -1,4 +1,6 @@
 // What the programs share: how large a book they take, the stores they lend, how they read a book and write an answer.
+#![tactic(auto)]
+
 ghost use Rattle.io.specs.Counts.{IsPrefixLen};
 
 // The most bytes and lines of a book, the cells of its term store and of its index, the budget, the limit.

@@ -1,4 +1,6 @@
 // Reading a line: its form, its names, its cells. specs/Posts has the contracts.
+#![tactic(auto)]
+
 mod body;
 mod lines;
 

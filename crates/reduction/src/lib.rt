@@ -2,6 +2,8 @@
 //
 // In prefix order the head redex of <A1>..<An>H is the last thing in the cells: what is before it stays, and only the tail
 // is made anew, in the result unit, and moved back. An abbreviation that takes no arguments becomes its middle where it stands.
+#![tactic(auto)]
+
 mod functions;
 mod steps;
 

@@ -1,4 +1,6 @@
 // What a line rests on.
+#![tactic(auto)]
+
 ghost use Rattle.aut68.specs.Language.{aut68};
 ghost use Rattle.aut68.specs.Stores.{stores};
 ghost use Rattle.aut68.specs.Resting.{TellsRests};

@@ -1,5 +1,7 @@
 // A list of pairs of strings compared over a book. The book is checked first, once, as `check_book` does it, and a refusal is passed on;
 // crate `pairs` says what the sheet then holds.
+#![tactic(auto)]
+
 ghost use Rattle.aut68.specs.Stores.{stores};
 ghost use Rattle.pairs.specs.Sheet.{ComparesSheet, counted};
 ghost use Rattle.sheets.specs.Posts.{Opens, Closes};

@@ -3,6 +3,8 @@
 // One pass, with the number of expressions still to come. How many bindings stand around each of them is noted in the working store, the
 // next one last, as far as that goes. A string may be of any length: for a bound variable that has no note there, the bindings are found by
 // walking back from its cell.
+#![tactic(auto)]
+
 ghost use Rattle.std.specs.Prelude.{◌≡◌, ℕ, suc, ◌/◌, ◌≤◌, ◌<◌, ltb, length};
 ghost use Rattle.aut68.specs.Sizes.{cell_factor, cell_values};
 ghost use Rattle.strings.specs.Notes.{numbers, Noted, NotesParts, Filled};

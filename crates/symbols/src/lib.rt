@@ -1,4 +1,6 @@
 // Symbols and words: what stands at a place of a line. specs/Symbols has the contracts.
+#![tactic(auto)]
+
 ghost use Rattle.std.specs.Prelude.{◌≡◌, ◌+◌, ◌≤◌, ◌<◌, length, get_or};
 ghost use Rattle.aut68.specs.Language.{aut68};
 ghost use Rattle.aut68.specs.Bytes.{same_bytes, reserved};

@@ -5,6 +5,8 @@
 // leaf calls it to be lifted. A result is written in order, as far as its room goes.
 //
 // Where arguments start is read here too, for the crates that put arguments in.
+#![tactic(auto)]
+
 mod leaves;
 mod made;
 mod starts;

@@ -2,6 +2,8 @@
 //
 // The category of an argument is found one level deeper than its constant's, and the wanted one is made two levels deeper, if it is
 // not seen at once that it is the found one.
+#![tactic(auto)]
+
 mod application;
 mod arguments;
 mod comparisons;

@@ -5,6 +5,8 @@
 // (`ComparesStrings`). `compare_sheet` (crate `sheets`) compares a list of pairs of strings; specs/Sheet of `pairs` has what it promises
 // (`ComparesSheet`). `widen` and `narrow` (crate `widths`) put a shelf into cells of another width; aut68's Widths has what they promise
 // (`Converts`). `identifier` fetches a recorded line's identifier as the part of the book.
+#![tactic(auto)]
+
 mod book;
 
 pub use book::check_book;

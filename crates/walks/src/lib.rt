@@ -1,5 +1,7 @@
 // Paragraphs found by a walk over a book: the slow way, for those that were not noted. specs/Walk says what a walk finds, specs/Posts
 // what the functions leave.
+#![tactic(auto)]
+
 ghost use Rattle.std.specs.Prelude.{◌≡◌, ◌+◌, ◌^◌, ◌<◌};
 ghost use Rattle.aut68.specs.Bytes.{same_bytes};
 ghost use Rattle.kinds.specs.Kinds.{KindsTable};

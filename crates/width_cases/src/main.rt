@@ -1,6 +1,8 @@
 // The test program of conversions. Each argument names a file with one case: `widen` or `narrow` and the cells of the target, then, on a
 // line of its own, the source; an empty source has no line. For each case it writes what the call ends with, the cells that were written,
 // and how many cells changed behind them. The target's cells hold 7 before each call, as do those behind it.
+#![tactic(auto)]
+
 use constants::{Cell, NARROW_VALUES, NarrowCell};
 use outcomes::answer_numbers;
 use reports::{arguments, header, report};

@@ -1,4 +1,6 @@
 // Shelves put into cells of another width; aut68's Widths has what the calls promise (`Converts`).
+#![tactic(auto)]
+
 ghost use Rattle.std.specs.Prelude.{◌≡◌, true, ◌≤◌, length};
 ghost use Rattle.aut68.specs.Procedure.Run.{over};
 ghost use Rattle.aut68.specs.Sizes.{cell_values, narrow_values};

@@ -53,11 +53,11 @@ arm : {k n : ℕ} → n ≡ k → (x : Refusal) → n ≡ code_of x → get_or r
 arm h x e = ap (λ (i : ℕ). get_or refusals i unbalanced) (sym h ∙ e) ∙ undone x
 
 -- the last arm: no other refusal has a number that is left
-last : tie.Need-returns-14
+last : tie.Need-returns-in_default
 unfolding code_of
 last c =
-    let (((((((((((((_, t₁), t₂), t₃), t₄), t₅), t₆), t₇), t₈), t₉), t₁₀), t₁₁), t₁₂), t₁₃) = c.match.rest in
-    λ x. elim x [
+    let (((((((((((((_, t₁), t₂), t₃), t₄), t₅), t₆), t₇), t₈), t₉), t₁₀), t₁₁), t₁₂), t₁₃) = c.in_default.in_default-own.rest in
+    λ x. elim x as (λ k. c.args.code ≡ code_of k → unbalanced ≡ k) [
       | workTooSmall ↦ λ e. absurd (t₁ e)
       | limitOutOfRange ↦ λ e. absurd (t₂ e)
       | malformed ↦ λ e. absurd (t₃ e)
@@ -78,17 +78,17 @@ pub reason_of_spec : {M : Type 1} → statement M
 reason_of_spec =
     tie.close
     (tie.spec
-    (λ c. arm c.match.keys1)
-    (λ c. arm c.match.keys2)
-    (λ c. arm c.match.keys3)
-    (λ c. arm c.match.keys4)
-    (λ c. arm c.match.keys5)
-    (λ c. arm c.match.keys6)
-    (λ c. arm c.match.keys7)
-    (λ c. arm c.match.keys8)
-    (λ c. arm c.match.keys9)
-    (λ c. arm c.match.keys10)
-    (λ c. arm c.match.keys11)
-    (λ c. arm c.match.keys12)
-    (λ c. arm c.match.keys13)
+    (λ c. arm c.in-1.is)
+    (λ c. arm c.in-2.is)
+    (λ c. arm c.in-3.is)
+    (λ c. arm c.in-4.is)
+    (λ c. arm c.in-5.is)
+    (λ c. arm c.in-6.is)
+    (λ c. arm c.in-7.is)
+    (λ c. arm c.in-8.is)
+    (λ c. arm c.in-9.is)
+    (λ c. arm c.in-10.is)
+    (λ c. arm c.in-11.is)
+    (λ c. arm c.in-12.is)
+    (λ c. arm c.in-14.is)
     last)

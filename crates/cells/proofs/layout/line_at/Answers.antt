@@ -1,0 +1,5 @@
+use borrow.Author.Rules.{rules}
+use Rattle.cells.proofs.layout.line_at.Goals as goal
+
+pub returns : goal.returns
+returns c = c.unit_at.ensures

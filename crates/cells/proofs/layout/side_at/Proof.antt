@@ -1,9 +1,0 @@
-use borrow.Author.Rules.{rules}
-use Rattle.cells.proofs.layout.side_at.Statement.{statement}
-use Rattle.cells.proofs.layout.side_at.Tie as tie
-
-returns-2 : tie.Need-returns-2
-returns-2 c = λ h k. c.unit-at.ensures h
-
-pub side_at_spec : {M : Type 1} → statement M
-side_at_spec = tie.close (tie.spec (λ c. search rules) (λ c. search rules) (λ c. search rules) (λ c κs. search rules) returns-2)
