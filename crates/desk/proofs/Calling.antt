@@ -14,8 +14,8 @@ use Rattle.aut68.specs.Procedure.Run.{run}
 use Rattle.aut68.specs.Demands.{Determined}
 use Rattle.aut68.specs.Desk.{ComparesStrings}
 use Rattle.cells.specs.Posts.{cleared}
-use Rattle.theorems.specs.Admission.{last_line, front_long, work_cleared, lines_held}
-use Rattle.theorems.specs.Desk.{strings_judged}
+use Rattle.theorems.proofs.Admission.{last_line, front_long, work_cleared, lines_held}
+use Rattle.theorems.proofs.Desk.{strings_judged}
 use Rattle.judging.specs.Posts.{JudgedPost}
 
 module _ (book : Bytes) (N L : ℕ) (s : Stores) {code line steps : ℕ} {tb ts w ix : List ℕ}

@@ -1,8 +1,6 @@
 -- Larger limits, new orders, arrangements and deletions: what document 01's demand 3 and papers 2 and 7 claim, proved in both languages.
 pub mod Growing
-pub mod Limits
 -- The line limit as a parameter.
-pub mod LineLimits
 -- The renumbering lemma: steps, categories, names and derivations over lines with new numbers.
 pub mod Renumbering
 pub mod RenumberedSteps
@@ -13,21 +11,12 @@ pub mod Appending
 -- Arrangements, and lines deleted.
 pub mod DerivedMentions
 pub mod Titles
-pub mod Placing
 pub mod Moving
-pub mod Arranging
-pub mod Arrangements
-pub mod Deleting
 -- Books without paragraph lines; two of them joined.
 pub mod FlatBooks
 pub mod FlatRuns
 pub mod Joining
 -- New orders.
-pub mod Standing
 pub mod Deciding
-pub mod Walking
-pub mod Rearranging
-pub mod Ahead
-pub mod NewOrders
+
 -- The same on completed lines.
-pub mod CompletedOrders

@@ -14,7 +14,7 @@ use Rattle.aut68.specs.Demands.{Verdict}
 use Rattle.lookup.specs.DerivedBooks.{right_contexts, distinct_names}
 use Rattle.lookup.specs.Runs.{verdict_admitted}
 use Rattle.inclusion.specs.Books.{built_right}
-use Rattle.inclusion.specs.Derivations.{derived_built}
+use Rattle.inclusion.proofs.Derivations.{derived_built}
 use Rattle.cells.specs.Forests.{size_is_length}
 use Rattle.cells.specs.Links.{unlinked, rows_linked, stored_linked}
 use Rattle.names.specs.Known.{Known}

@@ -28,7 +28,7 @@ use Rattle.lookup.specs.Mentions.{IndicatorMentions, named_mentions}
 use Rattle.lookup.specs.Following.{named_before}
 use Rattle.lookup.specs.DerivedBooks.{derived_snoc}
 use Rattle.cells.specs.Slices.{run_is_slice, slice_slice}
-use Rattle.verdicts.specs.LineVerdicts.{passed_derivation}
+use Rattle.verdicts.proofs.LineVerdicts.{passed_derivation}
 use Rattle.records.specs.Tables.{Spelled, none_spelled, spelled_long, spelled_snoc, Holds, table_long_lem, table_snoc, terms_snoc, over_more}
 use Rattle.records.specs.ReadLines.{LineRead}
 

@@ -10,7 +10,7 @@ use Rattle.aut68.specs.Procedure.Run.{Recorded}
 use Rattle.aut68.specs.Rules.Names.{IsLine, first, later}
 use Rattle.aut68.specs.Demands.{ShelfWidth}
 use Rattle.inclusion.specs.Books.{built_right}
-use Rattle.inclusion.specs.Derivations.{derived_built}
+use Rattle.inclusion.proofs.Derivations.{derived_built}
 use Rattle.cells.specs.Cells.{Below}
 use Rattle.cells.specs.Widths.{below_append, below_fits}
 use Rattle.heads.specs.Depths.{line_below}

@@ -18,8 +18,8 @@ use Rattle.lookup.specs.Following.{named_before}
 use Rattle.lookup.specs.Runs.{verdict_admitted}
 use Rattle.records.specs.OnRecord.{on_record}
 use Rattle.reaching.specs.Posts.{Answered, BeneathPost}
-use Rattle.theorems.specs.Admission.{verdict, last_line, front_zeros, front_long, lines_held}
-use Rattle.theorems.specs.Resting.{tells_rests}
+use Rattle.theorems.proofs.Admission.{verdict, last_line, front_zeros, front_long, lines_held}
+use Rattle.theorems.proofs.Resting.{tells_rests}
 
 module _ (book : Bytes) (N L : ℕ) (s : Stores) {code line steps : ℕ} {tb ts w ix : List ℕ}
     (d : Determined (run aut68 book (limits_of N L s)) L s code line steps (stores tb ts w ix)) (accept : code ≡ 0) where

@@ -14,8 +14,8 @@ use Rattle.aut68.specs.Procedure.Calls.{decline_code, storeTooSmall}
 use Rattle.aut68.specs.Procedure.Run.{Ending, run, recorded_at}
 use Rattle.aut68.specs.Demands.{Determined}
 use Rattle.outcomes.specs.declared.answers.AnswerNumbers.{AnswerNumbers}
-use Rattle.theorems.specs.Admission.{accepted_code, last_line, work_fits, work_cleared, lines_held, admits_refused, admits_answered}
-use Rattle.theorems.specs.Desk.{strings_judged, judged_once}
+use Rattle.theorems.proofs.Admission.{accepted_code, last_line, work_fits, work_cleared, lines_held, admits_refused, admits_answered}
+use Rattle.theorems.proofs.Desk.{strings_judged, judged_once}
 use Rattle.pairs.specs.declared.Pair.{Pair}
 use Rattle.sheets.specs.declared.Opened.{Opened}
 use Rattle.pairs.specs.Sheet.{MarkedAt, MarkedUpTo, counted, too_short, marked, ComparesSheet}

@@ -10,7 +10,8 @@ use Rattle.aut68.specs.Substitution.{lift, substitute_bound, substitute, instant
 use Rattle.aut68.specs.Lines.{line_of}
 use Rattle.aut68.specs.Paragraphs.{Place, State, start}
 use Rattle.aut68.specs.Procedure.Run.{recorded_at, run}
-use Rattle.aut68.specs.Outcomes.{numbers, number_lines, numbers_recorded}
+use Rattle.aut68.specs.Outcomes.{numbers, number_lines}
+use Rattle.aut68.proofs.Outcomes.{numbers_recorded}
 use Rattle.aut68.specs.Rules.Names.{first, later}
 use Rattle.aut68.specs.Rules.Steps.{Reduces, done, step, beta, delta}
 use Rattle.aut68.specs.Rules.Serving.{same, the_type}

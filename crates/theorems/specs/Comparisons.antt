@@ -2,7 +2,7 @@
 use Rattle.aut68.specs.Comparing.{ComparisonsAgree}
 use Rattle.agreement.specs.Claims.{both_comparisons}
 use Rattle.inclusion.specs.Books.{built_right}
-use Rattle.inclusion.specs.Derivations.{derived_built}
+use Rattle.inclusion.proofs.Derivations.{derived_built}
 
 -- What either calls equal has a common expression, what it calls different has none, so they agree where both end; a larger budget or
 -- limit keeps the answer and the steps.

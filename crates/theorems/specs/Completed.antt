@@ -12,9 +12,9 @@ use Rattle.aut68.specs.Procedure.Answer.{code_of, unknownName}
 use Rattle.aut68.specs.Procedure.Run.{run, state_of, code_at, line_at, recorded_at}
 use Rattle.aut68.specs.Demands.{Accepted, Verdict, RightInOrder, NoParagraphs, NewOrders}
 use Rattle.lookup.specs.Former.{FormerDerived, no_more, former_book}
-use Rattle.verdicts.specs.BookVerdicts.{correct_accepted}
+use Rattle.verdicts.proofs.BookVerdicts.{correct_accepted}
 use Rattle.orders.specs.FlatBooks.{book_flat}
-use Rattle.orders.specs.CompletedOrders.{CompletedOrder, CompletedFirst, same_order, same_first}
+use Rattle.orders.proofs.CompletedOrders.{CompletedOrder, CompletedFirst, same_order, same_first}
 use Rattle.theorems.specs.Demands.{right_in_every_order}
 
 module _ (language : Language) where

@@ -1,8 +1,8 @@
 -- Reduction stays inside AUT-68 (paper 11), as closed theorems over the lines of a correct book.
 use Rattle.aut68.specs.Demands.{StepsStayInside, CategoriesStayInside, QuotedMiddles, QuotedCategories}
-use Rattle.inclusion.specs.Derivations.{derived_built, derived_plain}
-use Rattle.inclusion.specs.StaysInside.{steps_stay, categories_stay}
-use Rattle.inclusion.specs.QuotedLines.{quoted_middle, quoted_category}
+use Rattle.inclusion.proofs.Derivations.{derived_built, derived_plain}
+use Rattle.inclusion.proofs.StaysInside.{steps_stay, categories_stay}
+use Rattle.inclusion.proofs.QuotedLines.{quoted_middle, quoted_category}
 
 -- What is reached by steps from a correct expression is correct, and its category equals the earlier one.
 pub steps_stay_inside : StepsStayInside

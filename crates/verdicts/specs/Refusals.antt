@@ -23,7 +23,7 @@ use Rattle.reading.specs.Stages.{check_stopped, Halted, unread, Unread, is_malfo
 use Rattle.inclusion.specs.Liberal.{NestedContext, nested_context}
 use Rattle.inclusion.specs.Lines.{written_finds, middle_finds}
 use Rattle.inclusion.specs.Books.{Right, built_right}
-use Rattle.inclusion.specs.Derivations.{derived_built, line_middle, line_category, category_ends_lem}
+use Rattle.inclusion.proofs.Derivations.{derived_built, line_middle, line_category, category_ends_lem}
 
 finding_code : {X : Type 0} {r : Refusal} → Finding X r → (7 ≤ code_of r) × (code_of r ≤ 11)
 unfolding code_of

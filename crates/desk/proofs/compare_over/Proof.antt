@@ -3,8 +3,8 @@ use mathlib.Core.Path.{sym}
 use lib.Seq.{length-take-le}
 use borrow.Author.Rules.{rules}
 use Rattle.aut68.specs.Language.{aut68}
-use Rattle.theorems.specs.Admission.{refusal_code, work_fits}
-use Rattle.theorems.specs.Desk.{strings_refused}
+use Rattle.theorems.proofs.Admission.{refusal_code, work_fits}
+use Rattle.theorems.proofs.Desk.{strings_refused}
 use Rattle.desk.proofs.Calling.{compared_over}
 use Rattle.desk.proofs.compare_over.Statement.{statement}
 use Rattle.desk.proofs.compare_over.Tie as tie

@@ -3,8 +3,8 @@ use native.Mathlib.Omega.{arith}
 use borrow.Author.Rules.{rules}
 use Rattle.aut68.specs.Language.{aut68}
 use Rattle.aut68.specs.Procedure.Calls.{decline_code}
-use Rattle.theorems.specs.Admission.{refusal_code, accepted_short}
-use Rattle.theorems.specs.Printing.{prints_refusal, prints_too_small, prints_pages}
+use Rattle.theorems.proofs.Admission.{refusal_code, accepted_short}
+use Rattle.theorems.proofs.Printing.{prints_refusal, prints_too_small, prints_pages}
 use Rattle.printing.proofs.print_pages.Statement.{statement}
 use Rattle.printing.proofs.print_pages.Tie as tie
 

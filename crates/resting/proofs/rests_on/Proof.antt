@@ -6,8 +6,8 @@ use lib.Seq.{length-take-le}
 use Rattle.aut68.specs.Language.{aut68}
 use Rattle.aut68.specs.Procedure.Answer.{code_of}
 use Rattle.aut68.specs.Procedure.Calls.{decline_code}
-use Rattle.theorems.specs.Admission.{refusal_code, work_fits}
-use Rattle.theorems.specs.Resting.{tells_refusal}
+use Rattle.theorems.proofs.Admission.{refusal_code, work_fits}
+use Rattle.theorems.proofs.Resting.{tells_refusal}
 use Rattle.resting.proofs.RestsLaws.{tells_no_line, tells_too_long, tells_list}
 use borrow.Author.Rules.{rules}
 use Rattle.resting.proofs.rests_on.Statement.{statement}

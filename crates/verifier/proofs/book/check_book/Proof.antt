@@ -6,8 +6,8 @@ use Rattle.aut68.specs.Language.{aut68}
 use Rattle.aut68.specs.Stores.{Stores}
 use Rattle.aut68.specs.Procedure.Run.{Ending}
 use Rattle.aut68.specs.Demands.{Determined}
-use Rattle.theorems.specs.Checks.{checks}
-use Rattle.theorems.specs.Admission.{ending_code}
+use Rattle.theorems.proofs.Checks.{checks}
+use Rattle.theorems.proofs.Admission.{ending_code}
 use Rattle.outcomes.specs.declared.Outcome.{Outcome}
 use Rattle.outcomes.specs.Outcomes.{code_of_outcome, line_of_outcome, steps_of_outcome, IsCode, HasNumbers}
 use Rattle.verifier.proofs.book.check_book.Statement.{statement}

@@ -9,8 +9,8 @@ use Rattle.aut68.specs.Procedure.Run.{Ending, run, state_of, recorded_at}
 use Rattle.aut68.specs.Demands.{Determined}
 use Rattle.aut68.specs.Resting.{Entries, Deletion, Told, TellsRests}
 use Rattle.lookup.specs.Ascending.{ascending_ascends, ascending_member}
-use Rattle.orders.specs.Deleting.{deletion}
-use Rattle.theorems.specs.Admission.{accepted_lines, admits_refused, admits_answered}
+use Rattle.orders.proofs.Deleting.{deletion}
+use Rattle.theorems.proofs.Admission.{accepted_lines, admits_refused, admits_answered}
 
 -- Paper 2: an entry has the lines that the completed line names, ascending, each once.
 pub index_entries : Entries

@@ -24,8 +24,9 @@ use Rattle.lookup.specs.Mentions.{LineMentions, mentions_named, named_mentions}
 use Rattle.orders.specs.RenumberedSteps.{Renumbered}
 use Rattle.orders.specs.RenumberedNames.{KeptName, derivation_renumbered}
 use Rattle.orders.specs.DerivedMentions.{line_named}
+use Rattle.orders.proofs.FreshLines.{line_fresh}
 use Rattle.orders.specs.Titles.{denotes_renumbered}
-use Rattle.orders.specs.Placing.{place_at, place_from_lem, place_left, place_injective}
+use Rattle.orders.proofs.Placing.{place_at, place_from_lem, place_left, place_injective}
 use Rattle.orders.specs.Moving.{OpensNew, Moving, next, moving_paragraphs, moves_unique, derived_moving}
 
 -- what mentions only lines of S mentions only lines of any larger T
@@ -85,14 +86,6 @@ module _ (language : Language) where
           at : (j : Line) × IsLine (map old_line order) v j × (k ≡ renumber_line ρ j) → (x : ℕ) × Member x order × (k ≡ renumber_line ρ (old_line x))
           at (j, h, e) = let (x, m, f) = place_from_lem old_line order h in (x, m, e ∙ ap (renumber_line ρ) f)
 
-      -- no line that has passed has the name of an old line that has not, in its paragraph
-      line_fresh : {v : ℕ} {l : Line} → IsLine all.earlier v l → ¬ Member v order → {u : ℕ} {w : Bytes} {q : ℕ} → w ≡ l.identifier → q ≡ l.paragraph → ¬ LineIn st.earlier w q u
-      line_fresh {v} i n e f h =
-          let (x, m, g) = origin h.is_line in
-          let a = ap (λ z. z.identifier) (sym g) ∙ h.identifier_is ∙ e in
-          let b = ap (λ z. z.paragraph) (sym g) ∙ h.paragraph_is ∙ f in
-          n (subst (λ z. Member z order) (distinct.names x v (old_line x) _ (B.known x m) i a b) m)
-
       module _ {b : Bytes} {v : ℕ} {l : Line} (s : Stands language old all b v l)
           (names : (u : Used) (x : ℕ) → Names s.derivation.source u → Denotes s.before u x → Member x order × Denotes (seen all order st.place) u (place_in x order)) where
         line_is_lem : {x : ℕ} {k : Line} → IsLine s.before.earlier x k → old_line x ≡ k
@@ -123,7 +116,7 @@ module _ (language : Language) where
             (within_all : (x : Paragraph) → Member x st.place.paragraphs → Member x all.place.paragraphs) where
           unused_here : Unused st l.identifier
           unused_here = record {
-            no_line = λ {v = u} h. line_fresh (stands_is_line s) fresh refl (sym stays) h;
+            no_line = λ {v = u} h. line_fresh ρ order distinct origin B.known (stands_is_line s) fresh refl (sym stays) h;
             no_paragraph = λ {n} h. distinct.kinds v l _ (stands_is_line s) (within_all _ h.is_paragraph) refl stays;
           }
 

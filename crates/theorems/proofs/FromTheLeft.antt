@@ -20,9 +20,9 @@ use Rattle.aut68.specs.Demands.{WrongCode, Wrong, Accepted, Admitted, GetsTo, By
 use Rattle.lookup.specs.Answers.{code_nonzero, accepted_undecided}
 use Rattle.lookup.specs.Runs.{Passes, passes_at, LinesEnd, all_pass, left_open, one_stops, Early, unfit, too_long, early_undecided, early_refused, run_admitted, run_starts, lines_end}
 use Rattle.reading.specs.Readings.{book_unique}
-use Rattle.verdicts.specs.BookVerdicts.{passes_derived, passed_before, passed_within, passed_derived}
-use Rattle.theorems.specs.LineBytes.{refused_by_bytes, passed_by_bytes}
-use Rattle.theorems.specs.LineNames.{refused_by_names, passed_by_names}
+use Rattle.verdicts.proofs.BookVerdicts.{passes_derived, passed_before, passed_within, passed_derived}
+use Rattle.theorems.proofs.LineBytes.{refused_by_bytes, passed_by_bytes}
+use Rattle.theorems.proofs.LineNames.{refused_by_names, passed_by_names}
 
 module _ (language : Language) (book : Bytes) (m : Limits) where
   -- what is said of piece j + 1, with these bytes, behind these pieces

@@ -19,7 +19,7 @@ use Rattle.inclusion.specs.Unique.{equal_types}
 use Rattle.inclusion.specs.HeadKept.{RightMiddle}
 use Rattle.inclusion.specs.Validity.{Valid}
 use Rattle.inclusion.specs.Books.{Built, Right, built_right}
-use Rattle.inclusion.specs.StaysInside.{strict_68, Plain, PlainLines, sorted_type, known_as, steps_stay}
+use Rattle.inclusion.proofs.StaysInside.{strict_68, Plain, PlainLines, sorted_type, known_as, steps_stay}
 
 module _ {ls : Lines} (B : Built aut68 ls) {v : ℕ} {l : Line} (i : IsLine ls v l) where
   R : Right aut68 ls

@@ -16,7 +16,7 @@ use Rattle.lookup.specs.Runs.{next_state}
 use Rattle.reading.specs.Signs.{sign_unique}
 use Rattle.reading.specs.PieceStages.{PassedBy, opening_passed, closing_passed, line_passed, StoppedBy, opening_stopped, closing_stopped, line_stopped, piece_passed, piece_stopped, opening_piece, closing_piece}
 use Rattle.reading.specs.PieceStages.{Unopened, is_malformed, is_taken, too_many, unopened, Unclosed, not_innermost, unclosed, Closes, plus_opens, minus_closes, neither_line}
-use Rattle.verdicts.specs.LineVerdicts.{passed_derivation, decided_wrong}
+use Rattle.verdicts.proofs.LineVerdicts.{passed_derivation, decided_wrong}
 
 module _ (language : Language) (st : State) {past : List Bytes} (E : Derived language start past st) (limits : Limits) (bytes : Bytes) (b : ℕ) where
   pub passed_piece : {p : PassedPiece} {b' : ℕ} → check_piece language st limits bytes b ≡ done p b' → Piece language st bytes (next_state st p)

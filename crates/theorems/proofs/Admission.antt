@@ -21,13 +21,13 @@ use Rattle.aut68.specs.Admission.{AdmitsFirst}
 use Rattle.lookup.specs.Answers.{code_nonzero}
 use Rattle.lookup.specs.Runs.{verdict_admitted}
 use Rattle.reading.specs.Readings.{book_unique}
-use Rattle.orders.specs.Limits.{same_ending_lem}
+use Rattle.orders.proofs.Limits.{same_ending_lem}
 use Rattle.cells.specs.Posts.{cleared}
 use Rattle.heads.specs.Book.{Book}
 use Rattle.records.specs.OnRecord.{on_record}
 use Rattle.theorems.specs.Demands.{accepted_is_correct}
-use Rattle.theorems.specs.FromTheLeft.{run_went}
-use Rattle.theorems.specs.Checks.{accepted_line_lem, checks}
+use Rattle.theorems.proofs.FromTheLeft.{run_went}
+use Rattle.theorems.proofs.Checks.{accepted_line_lem, checks}
 
 -- The code of an ending is 0 or a refusal's.
 pub ending_code : (e : Ending) → (code_at e ≡ 0) ⊎ ((r : Refusal) × (code_at e ≡ code_of r))

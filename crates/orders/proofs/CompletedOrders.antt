@@ -17,10 +17,10 @@ use Rattle.lookup.specs.Identifiers.{denotes_named}
 use Rattle.lookup.specs.Mentions.{Mentions, KindMentions, IndicatorMentions}
 use Rattle.lookup.specs.Naming.{line_named}
 use Rattle.orders.specs.FlatBooks.{flat, Flat, distinct_names}
-use Rattle.orders.specs.Arranging.{stands_is_line, stands_before}
-use Rattle.orders.specs.Standing.{stands_source, member_stands, same_number}
-use Rattle.orders.specs.Rearranging.{AllBehind, Passed, line_passed_lem}
-use Rattle.orders.specs.Walking.{Behind, follows_or_precedes, not_both, follows_behind}
+use Rattle.orders.proofs.Arranging.{stands_is_line, stands_before}
+use Rattle.orders.proofs.Standing.{stands_source, member_stands, same_number}
+use Rattle.orders.proofs.Rearranging.{AllBehind, Passed, line_passed_lem}
+use Rattle.orders.proofs.Walking.{Behind, follows_or_precedes, not_both, follows_behind}
 
 module _ (language : Language) where
   all_behind_next : {old : List Bytes} (before : List Bytes) (a : Bytes) → AllBehind language old before → Behind language old before a → AllBehind language old (before ++ (a ∷ []))

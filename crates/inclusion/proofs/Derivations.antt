@@ -32,7 +32,7 @@ use Rattle.calculus.specs.Resolved.{AllResolved, category_known, resolved_known}
 use Rattle.inclusion.specs.Liberal.{InContext}
 use Rattle.inclusion.specs.Inside.{written_inside, middle_inside}
 use Rattle.inclusion.specs.Books.{resolved_more, MeetsRules, Built, no_line, one_more, Right, built_right}
-use Rattle.inclusion.specs.StaysInside.{Plain, PlainLines}
+use Rattle.inclusion.proofs.StaysInside.{Plain, PlainLines}
 
 -- ---- names that mean something leave well-scoped expressions
 

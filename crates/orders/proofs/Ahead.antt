@@ -29,11 +29,11 @@ use Rattle.reading.specs.Whole.{grammar_unique}
 use Rattle.reading.specs.Readings.{derivation_reading, reading_names}
 use Rattle.reading.specs.Late.{late_stopped}
 use Rattle.orders.specs.RenumberedNames.{renumbered_alike}
-use Rattle.orders.specs.Arranging.{stands_before}
+use Rattle.orders.proofs.Arranging.{stands_before}
 use Rattle.orders.specs.FlatBooks.{flat, NoneNamed, named_line, unused_flat, Flat, AllFlat, derived_split, distinct_state, distinct_names, right_contexts}
-use Rattle.orders.specs.Standing.{stands_member, stands_named, line_stands, same_identifier}
-use Rattle.orders.specs.Walking.{new_repeat}
-use Rattle.orders.specs.Rearranging.{Arranged}
+use Rattle.orders.proofs.Standing.{stands_member, stands_named, line_stands, same_identifier}
+use Rattle.orders.proofs.Walking.{new_repeat}
+use Rattle.orders.proofs.Rearranging.{Arranged}
 
 module _ (language : Language) where
   module _ {old : List Bytes} {ms : Lines} (D : Flat language [] old ms) {new : List Bytes} (P : Permutation old new)

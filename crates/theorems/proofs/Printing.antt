@@ -20,7 +20,7 @@ use Rattle.paging.specs.SameReading.{same_reading}
 use Rattle.paging.specs.NeverJoined.{never_joined}
 use Rattle.paging.specs.PaddedLines.{derived_read_back}
 use Rattle.paging.specs.ReadsBack.{reads_back_lem}
-use Rattle.theorems.specs.Admission.{accepted_lines, accepted_code, admits_refused, admits_answered}
+use Rattle.theorems.proofs.Admission.{accepted_lines, accepted_code, admits_refused, admits_answered}
 
 -- Paper 4: a line without its spaces is read as the same line, and no two of its symbols are joined.
 pub spaces_dropped : SameReading

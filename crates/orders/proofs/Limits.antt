@@ -129,7 +129,3 @@ module _ (language : Language) where
       run_admitted language book m' a'
       ∙ lines_same h (m'.budget - m.budget) k (lines book) nothing 0 m.budget m'.budget k (subst Verdict e v)
       ∙ sym e
-
-  pub larger_limits : LargerLimits language
-  unfolding LargerLimits
-  larger_limits book m m' s h v = same_result s (same_ending_lem book m m' h v)

@@ -30,10 +30,10 @@ use Rattle.lookup.specs.Naming.{line_named}
 use Rattle.lookup.specs.Following.{named_before, reaches_line, reaches?}
 use Rattle.orders.specs.RenumberedFollowing.{rests_renumbered}
 use Rattle.orders.specs.Titles.{denotes_to}
-use Rattle.orders.specs.Placing.{place_at, place_from_lem, place_ascends}
+use Rattle.orders.proofs.Placing.{place_at, place_from_lem, place_ascends}
 use Rattle.orders.specs.Moving.{formed_ordinary, line_of_lem, sign_of, derived_signs}
-use Rattle.orders.specs.Arranging.{stands_is_line, rest_of, placed, arrangement_derived}
-use Rattle.orders.specs.Arrangements.{derived_correct}
+use Rattle.orders.proofs.Arranging.{stands_is_line, rest_of, placed, arrangement_derived}
+use Rattle.orders.proofs.Arrangements.{derived_correct}
 
 ascends_snoc : (xs : List ℕ) {x : ℕ} → Ascends xs → ((v : ℕ) → Member v xs → v < x) → Ascends (xs ++ (x ∷ []))
 ascends_snoc [] none h = one

@@ -25,7 +25,7 @@ use Rattle.cells.specs.Forests.{cells_unique}
 use Rattle.cells.specs.Rows.{Rows}
 use Rattle.heads.specs.Book.{known_wf}
 use Rattle.records.specs.OnRecord.{on_record}
-use Rattle.theorems.specs.Admission.{accepted_lines, accepted_code, verdict, admits_refused, admits_answered}
+use Rattle.theorems.proofs.Admission.{accepted_lines, accepted_code, verdict, admits_refused, admits_answered}
 use Rattle.theorems.specs.Comparisons.{comparisons_agree}
 
 -- ---- unique reading

@@ -22,7 +22,7 @@ use Rattle.aut68.specs.Procedure.Run.{Recorded, state_of, Ending, refused_at, on
 use Rattle.aut68.specs.Demands.{Verdict, FormerEndings}
 use Rattle.lookup.specs.Runs.{verdict_admitted}
 use Rattle.reading.specs.PieceKinds.{PieceKind, an_opening, a_closing, ordinary, kind_of, opening_checked, closing_checked, ordinary_checked}
-use Rattle.orders.specs.Limits.{same_ending_lem}
+use Rattle.orders.proofs.Limits.{same_ending_lem}
 
 module _ (n : ℕ) (m : Limits) (le : n ≤ m.lines) where
   -- ---- fewer lines than n
@@ -81,7 +81,7 @@ module _ (n : ℕ) (m : Limits) (le : n ≤ m.lines) where
         go f (done p b') = f (after_piece k at p) (at + length bytes) b' (after_within k at p (length more) h)
         go f (stop r b') = refl
 
-    few_same : (book : Bytes) → length (lines book) < n → run language book m ≡ run language book (before_line n m)
+    pub few_same : (book : Bytes) → length (lines book) < n → run language book m ≡ run language book (before_line n m)
     unfolding run nothing
     few_same book h = at (leb smallest_limit m.limit && leb m.limit largest_limit) (leb (work_units * m.limit) m.work) (leb (length book) book_limit) refl refl refl
       where
@@ -94,7 +94,7 @@ module _ (n : ℕ) (m : Limits) (le : n ≤ m.lines) where
 
     -- ---- a verdict
 
-    verdict_same : (book : Bytes) → Verdict (run language book (before_line n m)) → run language book m ≡ run language book (before_line n m)
+    pub verdict_same : (book : Bytes) → Verdict (run language book (before_line n m)) → run language book m ≡ run language book (before_line n m)
     verdict_same book v =
         let a = verdict_admitted language book (before_line n m) v in
         same_ending_lem language book (before_line n m) m
@@ -108,8 +108,3 @@ module _ (n : ℕ) (m : Limits) (le : n ≤ m.lines) where
           same_index = refl;
           lines = le;
         }) v
-
-pub former_endings : (language : Language) → FormerEndings language
-unfolding FormerEndings
-former_endings language book n m le (inl v) = verdict_same n m le language book v
-former_endings language book n m le (inr h) = few_same n m le language book h

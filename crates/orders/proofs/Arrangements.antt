@@ -9,7 +9,7 @@ use Rattle.aut68.specs.Rules.Arrangements.{Signs, Arranges}
 use Rattle.aut68.specs.Demands.{Wrongness, NewArrangements}
 use Rattle.reading.specs.Pieces.{lines_of_closed}
 use Rattle.reading.specs.Closing.{derived_closed}
-use Rattle.orders.specs.Arranging.{arrangement_derived}
+use Rattle.orders.proofs.Arranging.{arrangement_derived}
 
 module _ (language : Language) where
   -- derived pieces with every paragraph closed are a correct book

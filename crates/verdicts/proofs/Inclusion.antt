@@ -4,8 +4,8 @@ use Rattle.aut68.specs.Bytes.{Bytes, lines}
 use Rattle.aut68.specs.Rules.Derivation.{Correct}
 use Rattle.aut68.specs.Rules.WithoutProp.{BookWithoutProp}
 use Rattle.aut68.specs.Demands.{Soundness, AcceptedInside}
-use Rattle.inclusion.specs.Derivations.{book_inside}
-use Rattle.verdicts.specs.BookVerdicts.{soundness}
+use Rattle.inclusion.proofs.Derivations.{book_inside}
+use Rattle.verdicts.proofs.Soundness.{soundness}
 
 correct_inside : (book : Bytes) → Correct aut68 book → BookWithoutProp (lines book) → Correct autQE book
 correct_inside book h without = record { reached = h.reached; derived = book_inside h.derived without; all_closed = h.all_closed }

@@ -1,0 +1,3 @@
+pub mod StaysInside
+pub mod QuotedLines
+pub mod Derivations

@@ -1,0 +1,15 @@
+pub mod Limits
+pub mod LargerLimits
+pub mod LineLimits
+pub mod FormerEndings
+pub mod Placing
+pub mod FreshLines
+pub mod Arranging
+pub mod Arrangements
+pub mod Deleting
+pub mod Standing
+pub mod Walking
+pub mod Rearranging
+pub mod Ahead
+pub mod NewOrders
+pub mod CompletedOrders
