@@ -92,12 +92,9 @@ module _ (language : Language) (st : State) (bytes : Bytes) where
     indicator_stops : IndicatorFault language st bytes → check_line language st m bytes b ≡ stop unknownName b
     indicator_stops x = unread_stops language st m bytes b (indicator_unread language st m.limit bytes (distinct_names D) x)
 
-    name_stops : (n : NameRefusal) → FirstName language st bytes (FaultFor n) → check_line language st m bytes b ≡ stop (refusal_for n) b
-    name_stops n x = unread_stops language st m bytes b (name_unread language st m.limit bytes (distinct_names D) (right_contexts D) n x)
-
     faulty_stops : (n : NameRefusal) → Faulty n → check_line language st m bytes b ≡ stop (refusal_for n) b
     faulty_stops n (inl (e, x)) = subst (λ i. check_line language st m bytes b ≡ stop (refusal_for i) b) e (indicator_stops x)
-    faulty_stops n (inr x) = name_stops n x
+    faulty_stops n (inr x) = name_stops language st bytes D m b n x
 
     -- and with the code of a name it has that fault
     fault_shown_lem : {r : Refusal} {b' : ℕ} → check_line language st m bytes b ≡ stop r b' → (n : NameRefusal) → code_of r ≡ code_of (refusal_for n) → Faulty n
