@@ -1,4 +1,6 @@
+pub mod MalformedBytes
 pub mod LineBytes
+pub mod NamesStop
 pub mod LineNames
 pub mod FromTheLeft
 pub mod Checks

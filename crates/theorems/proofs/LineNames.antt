@@ -24,6 +24,7 @@ use Rattle.reading.specs.Stages.{Unread, is_malformed, is_taken, no_indicator, n
 use Rattle.reading.specs.PieceStages.{PassedBy, opening_passed, closing_passed, line_passed, piece_passed, StoppedBy, opening_stopped, closing_stopped, line_stopped, piece_stopped}
 use Rattle.reading.specs.PieceStages.{Unopened, too_many, unopened, Unclosed, not_innermost, unclosed}
 use Rattle.verdicts.specs.Refusals.{unread_by_code}
+use Rattle.theorems.proofs.NamesStop.{name_stops}
 
 -- ---- the codes of names
 
