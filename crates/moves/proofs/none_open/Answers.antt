@@ -2,11 +2,7 @@ use mathlib.Core.Path.{refl}
 use Prim.Native.Nat.{ℕ}
 use lib.ListN.{length-replicate}
 use Rattle.moves.specs.Posts.{no_title}
-use Rattle.moves.proofs.none_open.Statement.{statement}
-use Rattle.moves.proofs.none_open.Tie as tie
+use Rattle.moves.proofs.none_open.Goals as goal
 
-returns : tie.Need-returns
+pub returns : goal.returns
 returns c = λ book. record { starts_long = length-replicate {A = ℕ} 32 0; lens_long = length-replicate {A = ℕ} 32 0; depth_is = refl; titles = no_title }
-
-pub none_open_spec : {M : Type 1} → statement M
-none_open_spec = tie.close (tie.spec returns)
