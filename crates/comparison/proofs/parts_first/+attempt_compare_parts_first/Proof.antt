@@ -5,7 +5,7 @@ use mathlib.Core.Path.{refl, ◌∙◌}
 use borrow.Fn.Kinds.{In}
 use borrow.Fn.PlainCycle.{Measures, is, falls, and}
 use Rattle.aut68.specs.Procedure.PartsFirst.{parts_first_at}
-use Rattle.sides.proofs.Progress.{put_in_place}
+use Rattle.sides.proofs.ProgressLaws.{put_in_place}
 use Rattle.comparison.proofs.Depths.{no_levels, many_levels, no_units, Opened, side_small}
 use Rattle.comparison.proofs.Parts.{PartsInvariant, shapes_differ, parts_start, parts_done, parts_stopped, parts_next}
 use Rattle.comparison.proofs.Attempts.{parts_first_none, Passed, passed_none, first_same, pass_same, pass_stands, pass_different, pass_ended, pass_next}
