@@ -61,7 +61,13 @@ fn row_cells<W: Write>(out: &mut W, table: &[u32], line: usize) -> io::Result<()
 }
 
 // Line v: its number, its identifier, the cells of its row, `:` and the cells of its middle, `:` and those of its category.
-fn row<W: Write>(out: &mut W, book: &[u8], table: &[u32], terms: &[Cell], v: u32) -> io::Result<()> {
+fn row<W: Write>(
+    out: &mut W,
+    book: &[u8],
+    table: &[u32],
+    terms: &[Cell],
+    v: u32,
+) -> io::Result<()> {
     say(out, v as u64, b' ')?;
     out.write_all(identifier(book, table, v))?;
     let line = v as usize;
@@ -77,7 +83,13 @@ fn row<W: Write>(out: &mut W, book: &[u8], table: &[u32], terms: &[Cell], v: u32
 }
 
 // The first n lines.
-pub fn rows<W: Write>(out: &mut W, book: &[u8], table: &[u32], terms: &[Cell], n: u32) -> io::Result<()> {
+pub fn rows<W: Write>(
+    out: &mut W,
+    book: &[u8],
+    table: &[u32],
+    terms: &[Cell],
+    n: u32,
+) -> io::Result<()> {
     let mut v = 0;
     while v < n {
         v = v + 1;
@@ -149,7 +161,14 @@ pub fn entries<W: Write>(out: &mut W, index: &[u32], n: u32, shown: u32) -> io::
 
 // Cells of table and term store that changed behind those of the n recorded lines; of the first WORK_UNITS × limit working cells
 // those that are not 0; working cells that changed behind them; all working cells that changed.
-pub fn other_cells<W: Write>(out: &mut W, table: &[u32], terms: &[Cell], work: &[Cell], n: u32, limit: u32) -> io::Result<()> {
+pub fn other_cells<W: Write>(
+    out: &mut W,
+    table: &[u32],
+    terms: &[Cell],
+    work: &[Cell],
+    n: u32,
+    limit: u32,
+) -> io::Result<()> {
     let lines = n as usize;
     let room = WORK_UNITS * (limit as usize);
     out.write_all(b"cells ")?;
