@@ -57,7 +57,13 @@ fn same_numbers(narrow: &[NarrowCell], wide: &mut [Cell]) {
 }
 
 // The first n cells of a source of narrow cells, widened into the first cells of the target.
-fn widened<W: Write>(out: &mut W, source: &[NarrowCell], n: usize, target: &mut [Cell], room: usize) -> io::Result<()> {
+fn widened<W: Write>(
+    out: &mut W,
+    source: &[NarrowCell],
+    n: usize,
+    target: &mut [Cell],
+    room: usize,
+) -> io::Result<()> {
     if n > source.len() {
         return Ok(());
     }
@@ -69,7 +75,14 @@ fn widened<W: Write>(out: &mut W, source: &[NarrowCell], n: usize, target: &mut 
 }
 
 // The first n cells of a source, narrowed into the first cells of the target. They are shown from wide cells.
-fn narrowed<W: Write>(out: &mut W, source: &[Cell], n: usize, target: &mut [NarrowCell], room: usize, shown: &mut [Cell]) -> io::Result<()> {
+fn narrowed<W: Write>(
+    out: &mut W,
+    source: &[Cell],
+    n: usize,
+    target: &mut [NarrowCell],
+    room: usize,
+    shown: &mut [Cell],
+) -> io::Result<()> {
     if n > source.len() {
         return Ok(());
     }
@@ -82,7 +95,13 @@ fn narrowed<W: Write>(out: &mut W, source: &[Cell], n: usize, target: &mut [Narr
 }
 
 // A case.
-fn case_of<W: Write>(out: &mut W, text: &[u8], source: &mut [Cell], narrow: &mut [NarrowCell], wide: &mut [Cell]) -> io::Result<()> {
+fn case_of<W: Write>(
+    out: &mut W,
+    text: &[u8],
+    source: &mut [Cell],
+    narrow: &mut [NarrowCell],
+    wide: &mut [Cell],
+) -> io::Result<()> {
     if text.len() == 0 {
         return Ok(());
     }
