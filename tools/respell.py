@@ -17,6 +17,8 @@ import sys
 TOKEN = re.compile(r"[^\s(){}.;,@\"«»\[\]`]+")
 QUIET = re.compile(r'"(?:[^"\\\n]|\\.)*"|(?<![^\s(){}.;,@"«»])--[^\n]*|\{-.*?-\}', re.S)
 DECLARED = re.compile(r"(?m)^[ \t]*(?:[|] *)?(?:(?:abbrev|unfoldable|pub|private|let|where|mutual) +)*((?:[^\s:(){},]+, )*[^\s:(){},]+)(?: *\{[^{}\n]*\})* :(?= |$)")
+# Constructors that share a line, as `one two : T`.
+SHARED = re.compile(r"(?m)^[ \t]+(?:pub )?([a-z][\w']*(?: [a-z][\w']*)+) : (?=[A-Z(])")
 WORDS = re.compile(r"[a-z]\w*(?:[-'][\w']+)*|[A-Z]\w*-[\w'-]+")
 # Lemmas whose spelling a function takes, each with the crates whose files have it: they get the ending _lem first.
 LEMMAS = {
@@ -33,6 +35,8 @@ LEMMAS = {
     "past_word": "symbols reader",
     "row_fits": "checking",
     "step_is": "sides",
+    "step_right": "reader",
+    "too_large": "widths reduction",
 }
 GENERATED = re.compile(r"^(Need|After|Lts|Goes|Array|At|Past|In|Cell)-")
 
@@ -70,6 +74,8 @@ def collect():
                 if of_a_function(path) and not (name.endswith("-spec") or not "-" in name):
                     continue
                 names[name] += 1
+        if not of_a_function(path):
+            names.update(name for m in SHARED.finditer(text) for name in m[1].split(" "))
     return names
 
 
@@ -79,6 +85,10 @@ LIBRARY = re.compile(r"(?m)^ *(?:ghost )?(?:pub )?use (?!Rattle\.(?!std\b))[^\s;
 def borrowed(text):
     """The names that a file takes from the libraries."""
     return {it.split(" as ")[0] for m in LIBRARY.finditer(text) for it in m[1].split(", ")}
+
+
+def without(rows, kept):
+    return {a: b for a, b in rows.items() if a not in kept} if kept else rows
 
 
 def table():
@@ -169,7 +179,7 @@ def main():
             print(a, b, sep="\t")
         return
     for path in glob.glob("crates/*/specs/**/*.antt", recursive=True) + glob.glob("crates/*/proofs/**/*.antt", recursive=True):
-        change(path, lambda t: in_code(ended(path, t), {a: b for a, b in rows.items() if a not in borrowed(t)}, "/proofs/" in path))
+        change(path, lambda t: in_code(t if "--rows" in sys.argv else ended(path, t), without(rows, borrowed(t)), "/proofs/" in path))
     for path in glob.glob("crates/*/src/**/*.rt", recursive=True):
         change(path, lambda t: in_source(t, rows))
     for path in ["README.md"] + glob.glob("docs/**/*.md", recursive=True):

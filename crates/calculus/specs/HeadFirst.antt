@@ -195,13 +195,13 @@ module _ (ls : Lines) where
     postpone (iapp {a} h k) (hunder s) = let (d, x, y) = postpone k s in (app a d, hunder x, papp h y)
     postpone (iconst {c} {r} h) (hdelta {m = m} e q) =
         (unf (line_of ls c).context m r, hdelta e refl, subst (λ z. Par ls (unf (line_of ls c).context m r) z) (sym q) (par_unf ls closed (line_of ls c).context m h))
-    postpone {g = g} itype x4 = elim x4 [ ]
-    postpone {g = g} iprop x5 = elim x5 [ ]
-    postpone {g = g} (ivar {v = v}) x6 = elim x6 [ ]
-    postpone {g = g} (ibound {i = i}) x7 = elim x7 [ ]
-    postpone {g = g} (iabs {p = p} {t = t} _ _) x10 = elim x10 [ ]
+    postpone itype h = elim h [ ]
+    postpone iprop h = elim h [ ]
+    postpone ivar h = elim h [ ]
+    postpone ibound h = elim h [ ]
+    postpone (iabs _ _) h = elim h [ ]
 
-    heads_first : {e f g : Expr} → Par ls e f → HeadsTo f g → (d : Expr) × HeadsTo e d × Par ls d g
+    heads_first : {f e g : Expr} → Par ls e f → HeadsTo f g → (d : Expr) × HeadsTo e d × Par ls d g
     heads_first {e} p done = (e, done, p)
     heads_first p (more s k) =
         let h = par_factors p in
@@ -216,7 +216,7 @@ module _ (ls : Lines) where
     neutral_back ibound n = n
     neutral_back (iconst h) (nconst q) = nconst q
     neutral_back (iapp h k) (napp n) = napp (neutral_back k n)
-    neutral_back (iabs {p = p} {t = t} _ _) n = elim n [ ]
+    neutral_back (iabs _ _) n = elim n [ ]
 
     normal_back : {e f : Expr} → IPar e f → HeadNormal ls f → HeadNormal ls e
     normal_back (iabs h k) habs = habs

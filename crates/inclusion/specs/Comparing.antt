@@ -23,7 +23,7 @@ use Rattle.calculus.specs.Reductions.{steps_one, steps_eq}
 use Rattle.calculus.specs.Equality.{Equals, equal_none, equal_more, equal_path, equal_steps, equal_sym, equal_trans, abs_steps}
 use Rattle.calculus.specs.Shapes.{decoded, decode, decoded_is, false_not_true}
 use Rattle.calculus.specs.Next.{NextIs, is_same, is_parts, is_left, is_right, next_is_lem}
-use Rattle.calculus.specs.HeadForms.{HeadNormal, habs, hneutral, Neutral, ntype, nprop, nvar, nbound, nconst, napp, head_step, head_none, normal_steps, parts_equal, equal_parts}
+use Rattle.calculus.specs.HeadForms.{HeadNormal, habs, hneutral, Neutral, ntype, nprop, nvar, nbound, nconst, napp, head_step_lem, head_none, normal_steps, parts_equal, equal_parts}
 use Rattle.calculus.specs.Scoped.{ScopedCategory, scoped_category}
 use Rattle.calculus.specs.Resolved.{AllKnown, KnownCategory, ResolvedLines, lines_closed}
 use Rattle.lookup.specs.Answers.{Judged, is_done, is_stop, Finding, differ, large, spent, finding_map, judged_map, judged_then, judged_sized}
@@ -254,16 +254,16 @@ module _ (ls : Lines) where
         sure false s = go s (eqb (first_cell l) (first_cell r)) refl
 
     after_step : {e f : Expr} → left (head_step ls e) ≡ some f → Categorical e → Categorical f
-    after_step {e} {f} q h = record { depth = h.depth; known = known_category_steps ls W h.depth (steps_one ls (head_step ls e f q)) h.known }
+    after_step {e} {f} q h = record { depth = h.depth; known = known_category_steps ls W h.depth (steps_one ls (head_step_lem ls e f q)) h.known }
 
     left_settles : {l l' r : Expr} {m : Answer ℕ (Unit {0})} → left (head_step ls l) ≡ some l' → Settles (Serves language ls l' r) m → Settles (Serves language ls l r) m
     left_settles {l} {l'} {r} q h =
-        let s = steps_one ls (head_step ls l l' q) in
+        let s = steps_one ls (head_step_lem ls l l' q) in
         settles_iff (λ e. equal_then_serves language ls (lines_closed ls W) (equal_steps ls s) e) (λ e. equal_then_serves language ls (lines_closed ls W) (equal_sym ls (equal_steps ls s)) e) h
 
     right_settles : {l r r' : Expr} {m : Answer ℕ (Unit {0})} → left (head_step ls r) ≡ some r' → Settles (Serves language ls l r') m → Settles (Serves language ls l r) m
     right_settles {l} {r} {r'} q h =
-        let s = steps_one ls (head_step ls r r' q) in
+        let s = steps_one ls (head_step_lem ls r r' q) in
         settles_iff (λ e. serves_then_equal language ls (lines_closed ls W) e (equal_sym ls (equal_steps ls s))) (λ e. serves_then_equal language ls (lines_closed ls W) e (equal_steps ls s)) h
 
     sides_settle : (deeper : Comparison) → SettlesServes deeper → SettlesServes (sides language ls L deeper)

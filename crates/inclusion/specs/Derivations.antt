@@ -168,6 +168,7 @@ form_68 (call n t h) = inr (form_all aut68 h)
 form_68 (application s h t k) = inr (form_at aut68 h, form_at aut68 k)
 form_68 (abstraction s n t u h v k) = inr (form_at aut68 h, form_at aut68 k)
 form_68 (Grammar.is_type s) = inl refl
+form_68 (Grammar.is_prop h _) = elim h [ ]
 
 means_type : {st : State} {vs : List ℕ} {bs : List Bytes} {x : Src} {e : Expr} → Means st vs bs x e → x ≡ Src.type → e ≡ Expr.type
 means_type a_type q = refl
@@ -313,6 +314,7 @@ module _ (st : State) (vs : List ℕ) (N : NoneIs st) where
         let (p, b, x, y) = abs_means m in
         abstraction s (name_qe n u.0) t r (expression_qe h bs p x k u.1) q (wider_place place (expression_qe g (w ∷ bs) b y (one_name u.0 k) u.2))
     expression_qe (Grammar.is_type s) bs e m k u = Grammar.is_type s
+    expression_qe (Grammar.is_prop h _) bs e m k u = elim h [ ]
 
     arguments_qe : {xs : Srcs} {a b : Bytes} → Arguments aut68 xs a b → (bs : List Bytes) (es : Exprs) → MeanAll st vs bs xs es → NotAmong bs → NotBoundIn word_prop xs → Arguments autQE xs a b
     arguments_qe (last h s) bs es m k u = let (e, rest, x, y) = all_mean m in last (expression_qe h bs e x k u.0) s

@@ -15,6 +15,8 @@ use Rattle.calculus.specs.Reductions.{steps_one, steps_trans}
 pub ends_one : {s s' e : Expr} → Basic s → Basic s' → Ends s e → Ends s' e → s ≡ s'
 ends_one b b' itself itself = refl
 ends_one b b' (before h) (before k) = ends_one b b' h k
+ends_one b b' itself (before k) = elim b [ ]
+ends_one b b' (before h) itself = elim b' [ ]
 
 module _ (ls : Lines) where
   pub ends_step : {s e e' : Expr} → Basic s → Ends s e → Step ls e e' → Ends s e'
@@ -57,13 +59,17 @@ module _ (language : Language) where
   drops_ends a_type (surplus x c e) itself = e
   drops_ends a_prop (surplus x c e) itself = e
   drops_ends b (under d) (before h) = before (drops_ends b d h)
+  drops_ends a_type (surplus x c e) (before h) = elim c [ ]
+  drops_ends a_prop (surplus x c e) (before h) = elim c [ ]
+  drops_ends b (under d) itself = elim b [ ]
 
   -- what drops to an abstraction
   pub drops_abs : {a p t : Expr} → Drops language a (abs p t) → (t' : Expr) × (a ≡ abs p t') × Drops language t' t
   drops_abs {t = t} same = (t, refl, same)
   drops_abs (under {t = t'} d) = (t', refl, d)
+  drops_abs (surplus _ h _) = elim h [ ]
 
-  pub drops_trans : {a b c : Expr} → Drops language a b → Drops language b c → Drops language a c
+  pub drops_trans : {b a c : Expr} → Drops language a b → Drops language b c → Drops language a c
   drops_trans h same = h
   drops_trans h (surplus x c e) = surplus x c (drops_ends c h e)
   drops_trans h (under {p = p} {t' = t'} k) =
@@ -105,7 +111,7 @@ module _ (language : Language) where
         body_steps done = done
         body_steps (step s r) = step (in_body s) (body_steps r)
 
-    pub drops_pushes : {a b b' : Expr} → Drops language a b → Reduces ls b b' → (a' : Expr) × Reduces ls a a' × Drops language a' b'
+    pub drops_pushes : {b a b' : Expr} → Drops language a b → Reduces ls b b' → (a' : Expr) × Reduces ls a a' × Drops language a' b'
     drops_pushes {a} d done = (a, done, d)
     drops_pushes d (step s r) =
         let (a₁, r₁, d₁) = drops_push d s in

@@ -66,6 +66,7 @@ type_is autQE {k} (a_supertype x h) = go h.is_basic h.ends
     go : {s : Expr} → Basic s → Ends s k → (ends_in_type k || ends_in_prop k) ≡ true
     go a_type e = or_left (ends_in_type k) (ends_in_prop k) (ends_type e)
     go a_prop e = or_right (ends_in_type k) (ends_in_prop k) (ends_prop e)
+type_is aut68 (a_supertype x h) = elim x [ ]
 
 pub ensure_type : {R : Refusal → Type 0} (language : Language) (k : Expr) → (¬ IsType language k → R not_type) → (b : ℕ)
     → Judged (λ _. IsType language k) R (ensure (serves_as_type language k) not_type b)

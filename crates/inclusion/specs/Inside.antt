@@ -11,7 +11,7 @@ use Rattle.aut68.specs.Substitution.{lift, substitute}
 use Rattle.aut68.specs.Lines.{Lines, Kind}
 use Rattle.aut68.specs.Rules.Steps.{Reduces}
 use Rattle.aut68.specs.Rules.Serving.{Basic, a_type, a_prop, Ends, itself, before, Supertype, Serves, IsType, the_type, a_supertype}
-use Rattle.aut68.specs.Rules.Categories.{Category, of_variable, of_bound, of_constant, of_application, of_second_chance, of_abstraction, Fit, all_fit, one_fits, written_type}
+use Rattle.aut68.specs.Rules.Categories.{Category, of_variable, of_bound, of_constant, of_application, of_second_chance, of_abstraction, Fit, all_fit, one_fits, written_type, written_binding, written_prop}
 use Rattle.aut68.specs.Rules.Categories.{WrittenFits, is_supertype, has_type, MiddleFits, is_eb, is_pn, has_category}
 use Rattle.aut68.specs.Rules.Resolved.{Scoped, ConstantOf, VariableLine, Known}
 use Rattle.calculus.specs.Equality.{equal_refl}
@@ -27,7 +27,7 @@ use Rattle.inclusion.specs.Keeping.{serves_substitute}
 
 module _ (language : Language) (ls : Lines) (W : ResolvedLines ls) where
   -- what has a category does not end in `type` or `prop`
-  pub no_strict : {sc : List Expr} {s e c : Expr} → Basic s → Ends s e → ¬ Category language ls sc e c
+  pub no_strict : {s e : Expr} {sc : List Expr} {c : Expr} → Basic s → Ends s e → ¬ Category language ls sc e c
   no_strict a_type itself h = elim h [ ]
   no_strict a_prop itself h = elim h [ ]
   no_strict b (before e) (of_abstraction hp ip ht i) = no_strict b e ht
@@ -71,6 +71,7 @@ module _ (ls : Lines) (W : ResolvedLines ls) where
   type_inside : {sc : List Expr} {p k : Expr} → Inside ls sc p k → IsType aut68 k → Known ls (length sc) p → KnownScope ls sc → (h : Inside ls sc p k) × IsType autQE h.category
   type_inside {sc} P the_type w s =
       (P, a_supertype extended (record { sort = type; is_basic = a_type; ends = serves_ends ls W autQE (length sc) a_type (known_category autQE ls W P.has w s) P.serves itself }))
+  type_inside P (a_supertype h _) w s = elim h [ ]
 
   over_inside : {sc : List Expr} {p t c : Expr} → (h : Inside ls (p ∷ sc) t c) → KnownCategory ls (suc (length sc)) h.category → Serves autQE ls (abs p h.category) (over_binding aut68 p c)
   unfolding over_binding
@@ -111,6 +112,7 @@ module _ (ls : Lines) (W : ResolvedLines ls) where
     inside (of_constant {r = r} i f q) w s = record { category = r; has = of_constant i (inside_fit f w.1 s) q; serves = serves_refl autQE ls r }
     inside (of_application hb red ha e i) w s = inside_application (inside hb w.1 s) red (inside ha w.0 s) e i
     inside (of_abstraction hp ip ht i) w s = inside_abstraction (inside hp w.0 s) ip (inside ht w.1 (w.0, s)) i w.0 w.1 s
+    inside (of_second_chance h _ _ _ _ _ _ _ _ _) w s = elim h [ ]
 
     inside_fit : {sc : List Expr} {context vs : List ℕ} {earlier xs : Exprs} → Fit aut68 ls sc context vs earlier xs → AllKnown ls (length sc) xs → KnownScope ls sc
         → Fit autQE ls sc context vs earlier xs
@@ -128,6 +130,8 @@ module _ (ls : Lines) (W : ResolvedLines ls) where
       let wc = strict_known aut68 ls W 0 w h in
       let (P, it) = type_inside (inside h wc tt) ip wc tt in
       has_type P.has it
+  written_inside (is_supertype (written_prop h)) w = elim h [ ]
+  written_inside (is_supertype (written_binding h _ _ _)) w = elim h [ ]
 
   pub middle_inside : {k : Kind} {c : Expr} → MiddleFits aut68 ls k c → ((m : Expr) → k ≡ Kind.abbreviation m → Known ls 0 m) → MiddleFits autQE ls k c
   unfolding ScopedScope

@@ -94,6 +94,7 @@ pub is_type_served : (language : Language) (ls : Lines) → ResolvedLines ls →
 is_type_served aut68 ls W k c d w h the_type = subst (IsType aut68) (sym (known_type ls W k c w (serves_68 ls h))) the_type
 is_type_served autQE ls W k c d w h the_type = a_supertype extended (record { sort = type; is_basic = a_type; ends = serves_ends ls W autQE k a_type w h itself })
 is_type_served autQE ls W k c d w h (a_supertype x e) = a_supertype x (record { sort = e.sort; is_basic = e.is_basic; ends = serves_ends ls W autQE k e.is_basic w h e.ends })
+is_type_served aut68 ls W k c d w h (a_supertype x e) = elim x [ ]
 
 pub over_serves : (language : Language) (ls : Lines) → ResolvedLines ls → (k : ℕ) (p c d : Expr) → KnownCategory ls k c → KnownCategory ls k d → Serves language ls c d
     → Serves language ls (over_binding language p c) (over_binding language p d)

@@ -12,7 +12,7 @@ use Rattle.aut68.specs.Lines.{Line, Lines}
 use Rattle.aut68.specs.Rules.Names.{IsLine, Context}
 use Rattle.aut68.specs.Rules.Steps.{Reduces, Equal}
 use Rattle.aut68.specs.Rules.Serving.{Supertype}
-use Rattle.aut68.specs.Rules.Categories.{Category, of_variable, of_bound, of_constant, of_application, of_abstraction, Fit, all_fit, one_fits}
+use Rattle.aut68.specs.Rules.Categories.{Category, of_variable, of_bound, of_constant, of_application, of_abstraction, Fit, all_fit, one_fits, of_second_chance}
 use Rattle.aut68.specs.Rules.CorrectExpressions.{CorrectAs, CorrectScope, no_bindings, binding}
 use Rattle.aut68.specs.Demands.{CorrectLike}
 use Rattle.aut68.specs.Rules.Resolved.{Scoped, VariableOf, ConstantOf, Resolved}
@@ -25,7 +25,7 @@ use Rattle.inclusion.specs.Endings.{ends_steps}
 use Rattle.inclusion.specs.Serves.{serves_68}
 use Rattle.calculus.specs.Known.{constant_count, kept_middles}
 use Rattle.calculus.specs.Bindings.{bound_scoped}
-use Rattle.inclusion.specs.Liberal.{resolved_liberal, known_liberal, Liberal, by_variable, by_bound, by_constant, by_application, by_abstraction, Fits, none_fits, more_fits, nested_context}
+use Rattle.inclusion.specs.Liberal.{resolved_liberal, known_liberal, Liberal, by_variable, by_bound, by_constant, by_application, by_abstraction, Fits, none_fits, more_fits, nested_context, by_equal}
 use Rattle.inclusion.specs.Unique.{is_type_false, equal_types, liberal_unique}
 use Rattle.inclusion.specs.Keeping.{Kept}
 use Rattle.inclusion.specs.Preserved.{steps_kept}
@@ -51,6 +51,7 @@ module _ (ls : Lines) (ctx : List ℕ) where
     strict_68 (by_constant i f q) = of_constant i (fit_68 f) q
     strict_68 (by_application hb red ha e i) = of_application (strict_68 hb) red (strict_68 ha) e i
     strict_68 (by_abstraction hp ip ht i) = of_abstraction (strict_68 hp) ip (strict_68 ht) i
+    strict_68 (by_equal h _ _ _ _ _ _ _ _ _) = elim h [ ]
 
     fit_68 : {sc : List Expr} {context vs : List ℕ} {earlier xs : Exprs} → Fits aut68 ls ctx sc context vs earlier xs → Fit aut68 ls sc context vs earlier xs
     fit_68 none_fits = all_fit
@@ -63,6 +64,7 @@ module _ (ls : Lines) (ctx : List ℕ) where
     liberal_68 (of_constant i f q) = by_constant i (fits_68 f) q
     liberal_68 (of_application hb red ha e i) = by_application (liberal_68 hb) red (liberal_68 ha) e i
     liberal_68 (of_abstraction hp ip ht i) = by_abstraction (liberal_68 hp) ip (liberal_68 ht) i
+    liberal_68 (of_second_chance h _ _ _ _ _ _ _ _ _) = elim h [ ]
 
     fits_68 : {sc : List Expr} {context vs : List ℕ} {earlier xs : Exprs} → Fit aut68 ls sc context vs earlier xs → Fits aut68 ls ctx sc context vs earlier xs
     fits_68 all_fit = none_fits
@@ -120,6 +122,7 @@ module _ (ls : Lines) (W : ResolvedLines ls) (contexts : RightContexts ls) (P : 
       go x true q = inl (i ∙ ap (λ t. elim t as (λ _. Expr) [ true ↦ type | false ↦ abs p c ]) q)
       go (inl x) false q = absurd (is_type_false c q x)
       go (inr x) false q = inr (subst (Resolved ls ctx (length sc)) (sym (i ∙ ap (λ t. elim t as (λ _. Expr) [ true ↦ type | false ↦ abs p c ]) q)) (w.0, x))
+  plain_category (by_equal h _ _ _ _ _ _ _ _ _) w s = elim h [ ]
 
   -- in which what ends in `type` or `prop` is `type`
   plain_type : (k : ℕ) (c : Expr) → Plain ls ctx k c → Supertype c → c ≡ type

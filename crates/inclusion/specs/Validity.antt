@@ -90,7 +90,7 @@ over_super aut68 p {c} h = go (is_type c) refl h
 over_super autQE p {c} h = super_body h
 
 -- what ends in `type` or `prop` has no category
-pub no_category : {language : Language} {ls : Lines} {ctx : List ℕ} {sc : List Expr} {s e c : Expr} → Basic s → Ends s e → ¬ Liberal language ls ctx sc e c
+pub no_category : {language : Language} {ls : Lines} {ctx : List ℕ} {s e : Expr} {sc : List Expr} {c : Expr} → Basic s → Ends s e → ¬ Liberal language ls ctx sc e c
 no_category a_type itself h = elim h [ ]
 no_category a_prop itself h = elim h [ ]
 no_category b (before e) (by_abstraction hp ip ht i) = no_category b e ht

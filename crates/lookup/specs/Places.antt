@@ -29,7 +29,7 @@ numbered_at (y ∷ before) x after (next_number e h) = let i = numbered_at befor
 pub numbered_within : {k : ℕ} {x : Paragraph} {xs : List Paragraph} → NumberedFrom k xs → Member x xs → (k < x.number) × (x.number ≤ k + length xs)
 numbered_within (next_number e h) here = (omega (arith, e), omega (arith, e))
 numbered_within (next_number e h) (there m) = let (a, b) = numbered_within h m in (omega (arith, a), omega (arith, b))
-numbered_within (none_left {k = k}) x7 = elim x7 [ ]
+numbered_within none_left h = elim h [ ]
 
 -- no two have one number
 pub numbered_unique : {k : ℕ} {x y : Paragraph} {xs : List Paragraph} → NumberedFrom k xs → Member x xs → Member y xs → x.number ≡ y.number → x ≡ y
@@ -37,7 +37,7 @@ numbered_unique (next_number e h) here here q = refl
 numbered_unique (next_number e h) here (there n) q = let (a, b) = numbered_within h n in absurd (omega (arith, a, e, q))
 numbered_unique (next_number e h) (there m) here q = let (a, b) = numbered_within h m in absurd (omega (arith, a, e, q))
 numbered_unique (next_number e h) (there m) (there n) q = numbered_unique h m n q
-numbered_unique {y = y} (none_left {k = k}) x13 _ q = elim x13 [ ]
+numbered_unique none_left h _ q = elim h [ ]
 
 numbered_snoc : {k : ℕ} (x : Paragraph) {xs : List Paragraph} → NumberedFrom k xs → x.number ≡ suc (k + length xs) → NumberedFrom k (xs ++ (x ∷ []))
 numbered_snoc x (none_left {k}) e = let i : x.number ≡ suc k = omega (arith, e) in next_number i none_left

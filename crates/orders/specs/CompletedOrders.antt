@@ -115,12 +115,14 @@ module _ (language : Language) where
     first_completed (a ∷ after) before e all (O.a_later f o) =
         a_later (to_completed before a after e all f)
         (first_completed after (before ++ (a ∷ [])) (e ∙ sym (append_snoc before a after)) (all_behind_next before a all (follows_behind language D P before a after e f)) o)
+    first_completed [] before e all h = elim h [ ]
 
     first_written : (after before : List Bytes) {k : ℕ} → new ≡ before ++ after → AllBehind language old before → CompletedFirst old ms before after k → FirstOutOfOrder language before after k
     first_written (a ∷ after) before e all (this_one n) = O.this_one (from_ahead before a after e all n)
     first_written (a ∷ after) before e all (a_later c o) =
         O.a_later (to_written before a after e all c)
         (first_written after (before ++ (a ∷ [])) (e ∙ sym (append_snoc before a after)) (all_behind_next before a all (to_behind before a after e all c)) o)
+    first_written [] before e all h = elim h [ ]
 
     -- In a rearrangement of a correct book it is one thing for written and for completed names: whether each line stands behind the
     -- lines it names, and which is the first that does not.

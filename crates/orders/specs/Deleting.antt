@@ -22,7 +22,7 @@ use Rattle.aut68.specs.Rules.Following.{NamesLine, Reaches, onward, Ascends, non
 use Rattle.aut68.specs.Rules.Arrangements.{Stands, place_in, seen, Signs, ordinary, a_sign, Arranges}
 use Rattle.aut68.specs.Resting.{Remains, Deletion}
 use Rattle.lookup.specs.Lists.{no_member, member_left, member_right, member_snoc}
-use Rattle.lookup.specs.LineNumbers.{no_line, line_line_of, line_append, line_within, line_snoc, line_seam}
+use Rattle.lookup.specs.LineNumbers.{no_line_lem, line_line_of, line_append, line_within, line_snoc, line_seam}
 use Rattle.lookup.specs.Identifiers.{Distinct, denotes_line, denotes_unique}
 use Rattle.lookup.specs.DerivedBooks.{derived_extends, derived_snoc, distinct_names}
 use Rattle.lookup.specs.Mentions.{named_mentions}
@@ -160,7 +160,7 @@ module _ (language : Language) where
     pub deleted_arranges : {new signs : List Bytes} → Deleted language stays 1 old new → Signs language old signs
         → (A : Arranges language old all [] outside signs new) × Keeps stays all.earlier all.earlier (rest_of language A)
     unfolding start
-    deleted_arranges z s = walk [] old refl E.no_more D refl refl (record { has = λ x k i h. absurd (no_line i); from = λ x m. absurd (no_member m); ascends = none }) z s
+    deleted_arranges z s = walk [] old refl E.no_more D refl refl (record { has = λ x k i h. absurd (no_line_lem i); from = λ x m. absurd (no_member m); ascends = none }) z s
 
   -- every derived book is an arrangement of itself
   pub arranges_itself : {old signs : List Bytes} {all : State} → Derived language start old all → Signs language old signs → Arranges language old all [] outside signs old

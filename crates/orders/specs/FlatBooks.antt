@@ -14,7 +14,7 @@ use Rattle.aut68.specs.Rules.Derivation as D
 use Rattle.aut68.specs.Rules.Arrangements.{Signs}
 use Rattle.aut68.specs.Demands.{NoParagraphs}
 use Rattle.lookup.specs.Lists.{no_member}
-use Rattle.lookup.specs.LineNumbers.{no_line, line_snoc}
+use Rattle.lookup.specs.LineNumbers.{no_line_lem, line_snoc}
 use Rattle.lookup.specs.Identifiers.{Distinct}
 use Rattle.lookup.specs.Contexts.{RightContexts}
 use Rattle.lookup.specs.DerivedBooks as B
@@ -142,6 +142,7 @@ derived_split (p ∷ ps) b qs (line d r) = let (mid, l, e, k, f) = derived_split
 pub flat_ordinary : {language : Language} {ls all : Lines} {ps : List Bytes} → Flat language ls ps all → NoParagraphs language ps
 flat_ordinary {language} (line d r) b here = formed_ordinary language d.form
 flat_ordinary (line d r) b (there m) = flat_ordinary r b m
+flat_ordinary no_more b h = elim h [ ]
 
 pub flat_signs : {language : Language} {ls all : Lines} {ps : List Bytes} → Flat language ls ps all → Signs language ps []
 flat_signs no_more = Signs.no_more
@@ -165,7 +166,7 @@ all_outside no_more h = h
 all_outside (line d r) h = all_outside r (outside_snoc h d)
 
 lines_outside : {language : Language} {all : Lines} {ps : List Bytes} → Flat language [] ps all → {v : ℕ} {l : Line} → IsLine all v l → l.paragraph ≡ 0
-lines_outside f i = all_outside f (λ v l j. absurd (no_line j)) _ _ i
+lines_outside f i = all_outside f (λ v l j. absurd (no_line_lem j)) _ _ i
 
 pub distinct_state : {language : Language} {all : Lines} {ps : List Bytes} → Flat language [] ps all → Distinct (flat all)
 distinct_state f = B.distinct_names (flat_book f)

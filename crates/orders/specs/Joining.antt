@@ -11,7 +11,7 @@ use Rattle.aut68.specs.Source.{Used}
 use Rattle.aut68.specs.Rules.Names.{IsLine, Denotes}
 use Rattle.aut68.specs.Rules.Orders.{Names}
 use Rattle.aut68.specs.Rules.Derivation.{Derivation}
-use Rattle.lookup.specs.LineNumbers.{no_line, line_append, line_seam, line_behind, line_cases, line_map, line_unmap}
+use Rattle.lookup.specs.LineNumbers.{no_line_lem, line_append, line_seam, line_behind, line_cases, line_map, line_unmap}
 use Rattle.orders.specs.FlatBooks.{flat, Flat, no_more, line, derived_append, derived_extends, AllOutside, outside_snoc, flat_named, denotes_flat, unused_flat, unused_outside}
 use Rattle.orders.specs.RenumberedSteps.{Renumbered}
 use Rattle.orders.specs.RenumberedNames.{KeptName, derivation_renumbered}
@@ -54,14 +54,14 @@ module _ (ks : Lines) where
         fresh : (v : ℕ) (k : Line) → IsLine (joined_lines ls) v k → k.identifier ≢ l.identifier
         fresh v k i = at (line_cases ks i)
 
-    join_derived : {ls : Lines} {ps : List Bytes} → AllOutside ls → Flat language ls ps all → Flat language (joined_lines ls) ps (joined_lines all)
-    join_derived o no_more = no_more
-    join_derived o (line {ls} {bytes} {more} {l} d r) =
+    join_derived : {ls : Lines} {ps : List Bytes} → Flat language ls ps all → AllOutside ls → Flat language (joined_lines ls) ps (joined_lines all)
+    join_derived no_more o = no_more
+    join_derived (line {ls} {bytes} {more} {l} d r) o =
         let (rest, e) = derived_extends r in
-        line (join_line rest e o d) (subst (λ x. Flat language x more (joined_lines all)) (joined_snoc ls l) (join_derived (outside_snoc o d) r))
+        line (join_line rest e o d) (subst (λ x. Flat language x more (joined_lines all)) (joined_snoc ls l) (join_derived r (outside_snoc o d)))
 
 -- one book, then the other
 pub books_joined : {language : Language} {ks ls : Lines} {ps qs : List Bytes} → Flat language [] ps ks → Flat language [] qs ls
     → ((u v : ℕ) (k l : Line) → IsLine ks u k → IsLine ls v l → k.identifier ≢ l.identifier)
     → Flat language [] (ps ++ qs) (joined_lines ks ls)
-books_joined {language} {ks} {ls} {ps} {qs} d e apart = derived_append d (subst (λ x. Flat language x qs (joined_lines ks ls)) (append-nil ks) (join_derived ks apart (λ v k i. absurd (no_line i)) e))
+books_joined {language} {ks} {ls} {ps} {qs} d e apart = derived_append d (subst (λ x. Flat language x qs (joined_lines ks ls)) (append-nil ks) (join_derived ks apart e (λ v k i. absurd (no_line_lem i))))

@@ -7,7 +7,7 @@ use Rattle.aut68.specs.Rules.Names.{IsLine, first, later, Member, here, there}
 use Rattle.aut68.specs.Rules.Following.{Ascends}
 use Rattle.aut68.specs.Rules.Arrangements.{place_in}
 use Rattle.lookup.specs.Lists.{no_member}
-use Rattle.lookup.specs.LineNumbers.{no_line}
+use Rattle.lookup.specs.LineNumbers.{no_line_lem}
 use Rattle.lookup.specs.Ascending.{ascends_tail, ascends_first}
 
 member_other : {x y : ℕ} {xs : List ℕ} → x ≢ y → Member x (y ∷ xs) → Member x xs
@@ -31,7 +31,7 @@ place_at f x (y ∷ order) m = at (ℕ_discrete x y) (place_at f x order)
     at (no n) again = rw (place_later x y order n) (later (again (member_other n m)))
 
 pub place_from_lem : (f : ℕ → Line) (order : List ℕ) {v : ℕ} {l : Line} → IsLine (map f order) v l → (x : ℕ) × Member x order × (l ≡ f x)
-place_from_lem f [] i = absurd (no_line i)
+place_from_lem f [] i = absurd (no_line_lem i)
 place_from_lem f (x ∷ order) first = (x, here, refl)
 place_from_lem f (x ∷ order) (later i) = let (y, m, e) = place_from_lem f order i in (y, there m, e)
 
