@@ -21,7 +21,7 @@ use Rattle.aut68.specs.Rules.Names.{IsLine, first, later, Context, no_context, w
 use Rattle.aut68.specs.Rules.Grammar.{WellFormed}
 use Rattle.aut68.specs.Rules.Grammar as G
 use Rattle.aut68.specs.Rules.Derivation.{line, opened, closed, Derived, no_more, piece}
-use Rattle.lookup.specs.LineNumbers.{no_line, line_snoc}
+use Rattle.lookup.specs.LineNumbers.{no_line_lem, line_snoc}
 use Rattle.lookup.specs.DerivedBooks.{new_paragraph}
 use Rattle.lookup.specs.Places.{RightPlace, current_within, opening_right, closing_right, place_start, right_place}
 use Rattle.reading.specs.Pieces.{lines_short}
@@ -129,7 +129,7 @@ module _ {language : Language} {book : Bytes} {N L : ℕ} {s : Stores} {k : Reco
   -- a recorded line stands in one of them, or outside
   pub paragraph_within : {v : ℕ} {l : Line} → IsLine k.recorded v l → l.paragraph ≤ length k.place.paragraphs
   unfolding LinesWithin start
-  paragraph_within i = derived_within h.derived place_start (λ v l j. absurd (no_line j)) _ _ i
+  paragraph_within i = derived_within h.derived place_start (λ v l j. absurd (no_line_lem j)) _ _ i
 
   -- so does the next one
   pub current_small : current k.place.opened ≤ length k.place.paragraphs

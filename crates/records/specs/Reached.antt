@@ -23,7 +23,7 @@ use Rattle.aut68.specs.Procedure.CheckLine.{Passed, check_line, room}
 use Rattle.aut68.specs.Procedure.Run.{Recorded, state_of, nothing, one_more, elsewhere, over}
 use Rattle.aut68.specs.Rules.Names.{IsLine, Context, no_context, within}
 use Rattle.aut68.specs.Rules.Derivation.{Piece, line, Derived, no_more}
-use Rattle.lookup.specs.LineNumbers.{no_line, line_positive, line_within, line_snoc}
+use Rattle.lookup.specs.LineNumbers.{no_line_lem, line_positive, line_within, line_snoc}
 use Rattle.lookup.specs.Mentions.{IndicatorMentions, named_mentions}
 use Rattle.lookup.specs.Following.{named_before}
 use Rattle.lookup.specs.DerivedBooks.{derived_snoc}
@@ -112,7 +112,7 @@ reached_nothing language book N L s =
       pieces_are = refl;
       derived = no_more;
       spelled = none_spelled;
-      small = λ i. absurd (no_line i);
+      small = λ i. absurd (no_line_lem i);
       lines_are = refl;
       used_is = refl;
       few = omega arith;

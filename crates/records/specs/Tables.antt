@@ -150,6 +150,7 @@ place {l = l} s firsts (one_spelled {f} {fs} {l = k} {ls = more} a b t) (later h
       within = p.within;
       bytes_are = p.bytes_are;
     }
+place s _ none_spelled h = elim h [ ]
 
 -- ---- what the stores say of the lines
 
