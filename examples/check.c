@@ -1,7 +1,7 @@
 /* Checks a book from standard input and writes its recorded lines and the outcome.
 
-       rt staticlib c_api
-       cc -std=c11 -Wall -Wextra -I include examples/check.c target/staticlib/libc_api.a -o check_c
+       (cd crates/c_api && rt lib)
+       cc -std=c11 -Wall -Wextra -I include examples/check.c crates/c_api/out/libc_api.a -o check_c
        ./check_c < examples/sample.aut
 */
 #include "aut68.h"

@@ -1,7 +1,7 @@
 //! Checks a book from standard input and prints its recorded lines and the outcome.
 //!
-//!     rt staticlib c_api
-//!     rustc --edition 2021 -O examples/check.rs -L target/staticlib -l static=c_api -o check_rs
+//!     (cd crates/c_api && rt lib)
+//!     rustc --edition 2021 -O examples/check.rs -L crates/c_api/out -l static=c_api -o check_rs
 //!     ./check_rs < examples/sample.aut
 
 use std::io::Read;

@@ -1,7 +1,7 @@
 /* Compares two expressions over a book, each a string of cells: decimal numbers, separated by spaces.
 
-       rt staticlib c_api
-       cc -std=c11 -Wall -Wextra -I include examples/compare.c target/staticlib/libc_api.a -o compare_c
+       (cd crates/c_api && rt lib)
+       cc -std=c11 -Wall -Wextra -I include examples/compare.c crates/c_api/out/libc_api.a -o compare_c
        ./compare_c examples/sample.aut '4 43 59' '35 35 43'
 */
 #include "book.h"

@@ -1,7 +1,7 @@
 /* Prints a book on paper 72 columns wide.
 
-       rt staticlib c_api
-       cc -std=c11 -Wall -Wextra -I include examples/pages.c target/staticlib/libc_api.a -o pages_c
+       (cd crates/c_api && rt lib)
+       cc -std=c11 -Wall -Wextra -I include examples/pages.c crates/c_api/out/libc_api.a -o pages_c
        ./pages_c examples/landau.aut
 */
 #include "book.h"

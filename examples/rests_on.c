@@ -1,7 +1,7 @@
 /* Writes what a line of a book rests on: the identifiers of the PN lines that are reached from it by following names.
 
-       rt staticlib c_api
-       cc -std=c11 -Wall -Wextra -I include examples/rests_on.c target/staticlib/libc_api.a -o rests_on
+       (cd crates/c_api && rt lib)
+       cc -std=c11 -Wall -Wextra -I include examples/rests_on.c crates/c_api/out/libc_api.a -o rests_on
        ./rests_on examples/landau.aut satz2
 */
 #include "book.h"

@@ -1,8 +1,8 @@
 /* Compares pairs of expressions over a book, in one call. A line of standard input is a pair: BUDGET: LEFT: RIGHT, each side a string of
    cells, decimal numbers separated by spaces.
 
-       rt staticlib c_api
-       cc -std=c11 -Wall -Wextra -I include examples/sheet.c target/staticlib/libc_api.a -o sheet
+       (cd crates/c_api && rt lib)
+       cc -std=c11 -Wall -Wextra -I include examples/sheet.c crates/c_api/out/libc_api.a -o sheet
        ./sheet examples/sample.aut < examples/sample.pairs
 */
 #include "book.h"

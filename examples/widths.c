@@ -1,8 +1,8 @@
 /* Converts a stored shelf from standard input to standard output, cell by cell: `widen` takes cells of 16 bits and writes cells of 32,
    `narrow` the other way round, each in the byte order of the machine.
 
-       rt staticlib c_api
-       cc -std=c11 -Wall -Wextra -I include examples/widths.c target/staticlib/libc_api.a -o widths
+       (cd crates/c_api && rt lib)
+       cc -std=c11 -Wall -Wextra -I include examples/widths.c crates/c_api/out/libc_api.a -o widths
        ./widths widen < old_shelf > shelf
 */
 #include "aut68.h"

@@ -1,5 +1,5 @@
 /* The check of an AUT-68 book, calls on accepted books, and calls on stored shelves, for C.
-   The library is target/staticlib/libc_api.a, which `rt staticlib c_api` writes. */
+   The library is crates/c_api/out/libc_api.a, which `rt lib` writes in crates/c_api. */
 #ifndef AUT68_H
 #define AUT68_H
 

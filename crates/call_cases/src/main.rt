@@ -16,9 +16,12 @@ mod strings;
 
 use constants::{Cell, ROW_WIDTH, WORK_UNITS};
 use outcomes::answer_numbers;
-use programs::{INDEX, LIMIT, LINES, TERMS};
+use programs::{INDEX, LIMIT, LINES, TERMS, argument_count, read_book};
 use reports::header::{Header, Question};
 use reports::{arguments, header, report};
+use std::io;
+use std::io::{Read, Write};
+use std::rt::{Env, Files};
 
 // The largest case's bytes, and the page store's.
 const TEXT: usize = 4096;
@@ -26,7 +29,8 @@ const TEXT: usize = 4096;
 const PAGE: usize = 16384;
 
 // Prints the book and reports.
-fn print(
+fn print<W: Write>(
+    out: &mut W,
     h: Header,
     book: &[u8],
     table: &mut [u32],
@@ -34,13 +38,14 @@ fn print(
     work: &mut [Cell],
     index: &mut [u32],
     page: &mut [u8],
-) {
+) -> io::Result<()> {
     let a = printing::print_pages(book, h.budget, h.limit, table, terms, work, index, page);
-    report::pages(answer_numbers(a), page);
+    report::pages(out, answer_numbers(a), page)
 }
 
 // The call that the header asks for.
-fn call(
+fn call<W: Write>(
+    out: &mut W,
     h: Header,
     q: Question,
     text: &[u8],
@@ -49,16 +54,14 @@ fn call(
     work: &mut [Cell],
     index: &mut [u32],
     page: &mut [u8],
-) {
+) -> io::Result<()> {
     if q.asks {
         if q.line == 3 {
-            sheet_cases::compare(h, q, text, table, terms, work, index);
-            return;
+            return sheet_cases::compare(out, h, q, text, table, terms, work, index);
         }
-        strings::compare(h, q, text, table, terms, work, index);
-        return;
+        return strings::compare(out, h, q, text, table, terms, work, index);
     }
-    print(h, text, table, terms, work, index, page);
+    print(out, h, text, table, terms, work, index, page)
 }
 
 // How many bytes of the page store are lent: as many as the header gives, or all where it gives a budget.
@@ -70,14 +73,15 @@ fn page_bytes(last: u32, asks: bool, most: usize) -> usize {
 }
 
 // A case, with the first cells of these stores, as many as its header gives.
-fn case_of(
+fn case_of<W: Write>(
+    out: &mut W,
     text: &[u8],
     table: &mut [u32],
     terms: &mut [Cell],
     work: &mut [Cell],
     index: &mut [u32],
     page: &mut [u8],
-) {
+) -> io::Result<()> {
     let h = header::read(text);
     let q = header::asked(text, h.next);
     let start = q.start;
@@ -87,24 +91,25 @@ fn case_of(
     let entries = h.index;
     let bytes = page_bytes(h.last, q.asks, page.len());
     if start > text.len() {
-        return;
+        return Ok(());
     }
     if rows > table.len() {
-        return;
+        return Ok(());
     }
     if cells > terms.len() {
-        return;
+        return Ok(());
     }
     if room > work.len() {
-        return;
+        return Ok(());
     }
     if entries > index.len() {
-        return;
+        return Ok(());
     }
     if bytes > page.len() {
-        return;
+        return Ok(());
     }
     call(
+        out,
         h,
         q,
         &text[start..],
@@ -113,43 +118,43 @@ fn case_of(
         &mut work[..room],
         &mut index[..entries],
         &mut page[..bytes],
-    );
+    )
 }
 
 // The case in an open file.
-fn case_in(fd: i32) {
+fn case_in<R: Read, W: Write>(from: &mut R, out: &mut W) -> io::Result<()> {
     let mut text = [0u8; TEXT];
-    let n = io::read_full(fd, &mut text);
+    let n = read_book(from, &mut text).bytes;
     let mut table = [7u32; ROW_WIDTH * LINES];
     let mut terms: [Cell; TERMS] = [7; TERMS];
     let mut work: [Cell; WORK_UNITS * LIMIT] = [7; WORK_UNITS * LIMIT];
     let mut index = [7u32; INDEX];
     let mut page = [7u8; PAGE];
     case_of(
+        out,
         &text[..n],
         &mut table,
         &mut terms,
         &mut work,
         &mut index,
         &mut page,
-    );
+    )
 }
 
 // The case in the file that argument i names.
-fn argument(i: usize) {
-    let fd = arguments::open(i);
-    if fd < 0 {
-        return;
-    }
-    case_in(fd);
-    libc::close(fd);
+fn argument<R: Env + Files + Print + Eprint>(rt: &R, i: usize) -> io::Result<()> {
+    let Some(mut file) = arguments::open(rt, i)? else {
+        return Ok(());
+    };
+    case_in(&mut file, &mut io::writer(rt))
 }
 
-fn main() {
-    let n = os::arg_count();
+fn main(rt: HostRuntime) -> io::Result<()> {
+    let n = argument_count(&rt);
     let mut i = 1;
     while i < n {
-        argument(i);
+        argument(&rt, i)?;
         i = i + 1;
     }
+    Ok(())
 }

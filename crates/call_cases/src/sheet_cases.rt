@@ -8,6 +8,8 @@ use outcomes::AnswerNumbers;
 use pairs::Pair;
 use reports::header::{Header, Question};
 use reports::{header, report};
+use std::io;
+use std::io::Write;
 
 // The most cells that the pairs share, and the most pairs and places.
 const CELLS: usize = 32;
@@ -62,18 +64,20 @@ fn read(text: &[u8], at: usize, cells: &mut [Cell], pairs: &mut [u32]) -> usize 
 }
 
 // All places of a sheet.
-fn show(places: [AnswerNumbers; 8]) {
+fn show<W: Write>(out: &mut W, places: [AnswerNumbers; 8]) -> io::Result<()> {
     let mut i = 0;
     while i < MOST {
         let p = places[i];
-        report::place(p);
+        report::place(out, p)?;
         i = i + 1;
     }
+    Ok(())
 }
 
 // Reads the cells and the pairs of the text from index `at` on, compares over the book behind them, and reports: what the call ends with,
 // what became of the stores, and all places of the sheet.
-fn compare_read(
+fn compare_read<W: Write>(
+    out: &mut W,
     h: Header,
     count: usize,
     text: &[u8],
@@ -84,17 +88,17 @@ fn compare_read(
     index: &mut [u32],
     cells: &mut [Cell],
     pairs: &mut [u32; 40],
-) {
+) -> io::Result<()> {
     let start = read(text, at, cells, pairs);
     let room = h.last as usize;
     if start > text.len() {
-        return;
+        return Ok(());
     }
     if count > MOST {
-        return;
+        return Ok(());
     }
     if room > MOST {
-        return;
+        return Ok(());
     }
     let book = &text[start..];
     let list = list_of(pairs);
@@ -112,13 +116,14 @@ fn compare_read(
         blank(),
         room,
     );
-    report::compared(r.answer, book, table, terms, work, index, h.limit);
+    report::compared(out, r.answer, book, table, terms, work, index, h.limit)?;
     let places = r.places;
-    show(places);
+    show(out, places)
 }
 
 // A case of a list of pairs: the number of the cells that they share, these cells, five numbers for each of eight pairs, the book.
-pub fn compare(
+pub fn compare<W: Write>(
+    out: &mut W,
     h: Header,
     q: Question,
     text: &[u8],
@@ -126,15 +131,16 @@ pub fn compare(
     terms: &mut [Cell],
     work: &mut [Cell],
     index: &mut [u32],
-) {
+) -> io::Result<()> {
     let shared = header::number(text, 0);
     let n = shared.value as usize;
     if n > CELLS {
-        return;
+        return Ok(());
     }
     let mut cells: [Cell; CELLS] = [0; CELLS];
     let mut pairs = [0u32; 40];
     compare_read(
+        out,
         h,
         q.room,
         text,
@@ -145,5 +151,5 @@ pub fn compare(
         index,
         &mut cells[..n],
         &mut pairs,
-    );
+    )
 }

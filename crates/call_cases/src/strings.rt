@@ -3,6 +3,8 @@ use constants::Cell;
 use outcomes::{AnswerNumbers, answer_numbers};
 use reports::header::{Header, Question};
 use reports::{header, report};
+use std::io;
+use std::io::Write;
 
 // The most cells of a string.
 const STRING: usize = 64;
@@ -45,7 +47,8 @@ fn compared(
 }
 
 // Compares the strings of the text from index `at` on over the book behind them, and reports.
-fn compare_read(
+fn compare_read<W: Write>(
+    out: &mut W,
     h: Header,
     which: u32,
     text: &[u8],
@@ -56,19 +59,20 @@ fn compare_read(
     index: &mut [u32],
     left: &mut [Cell],
     right: &mut [Cell],
-) {
+) -> io::Result<()> {
     let between = numbers(text, at, left);
     let start = numbers(text, between, right);
     if start > text.len() {
-        return;
+        return Ok(());
     }
     let book = &text[start..];
     let r = compared(h, which, book, table, terms, work, index, left, right);
-    report::compared(r, book, table, terms, work, index, h.limit);
+    report::compared(out, r, book, table, terms, work, index, h.limit)
 }
 
 // A case of two strings: the cells of the right one, the cells of both, the book.
-pub fn compare(
+pub fn compare<W: Write>(
+    out: &mut W,
     h: Header,
     q: Question,
     text: &[u8],
@@ -76,19 +80,20 @@ pub fn compare(
     terms: &mut [Cell],
     work: &mut [Cell],
     index: &mut [u32],
-) {
+) -> io::Result<()> {
     let count = header::number(text, 0);
     let m = q.room;
     let n = count.value as usize;
     if m > STRING {
-        return;
+        return Ok(());
     }
     if n > STRING {
-        return;
+        return Ok(());
     }
     let mut left: [Cell; STRING] = [0; STRING];
     let mut right: [Cell; STRING] = [0; STRING];
     compare_read(
+        out,
         h,
         q.line,
         text,
@@ -99,5 +104,5 @@ pub fn compare(
         index,
         &mut left[..m],
         &mut right[..n],
-    );
+    )
 }

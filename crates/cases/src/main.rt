@@ -5,10 +5,13 @@
 #![tactic(auto)]
 
 use constants::{Cell, LARGEST_LIMIT, ROW_WIDTH, WORK_UNITS};
-use libc::STDOUT_FILENO;
 use outcomes::recorded;
+use programs::{argument_count, read_book};
 use reports::header::Header;
 use reports::{arguments, header, report};
+use std::io;
+use std::io::{Read, Write};
+use std::rt::{Env, Files};
 
 // How many books are listed.
 const LISTED: usize = 3;
@@ -29,7 +32,8 @@ const INDEX: usize = 16385;
 const ANSWER: usize = 64;
 
 // Reports what is recorded of n lines, and what became of every other cell.
-fn report_stores(
+fn report_stores<W: Write>(
+    out: &mut W,
     h: Header,
     n: u32,
     book: &[u8],
@@ -37,31 +41,33 @@ fn report_stores(
     terms: &[Cell],
     work: &[Cell],
     index: &[u32],
-) {
+) -> io::Result<()> {
     let shown = report::least(n, h.last);
-    report::rows(book, table, terms, shown);
-    report::entries(index, n, shown);
-    report::other_names(book, table, n);
-    report::other_cells(table, terms, work, n, h.limit);
+    report::rows(out, book, table, terms, shown)?;
+    report::entries(out, index, n, shown)?;
+    report::other_names(out, book, table, n)?;
+    report::other_cells(out, table, terms, work, n, h.limit)
 }
 
 // Checks the book and reports.
-fn check(
+fn check<W: Write>(
+    out: &mut W,
     h: Header,
     book: &[u8],
     table: &mut [u32],
     terms: &mut [Cell],
     work: &mut [Cell],
     index: &mut [u32],
-) {
+) -> io::Result<()> {
     let o = verifier::check_book(book, h.budget, h.limit, table, terms, work, index);
     let r = verifier::numbers_of(o);
-    report::outcome(r);
-    report_stores(h, recorded(r), book, table, terms, work, index);
+    report::outcome(out, r)?;
+    report_stores(out, h, recorded(r), book, table, terms, work, index)
 }
 
 // Asks what a line rests on, and reports.
-fn ask(
+fn ask<W: Write>(
+    out: &mut W,
     h: Header,
     line: u32,
     book: &[u8],
@@ -70,13 +76,14 @@ fn ask(
     work: &mut [Cell],
     index: &mut [u32],
     answer: &mut [u32],
-) {
+) -> io::Result<()> {
     let a = verifier::rests_on(
         book, h.budget, h.limit, table, terms, work, index, line, answer,
     );
     let r = verifier::answer_numbers(a);
-    report::answer(r, answer);
+    report::answer(out, r, answer)?;
     report_stores(
+        out,
         h,
         report::admitted(r, book),
         book,
@@ -84,11 +91,12 @@ fn ask(
         terms,
         work,
         index,
-    );
+    )
 }
 
 // One of the two calls.
-fn call(
+fn call<W: Write>(
+    out: &mut W,
     asks: bool,
     h: Header,
     line: u32,
@@ -98,16 +106,17 @@ fn call(
     work: &mut [Cell],
     index: &mut [u32],
     answer: &mut [u32],
-) {
+) -> io::Result<()> {
     if asks {
-        ask(h, line, book, table, terms, work, index, answer);
+        ask(out, h, line, book, table, terms, work, index, answer)
     } else {
-        check(h, book, table, terms, work, index);
+        check(out, h, book, table, terms, work, index)
     }
 }
 
 // One of the two calls of a case, with the first cells of these stores, as many as its header gives.
-fn case_of(
+fn case_of<W: Write>(
+    out: &mut W,
     asks: bool,
     text: &[u8],
     table: &mut [u32],
@@ -115,7 +124,7 @@ fn case_of(
     work: &mut [Cell],
     index: &mut [u32],
     answer: &mut [u32],
-) {
+) -> io::Result<()> {
     let h = header::read(text);
     let q = header::asked(text, h.next);
     let start = q.start;
@@ -125,24 +134,25 @@ fn case_of(
     let entries = h.index;
     let list = q.room;
     if start > text.len() {
-        return;
+        return Ok(());
     }
     if rows > table.len() {
-        return;
+        return Ok(());
     }
     if cells > terms.len() {
-        return;
+        return Ok(());
     }
     if room > work.len() {
-        return;
+        return Ok(());
     }
     if entries > index.len() {
-        return;
+        return Ok(());
     }
     if list > answer.len() {
-        return;
+        return Ok(());
     }
     call(
+        out,
         asks,
         h,
         q.line,
@@ -152,17 +162,18 @@ fn case_of(
         &mut work[..room],
         &mut index[..entries],
         &mut answer[..list],
-    );
+    )
 }
 
 // The case in these bytes.
-fn run(asks: bool, text: &[u8]) {
+fn run<W: Write>(out: &mut W, asks: bool, text: &[u8]) -> io::Result<()> {
     let mut table = [7u32; TABLE];
     let mut terms: [Cell; TERMS] = [7; TERMS];
     let mut work: [Cell; WORK] = [7; WORK];
     let mut index = [7u32; INDEX];
     let mut answer = [7u32; ANSWER];
     case_of(
+        out,
         asks,
         text,
         &mut table,
@@ -170,40 +181,40 @@ fn run(asks: bool, text: &[u8]) {
         &mut work,
         &mut index,
         &mut answer,
-    );
+    )
 }
 
 // The case in an open file.
-fn case_in(fd: i32) {
+fn case_in<R: Read, W: Write>(from: &mut R, out: &mut W) -> io::Result<()> {
     let mut text = [0u8; TEXT];
-    let n = io::read_full(fd, &mut text);
-    run(false, &text[..n]);
+    let n = read_book(from, &mut text).bytes;
+    run(out, false, &text[..n])?;
     let h = header::read(&text[..n]);
     let q = header::asked(&text[..n], h.next);
     if q.asks {
-        run(true, &text[..n]);
+        run(out, true, &text[..n])?;
     }
+    Ok(())
 }
 
 // The book or the case in the file that argument i names.
-fn argument(i: usize) {
-    let fd = arguments::open(i);
-    if fd < 0 {
-        return;
-    }
+fn argument<R: Env + Files + Print + Eprint>(rt: &R, i: usize) -> io::Result<()> {
+    let Some(mut file) = arguments::open(rt, i)? else {
+        return Ok(());
+    };
+    let mut out = io::writer(rt);
     if i > LISTED {
-        case_in(fd);
-    } else {
-        listing::list_book(fd, STDOUT_FILENO);
+        return case_in(&mut file, &mut out);
     }
-    libc::close(fd);
+    listing::list_book(rt, &mut file, &mut out)
 }
 
-fn main() {
-    let n = os::arg_count();
+fn main(rt: HostRuntime) -> io::Result<()> {
+    let n = argument_count(&rt);
     let mut i = 1;
     while i < n {
-        argument(i);
+        argument(&rt, i)?;
         i = i + 1;
     }
+    Ok(())
 }

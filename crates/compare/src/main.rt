@@ -5,7 +5,7 @@
 // else.
 #![tactic(auto)]
 
-ghost use Rattle.io.specs.Counts.{IsPrefixLen};
+ghost use Rattle.std.specs.Prelude.{◌≤◌, length};
 
 use books::check_linked;
 use cells::line_at;
@@ -13,10 +13,14 @@ use columns::{ROW, put_number, put_outcome};
 use constants::{Cell, DUPLICATE, OUT_OF_SPACE, ROW_WIDTH, TOO_LARGE, WORK_UNITS};
 use copies::load;
 use kinds::kinds_of_bytes;
-use libc::{STDERR_FILENO, STDIN_FILENO, STDOUT_FILENO};
 use outcomes::Numbers;
-use programs::{BUDGET, BYTES, INDEX, LIMIT, LINES, TERMS, read_book, write_first};
+use programs::{
+    BUDGET, BYTES, INDEX, LIMIT, LINES, TERMS, argument_count, fail, read_book, write_first,
+};
 use reader::{Line, read_line};
+use std::env::FillError;
+use std::io;
+use std::rt::Env;
 
 // The most bytes of an argument.
 const TEXT: usize = 4096;
@@ -41,17 +45,22 @@ fn put_signs(line: &mut [u8]) {
     if line.len() < LINE {
         return;
     }
-    bytes::copy(b"*     0:=PN:", &mut line[STAR..EXPRESSION]);
+    line[STAR..EXPRESSION].copy_from_slice(b"*     0:=PN:");
     line[LAST] = b'\n';
 }
 
+// Argument i, at the start of `text`; nothing where there is none.
+fn put_argument<E: Env>(rt: &E, i: usize, text: &mut [u8]) {
+    let _ = rt.arg(i, text);
+}
+
 // The texts of the line for argument i: its indicator and its expression.
-fn put_texts(line: &mut [u8], i: usize) {
+fn put_texts<E: Env>(rt: &E, line: &mut [u8], i: usize) {
     if line.len() < LINE {
         return;
     }
-    os::arg(3, &mut line[INDICATOR..STAR]);
-    os::arg(i, &mut line[EXPRESSION..LAST]);
+    put_argument(rt, 3, &mut line[INDICATOR..STAR]);
+    put_argument(rt, i, &mut line[EXPRESSION..LAST]);
 }
 
 // The line as it is read behind the book, with the first number for its identifier that no line and no paragraph has. A book of BYTES bytes
@@ -87,7 +96,7 @@ struct Read {
 
 // The cells of the line that was read, at the start of `string`.
 fn store(l: Line, work: &[Cell], string: &mut [Cell]) -> Read
-    ensures { IsPrefixLen result.size string.new }
+    ensures { result.size ≤ length string.new }
 {
     let size = l.size;
     if size > string.len() {
@@ -104,7 +113,8 @@ fn store(l: Line, work: &[Cell], string: &mut [Cell]) -> Read
 }
 
 // The expression that is argument i, its cells at the start of `string`.
-fn read_argument(
+fn read_argument<E: Env>(
+    rt: &E,
     i: usize,
     book: &[u8],
     table: &[u32],
@@ -112,11 +122,11 @@ fn read_argument(
     work: &mut [Cell],
     string: &mut [Cell],
 ) -> Read
-    ensures { IsPrefixLen result.size string.new }
+    ensures { result.size ≤ length string.new }
 {
     let mut line = [b' '; LINE];
     put_signs(&mut line);
-    put_texts(&mut line, i);
+    put_texts(rt, &mut line, i);
     let l = read_numbered(&mut line, book, table, lines, work);
     store(l, work, string)
 }
@@ -168,14 +178,14 @@ fn refused(code: u32, lines: usize, i: usize) -> Numbers {
 }
 
 // What the comparison of the expressions ends with, over a book of so many lines.
-fn compare_behind(book: &[u8], table: &[u32], lines: usize, work: &mut [Cell]) -> Numbers {
+fn compare_behind<E: Env>(rt: &E, book: &[u8], table: &[u32], lines: usize, work: &mut [Cell]) -> Numbers {
     let mut left: [Cell; LIMIT] = [0; LIMIT];
-    let l = read_argument(1, book, table, lines, work, &mut left);
+    let l = read_argument(rt, 1, book, table, lines, work, &mut left);
     if l.code != 0 {
         return refused(l.code, lines, 1);
     }
     let mut right: [Cell; LIMIT] = [0; LIMIT];
-    let r = read_argument(2, book, table, lines, work, &mut right);
+    let r = read_argument(rt, 2, book, table, lines, work, &mut right);
     if r.code != 0 {
         return refused(r.code, lines, 2);
     }
@@ -185,7 +195,7 @@ fn compare_behind(book: &[u8], table: &[u32], lines: usize, work: &mut [Cell]) -
 }
 
 // What the comparison of the expressions ends with.
-fn compare(book: &[u8]) -> Numbers {
+fn compare<E: Env>(rt: &E, book: &[u8]) -> Numbers {
     if book.len() > BYTES {
         return refused(OUT_OF_SPACE, 0, 0);
     }
@@ -199,55 +209,49 @@ fn compare(book: &[u8]) -> Numbers {
     if p.code != 0 {
         return compare_strings(book, &[], &[]);
     }
-    compare_behind(book, &table, p.lines, &mut work)
+    compare_behind(rt, book, &table, p.lines, &mut work)
 }
 
 // Is argument i missing, or not too long?
-fn fits(i: usize) -> bool {
+fn fits<E: Env>(rt: &E, i: usize) -> bool {
     let mut text = [0u8; TEXT];
-    os::arg(i, &mut text);
-    os::errno() != libc::ENAMETOOLONG
+    !matches!(rt.arg(i, &mut text), Err(FillError::TooLong))
 }
 
 // Are there two or three arguments, none too long?
-fn is_usage() -> bool {
-    let n = os::arg_count();
+fn is_usage<E: Env>(rt: &E) -> bool {
+    let n = argument_count(rt);
     if n < 3 {
         return false;
     }
     if n > 4 {
         return false;
     }
-    if fits(1) {
-        if fits(2) {
-            return fits(3);
+    if fits(rt, 1) {
+        if fits(rt, 2) {
+            return fits(rt, 3);
         }
     }
     false
 }
 
 // Compares the expressions over the book that is on standard input, and writes what that ends with.
-fn compare_input() {
+fn compare_input(rt: HostRuntime) -> io::Result<()> {
     let mut book = [0u8; BYTES + 1];
-    let r = read_book(STDIN_FILENO, &mut book);
-    if r.failed {
-        os::fail(b"reading the book");
-        return;
+    let r = read_book(&mut rt.stdin(), &mut book);
+    if let Some(e) = r.failed {
+        return fail(&rt, "reading the book", e);
     }
     let n = r.bytes;
-    let o = compare(&book[..n]);
+    let o = compare(&rt, &book[..n]);
     let mut out = [0u8; ROW];
     let m = put_outcome(&mut out, 0, o);
-    write_first(STDOUT_FILENO, &out, m);
+    write_first(&mut rt.stdout(), &out, m)
 }
 
-fn main() {
-    if is_usage() {
-        compare_input();
-    } else {
-        io::write_all(
-            STDERR_FILENO,
-            b"usage: compare LEFT RIGHT [INDICATOR] < BOOK\n",
-        );
+fn main(rt: HostRuntime) -> io::Result<()> {
+    if is_usage(&rt) {
+        return compare_input(rt);
     }
+    eprintln!(rt; "usage: compare LEFT RIGHT [INDICATOR] < BOOK")
 }

@@ -24,9 +24,9 @@ use Rattle.cells.specs.Stores.{outside_same, outside_then, outside_more}
 use Rattle.heads.specs.Book.{Book}
 use Rattle.sides.specs.Posts.{Pair, Placed, SaysIdentical, Opens, Turned, Turns}
 use Rattle.sides.specs.Posts
-use Rattle.sides.proofs.Opening.{opened_identical}
+use Rattle.sides.proofs.OpeningLaws.{opened_identical}
 use Rattle.sides.proofs.Steps.{answered}
-use Rattle.sides.proofs.Progress.{Below, PutInPlace, Went, Progressed, progress_none, progress_then, placed_from, went_from, below_from}
+use Rattle.sides.proofs.ProgressLaws.{Below, PutInPlace, Went, Progressed, progress_none, progress_then, placed_from, went_from, below_from}
 use Rattle.comparison.specs.Posts.{ComparesFirst, AttemptsParts}
 use Rattle.comparison.proofs.Depths.{result_is, Opened, placed, pair_frame, deeper_unit, pair_below, pair_kept}
 

@@ -14,7 +14,7 @@ use symbols::UsedName;
 // How far a walk came. code: 0, or the refusal of the form (3 or 10), which ends the walk. at: the next byte. to: the next
 // cell; one past the store's end, and staying there, where the store had no room or something was put in too deep. fault: the
 // first refusal of a name (5, 6 or 14), or 0; it says something only if code is 0. count: the arguments read, for an argument string.
-#[derive(Drop)]
+#[derive(Clone, Copy)]
 pub struct Reading {
     pub code: u32,
     pub at: usize,

@@ -1,8 +1,8 @@
 // Lists the book that is on standard input.
 #![tactic(auto)]
 
-use libc::{STDIN_FILENO, STDOUT_FILENO};
+use std::io;
 
-fn main() {
-    listing::list_book(STDIN_FILENO, STDOUT_FILENO);
+fn main(rt: HostRuntime) -> io::Result<()> {
+    listing::list_book(&rt, &mut rt.stdin(), &mut rt.stdout())
 }

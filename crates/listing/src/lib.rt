@@ -4,7 +4,9 @@
 use columns::{ROW, put_lines, put_outcome};
 use constants::{Cell, OUT_OF_SPACE, ROW_WIDTH, WORK_UNITS};
 use outcomes::{Numbers, recorded};
-use programs::{BUDGET, BYTES, INDEX, LIMIT, LINES, TERMS, read_book, write_first};
+use programs::{BUDGET, BYTES, INDEX, LIMIT, LINES, TERMS, fail, read_book, write_first};
+use std::io;
+use std::io::{Read, Write};
 
 // The listing of a book, at the start of out. The answer: how many bytes it has.
 fn listing(book: &[u8], out: &mut [u8]) -> usize {
@@ -39,15 +41,18 @@ fn listing(book: &[u8], out: &mut [u8]) -> usize {
 }
 
 // Lists the book that `from` has, on `to`. Where a read fails, standard error says why, and nothing is listed.
-pub fn list_book(from: i32, to: i32) {
+pub fn list_book<E: Eprint, R: Read, W: Write>(
+    rt: &E,
+    from: &mut R,
+    to: &mut W,
+) -> io::Result<()> {
     let mut book = [0u8; BYTES + 1];
     let r = read_book(from, &mut book);
-    if r.failed {
-        os::fail(b"reading the book");
-        return;
+    if let Some(e) = r.failed {
+        return fail(rt, "reading the book", e);
     }
     let n = r.bytes;
     let mut out = [0u8; ROW * (LINES + 1)];
     let m = listing(&book[..n], &mut out);
-    write_first(to, &out, m);
+    write_first(to, &out, m)
 }

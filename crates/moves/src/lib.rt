@@ -14,7 +14,7 @@ use noting::{note_closing, note_opening};
 use paragraphs::is_taken;
 
 // The open paragraphs, by value: where the name of each stands in the book, the outermost first.
-#[derive(Drop)]
+#[derive(Clone, Copy)]
 pub struct Open {
     pub starts: [u32; OPEN_LIMIT],
     pub lens: [u32; OPEN_LIMIT],

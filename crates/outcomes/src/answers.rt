@@ -25,7 +25,7 @@ pub enum Answer {
 
 // Code, line, steps, and the length of the answer; C callers get them so.
 #[repr(C)]
-#[derive(Drop)]
+#[derive(Clone, Copy)]
 pub struct AnswerNumbers {
     pub code: u32,
     pub line: u32,

@@ -26,7 +26,7 @@ pub enum Outcome {
 }
 
 // Document 01's numbers: code, line, steps.
-#[derive(Drop)]
+#[derive(Clone, Copy)]
 pub struct Numbers {
     pub code: u32,
     pub line: u32,

@@ -4,9 +4,10 @@
 
 use columns::{ROW, put_outcome};
 use constants::{Cell, OUT_OF_SPACE, PAGE_ROW, ROW_WIDTH, TEXT_COLUMNS, WORK_UNITS};
-use libc::{STDERR_FILENO, STDIN_FILENO, STDOUT_FILENO};
 use outcomes::{AnswerNumbers, Numbers};
-use programs::{BUDGET, BYTES, INDEX, LIMIT, LINES, TERMS, read_book, write_first};
+use programs::{BUDGET, BYTES, INDEX, LIMIT, LINES, TERMS, fail, read_book, write_first};
+use std::io;
+use std::io::Write;
 
 // Room for the pages of every book of so many bytes and lines.
 const PAGE: usize = PAGE_ROW * (LINES + BYTES / TEXT_COLUMNS);
@@ -39,7 +40,7 @@ fn print(book: &[u8], page: &mut [u8]) -> AnswerNumbers {
 }
 
 // Code, line and steps on standard error.
-fn refuse(a: AnswerNumbers) {
+fn refuse<W: Write>(to: &mut W, a: AnswerNumbers) -> io::Result<()> {
     let mut out = [0u8; ROW];
     let r = Numbers {
         code: a.code,
@@ -47,28 +48,31 @@ fn refuse(a: AnswerNumbers) {
         steps: a.steps,
     };
     let n = put_outcome(&mut out, 0, r);
-    write_first(STDERR_FILENO, &out, n);
+    write_first(to, &out, n)
 }
 
 // The pages on standard output; of a book that is refused, code, line and steps on standard error.
-fn write_answer(a: AnswerNumbers, page: &[u8]) {
+fn write_answer<O: Write, E: Write>(
+    out: &mut O,
+    err: &mut E,
+    a: AnswerNumbers,
+    page: &[u8],
+) -> io::Result<()> {
     if a.code != 0 {
-        refuse(a);
-        return;
+        return refuse(err, a);
     }
     let length = a.length as usize;
-    write_first(STDOUT_FILENO, page, length);
+    write_first(out, page, length)
 }
 
-fn main() {
+fn main(rt: HostRuntime) -> io::Result<()> {
     let mut book = [0u8; BYTES + 1];
-    let r = read_book(STDIN_FILENO, &mut book);
-    if r.failed {
-        os::fail(b"reading the book");
-        return;
+    let r = read_book(&mut rt.stdin(), &mut book);
+    if let Some(e) = r.failed {
+        return fail(&rt, "reading the book", e);
     }
     let n = r.bytes;
     let mut page = [0u8; PAGE];
     let a = print(&book[..n], &mut page);
-    write_answer(a, &page);
+    write_answer(&mut rt.stdout(), &mut rt.stderr(), a, &page)
 }

@@ -4,25 +4,26 @@ use constants::{
     CATEGORY_END, CATEGORY_START, Cell, LIMIT_OUT_OF_RANGE, MIDDLE_START, ROW_WIDTH,
     WORK_TOO_SMALL, WORK_UNITS,
 };
-use libc::STDOUT_FILENO;
 use names::identifier;
 use outcomes::{AnswerNumbers, Numbers};
 use programs::write_first;
+use std::io;
+use std::io::Write;
 
 // A number in decimal and the byte c.
-fn say(x: u64, c: u8) {
-    io::print_decimal(STDOUT_FILENO, x);
-    io::write_all(STDOUT_FILENO, &[c]);
+fn say<W: Write>(out: &mut W, x: u64, c: u8) -> io::Result<()> {
+    write!(out, "{x}")?;
+    out.write_all(&[c])
 }
 
 // A space and a number in decimal.
-fn spaced(x: u64) {
-    io::write_all(STDOUT_FILENO, &[b' ']);
-    io::print_decimal(STDOUT_FILENO, x);
+fn spaced<W: Write>(out: &mut W, x: u64) -> io::Result<()> {
+    out.write_all(&[b' '])?;
+    write!(out, "{x}")
 }
 
-fn cell(x: u32) {
-    spaced(x as u64);
+fn cell<W: Write>(out: &mut W, x: u32) -> io::Result<()> {
+    spaced(out, x as u64)
 }
 
 pub fn least(a: u32, b: u32) -> u32 {
@@ -30,66 +31,81 @@ pub fn least(a: u32, b: u32) -> u32 {
 }
 
 // Code, line, steps.
-pub fn outcome(r: Numbers) {
-    say(r.code as u64, b' ');
-    say(r.line as u64, b' ');
-    say(r.steps as u64, 10);
+pub fn outcome<W: Write>(out: &mut W, r: Numbers) -> io::Result<()> {
+    say(out, r.code as u64, b' ')?;
+    say(out, r.line as u64, b' ')?;
+    say(out, r.steps as u64, 10)
 }
 
 // The cells from index `from` on, below `to`, each behind a space.
-fn cells_between(s: &[u32], from: usize, to: usize) {
+fn cells_between<W: Write>(out: &mut W, s: &[u32], from: usize, to: usize) -> io::Result<()> {
     let mut i = from;
     while i < to {
         if i >= s.len() {
-            return;
+            return Ok(());
         }
-        cell(s[i]);
+        cell(out, s[i])?;
         i = i + 1;
     }
+    Ok(())
 }
 
 // The cells of the row of a line, each behind a space.
-fn row_cells(table: &[u32], line: usize) {
+fn row_cells<W: Write>(out: &mut W, table: &[u32], line: usize) -> io::Result<()> {
     let mut k = 0;
     while k < ROW_WIDTH {
-        spaced(field(table, line, k) as u64);
+        spaced(out, field(table, line, k) as u64)?;
         k = k + 1;
     }
+    Ok(())
 }
 
 // Line v: its number, its identifier, the cells of its row, `:` and the cells of its middle, `:` and those of its category.
-fn row(book: &[u8], table: &[u32], terms: &[Cell], v: u32) {
-    say(v as u64, b' ');
-    io::write_all(STDOUT_FILENO, identifier(book, table, v));
+fn row<W: Write>(
+    out: &mut W,
+    book: &[u8],
+    table: &[u32],
+    terms: &[Cell],
+    v: u32,
+) -> io::Result<()> {
+    say(out, v as u64, b' ')?;
+    out.write_all(identifier(book, table, v))?;
     let line = v as usize;
-    row_cells(table, line);
+    row_cells(out, table, line)?;
     let middle = field(table, line, MIDDLE_START);
     let category = field(table, line, CATEGORY_START);
     let end = field(table, line, CATEGORY_END);
-    io::write_all(STDOUT_FILENO, &[b' ', b':']);
-    cells_between(terms, middle, category);
-    io::write_all(STDOUT_FILENO, &[b' ', b':']);
-    cells_between(terms, category, end);
-    io::write_all(STDOUT_FILENO, &[10]);
+    out.write_all(&[b' ', b':'])?;
+    cells_between(out, terms, middle, category)?;
+    out.write_all(&[b' ', b':'])?;
+    cells_between(out, terms, category, end)?;
+    out.write_all(&[10])
 }
 
 // The first n lines.
-pub fn rows(book: &[u8], table: &[u32], terms: &[Cell], n: u32) {
+pub fn rows<W: Write>(
+    out: &mut W,
+    book: &[u8],
+    table: &[u32],
+    terms: &[Cell],
+    n: u32,
+) -> io::Result<()> {
     let mut v = 0;
     while v < n {
         v = v + 1;
-        row(book, table, terms, v);
+        row(out, book, table, terms, v)?;
     }
+    Ok(())
 }
 
 // The lengths of the identifiers of line 0, of the line behind the n recorded ones, and of the last number of 32 bits.
-pub fn other_names(book: &[u8], table: &[u32], n: u32) {
-    io::write_all(STDOUT_FILENO, b"names ");
-    say(identifier(book, table, 0).len() as u64, b' ');
+pub fn other_names<W: Write>(out: &mut W, book: &[u8], table: &[u32], n: u32) -> io::Result<()> {
+    out.write_all(b"names ")?;
+    say(out, identifier(book, table, 0).len() as u64, b' ')?;
     if n < 4294967295 {
-        say(identifier(book, table, n + 1).len() as u64, b' ');
+        say(out, identifier(book, table, n + 1).len() as u64, b' ')?;
     }
-    say(identifier(book, table, 4294967295).len() as u64, 10);
+    say(out, identifier(book, table, 4294967295).len() as u64, 10)
 }
 
 // How many cells from index `from` on, below `to`, are not x.
@@ -136,48 +152,55 @@ fn entries_end(index: &[u32], n: u32) -> usize {
 }
 
 // The index: the entries of the first `shown` lines, and how many cells changed behind those of the n recorded ones.
-pub fn entries(index: &[u32], n: u32, shown: u32) {
-    io::write_all(STDOUT_FILENO, b"index");
-    cells_between(index, 0, entries_end(index, shown));
-    io::write_all(STDOUT_FILENO, b" : ");
-    say(changed(index, entries_end(index, n)), 10);
+pub fn entries<W: Write>(out: &mut W, index: &[u32], n: u32, shown: u32) -> io::Result<()> {
+    out.write_all(b"index")?;
+    cells_between(out, index, 0, entries_end(index, shown))?;
+    out.write_all(b" : ")?;
+    say(out, changed(index, entries_end(index, n)), 10)
 }
 
 // Cells of table and term store that changed behind those of the n recorded lines; of the first WORK_UNITS × limit working cells
 // those that are not 0; working cells that changed behind them; all working cells that changed.
-pub fn other_cells(table: &[u32], terms: &[Cell], work: &[Cell], n: u32, limit: u32) {
+pub fn other_cells<W: Write>(
+    out: &mut W,
+    table: &[u32],
+    terms: &[Cell],
+    work: &[Cell],
+    n: u32,
+    limit: u32,
+) -> io::Result<()> {
     let lines = n as usize;
     let room = WORK_UNITS * (limit as usize);
-    io::write_all(STDOUT_FILENO, b"cells ");
-    say(changed(table, ROW_WIDTH * lines), b' ');
-    say(changed(terms, field(table, lines, CATEGORY_END)), b' ');
-    say(others(work, 0, room, 0), b' ');
-    say(changed(work, room), b' ');
-    say(changed(work, 0), 10);
+    out.write_all(b"cells ")?;
+    say(out, changed(table, ROW_WIDTH * lines), b' ')?;
+    say(out, changed(terms, field(table, lines, CATEGORY_END)), b' ')?;
+    say(out, others(work, 0, room, 0), b' ')?;
+    say(out, changed(work, room), b' ')?;
+    say(out, changed(work, 0), 10)
 }
 
 // Code, line, steps and length of a call other than the check, and the byte c.
-fn numbers(r: AnswerNumbers, c: u8) {
-    say(r.code as u64, b' ');
-    say(r.line as u64, b' ');
-    say(r.steps as u64, b' ');
-    say(r.length as u64, c);
+fn numbers<W: Write>(out: &mut W, r: AnswerNumbers, c: u8) -> io::Result<()> {
+    say(out, r.code as u64, b' ')?;
+    say(out, r.line as u64, b' ')?;
+    say(out, r.steps as u64, b' ')?;
+    say(out, r.length as u64, c)
 }
 
 // What a call wrote: its numbers; the cells of the answer; how many cells changed behind them.
-pub fn written(r: AnswerNumbers, cells: &[u32]) {
+pub fn written<W: Write>(out: &mut W, r: AnswerNumbers, cells: &[u32]) -> io::Result<()> {
     let length = r.length as usize;
-    numbers(r, b' ');
-    io::write_all(STDOUT_FILENO, b":");
-    cells_between(cells, 0, length);
-    io::write_all(STDOUT_FILENO, b" : ");
-    say(changed(cells, length), 10);
+    numbers(out, r, b' ')?;
+    out.write_all(b":")?;
+    cells_between(out, cells, 0, length)?;
+    out.write_all(b" : ")?;
+    say(out, changed(cells, length), 10)
 }
 
 // What a line rests on.
-pub fn answer(r: AnswerNumbers, cells: &[u32]) {
-    io::write_all(STDOUT_FILENO, b"rests ");
-    written(r, cells);
+pub fn answer<W: Write>(out: &mut W, r: AnswerNumbers, cells: &[u32]) -> io::Result<()> {
+    out.write_all(b"rests ")?;
+    written(out, r, cells)
 }
 
 // How many bytes from index `from` on are not 7.
@@ -194,12 +217,12 @@ fn changed_bytes(s: &[u8], from: usize) -> u64 {
 }
 
 // A printed book: the numbers of the call; the bytes of the pages; how many bytes changed behind them.
-pub fn pages(r: AnswerNumbers, page: &[u8]) {
+pub fn pages<W: Write>(out: &mut W, r: AnswerNumbers, page: &[u8]) -> io::Result<()> {
     let length = r.length as usize;
-    numbers(r, 10);
-    write_first(STDOUT_FILENO, page, length);
-    io::write_all(STDOUT_FILENO, b"changed ");
-    say(changed_bytes(page, length), 10);
+    numbers(out, r, 10)?;
+    write_first(out, page, length)?;
+    out.write_all(b"changed ")?;
+    say(out, changed_bytes(page, length), 10)
 }
 
 // How many lines of the book are no paragraph lines: the bytes 10, but for those behind a line that begins with a sign; 2^32 - 1 if there
@@ -245,7 +268,8 @@ pub fn admitted(r: AnswerNumbers, book: &[u8]) -> u32 {
 }
 
 // What a comparison ends with, and what became of the stores behind the lines that were admitted.
-pub fn compared(
+pub fn compared<W: Write>(
+    out: &mut W,
     r: AnswerNumbers,
     book: &[u8],
     table: &[u32],
@@ -253,15 +277,15 @@ pub fn compared(
     work: &[Cell],
     index: &[u32],
     limit: u32,
-) {
+) -> io::Result<()> {
     let n = admitted(r, book);
-    numbers(r, 10);
-    entries(index, n, 0);
-    other_cells(table, terms, work, n, limit);
+    numbers(out, r, 10)?;
+    entries(out, index, n, 0)?;
+    other_cells(out, table, terms, work, n, limit)
 }
 
 // A place of a sheet.
-pub fn place(r: AnswerNumbers) {
-    io::write_all(STDOUT_FILENO, b"place ");
-    numbers(r, 10);
+pub fn place<W: Write>(out: &mut W, r: AnswerNumbers) -> io::Result<()> {
+    out.write_all(b"place ")?;
+    numbers(out, r, 10)
 }

@@ -3,8 +3,8 @@ pub mod Places
 pub mod Choosing
 pub mod Heads
 pub mod Same
-pub mod Shapes
+pub mod ShapesLaws
 pub mod Steps
-pub mod Opening
-pub mod Progress
+pub mod OpeningLaws
+pub mod ProgressLaws
 pub mod Settling

@@ -12,9 +12,9 @@ use Rattle.aut68.specs.Lines.{Lines}
 use Rattle.aut68.specs.Procedure.Compare.{Comparison, sides}
 use Rattle.sides.specs.Posts.{Opens, Turned, Turns, Goes, Settles}
 use Rattle.sides.specs.Posts
-use Rattle.sides.proofs.Opening.{opened_identical}
+use Rattle.sides.proofs.OpeningLaws.{opened_identical}
 use Rattle.agreement.specs.Sides.{next_same, sides_same, sides_parts, sides_spent, sides_step, sides_large}
-use Rattle.sides.proofs.Progress.{Went, Progressed, progress_then, PutInPlace, placed_from, went_from, below_from}
+use Rattle.sides.proofs.ProgressLaws.{Went, Progressed, progress_then, PutInPlace, placed_from, went_from, below_from}
 
 -- the first comparison of two sides under a limit, its parts compared by `inner`
 abbrev pub sides_under : ℕ → Lines → Comparison → Comparison

@@ -5,7 +5,11 @@
 
 use constants::{Cell, NARROW_VALUES, NarrowCell};
 use outcomes::answer_numbers;
+use programs::{argument_count, read_book};
 use reports::{arguments, header, report};
+use std::io;
+use std::io::{Read, Write};
+use std::rt::{Env, Files};
 
 // The most bytes of a case, and the most cells of a source and of a target.
 const TEXT: usize = 1024;
@@ -53,72 +57,89 @@ fn same_numbers(narrow: &[NarrowCell], wide: &mut [Cell]) {
 }
 
 // The first n cells of a source of narrow cells, widened into the first cells of the target.
-fn widened(source: &[NarrowCell], n: usize, target: &mut [Cell], room: usize) {
+fn widened<W: Write>(
+    out: &mut W,
+    source: &[NarrowCell],
+    n: usize,
+    target: &mut [Cell],
+    room: usize,
+) -> io::Result<()> {
     if n > source.len() {
-        return;
+        return Ok(());
     }
     if room > target.len() {
-        return;
+        return Ok(());
     }
     let a = widths::widen(&source[..n], &mut target[..room]);
-    report::written(answer_numbers(a), target);
+    report::written(out, answer_numbers(a), target)
 }
 
 // The first n cells of a source, narrowed into the first cells of the target. They are shown from wide cells.
-fn narrowed(source: &[Cell], n: usize, target: &mut [NarrowCell], room: usize, shown: &mut [Cell]) {
+fn narrowed<W: Write>(
+    out: &mut W,
+    source: &[Cell],
+    n: usize,
+    target: &mut [NarrowCell],
+    room: usize,
+    shown: &mut [Cell],
+) -> io::Result<()> {
     if n > source.len() {
-        return;
+        return Ok(());
     }
     if room > target.len() {
-        return;
+        return Ok(());
     }
     let a = widths::narrow(&source[..n], &mut target[..room]);
     same_numbers(target, shown);
-    report::written(answer_numbers(a), shown);
+    report::written(out, answer_numbers(a), shown)
 }
 
 // A case.
-fn case_of(text: &[u8], source: &mut [Cell], narrow: &mut [NarrowCell], wide: &mut [Cell]) {
+fn case_of<W: Write>(
+    out: &mut W,
+    text: &[u8],
+    source: &mut [Cell],
+    narrow: &mut [NarrowCell],
+    wide: &mut [Cell],
+) -> io::Result<()> {
     if text.len() == 0 {
-        return;
+        return Ok(());
     }
     if text[0] == b'w' {
         let room = header::number(text, 6);
         let n = numbers(text, room.next, source);
         low_bits(source, narrow);
-        widened(narrow, n, wide, room.value as usize);
-        return;
+        return widened(out, narrow, n, wide, room.value as usize);
     }
     let room = header::number(text, 7);
     let n = numbers(text, room.next, source);
-    narrowed(source, n, narrow, room.value as usize, wide);
+    narrowed(out, source, n, narrow, room.value as usize, wide)
 }
 
 // The case in an open file.
-fn case_in(fd: i32) {
+fn case_in<R: Read, W: Write>(from: &mut R, out: &mut W) -> io::Result<()> {
     let mut text = [0u8; TEXT];
-    let n = io::read_full(fd, &mut text);
+    let n = read_book(from, &mut text).bytes;
     let mut source: [Cell; CELLS] = [0; CELLS];
     let mut narrow: [NarrowCell; CELLS] = [7; CELLS];
     let mut wide: [Cell; CELLS] = [7; CELLS];
-    case_of(&text[..n], &mut source, &mut narrow, &mut wide);
+    case_of(out, &text[..n], &mut source, &mut narrow, &mut wide)
 }
 
 // The case in the file that argument i names.
-fn argument(i: usize) {
-    let fd = arguments::open(i);
-    if fd < 0 {
-        return;
-    }
-    case_in(fd);
-    libc::close(fd);
+fn argument<R: Env + Files + Print + Eprint>(rt: &R, i: usize) -> io::Result<()> {
+    let Some(mut file) = arguments::open(rt, i)? else {
+        return Ok(());
+    };
+    case_in(&mut file, &mut io::writer(rt))
 }
 
-fn main() {
-    let n = os::arg_count();
+fn main(rt: HostRuntime) -> io::Result<()> {
+    let n = argument_count(&rt);
     let mut i = 1;
     while i < n {
-        argument(i);
+        argument(&rt, i)?;
         i = i + 1;
     }
+    Ok(())
 }

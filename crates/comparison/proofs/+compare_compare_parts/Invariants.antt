@@ -1,0 +1,21 @@
+use native.Mathlib.Omega.{arith}
+use Prim.Native.Nat.{ℕ, ◌+◌, ◌*◌, ◌<◌}
+use mathlib.Core.Path.{refl, ◌∙◌}
+use Rattle.aut68.specs.Language.{aut68}
+use Rattle.aut68.specs.Procedure.Compare.{compare_at}
+use Rattle.comparison.proofs.Depths.{no_levels, many_levels, no_units, Opened, side_small}
+use Rattle.comparison.proofs.Pairs.{compare_at_none, compare_ended, compare_parted}
+use Rattle.comparison.proofs.Parts.{PartsInvariant, shapes_differ, parts_start, parts_done, parts_stopped, parts_next}
+use Rattle.comparison.proofs.+compare_compare_parts.Given as goal
+
+abbrev pub decreases-compare : goal.decreases-compare
+decreases-compare l = 2 * l.deeper
+
+abbrev pub decreases-compare_parts : goal.decreases-compare_parts
+decreases-compare_parts l = 2 * l.deeper + 1
+
+abbrev pub invariant-compare_parts-loop-parts : goal.invariant-compare_parts-loop-parts
+invariant-compare_parts-loop-parts l = PartsInvariant (compare_at aut68) l.table l.terms l.initial.w l.limit l.budget l.l l.r l.deeper l.w l.parts l.i l.j l.rest
+
+abbrev pub decreases-compare_parts-loop-parts : goal.decreases-compare_parts-loop-parts
+decreases-compare_parts-loop-parts l = l.parts

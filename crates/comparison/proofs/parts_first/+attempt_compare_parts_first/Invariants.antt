@@ -1,0 +1,27 @@
+use native.Mathlib.Omega.{arith}
+use Prim.Native.Nat.{ℕ, ◌+◌, ◌*◌, ◌≤◌, ◌<◌}
+use mathlib.Core.Path.{refl, ◌∙◌}
+use Rattle.aut68.specs.Procedure.PartsFirst.{parts_first_at}
+use Rattle.sides.proofs.ProgressLaws.{put_in_place}
+use Rattle.comparison.proofs.Depths.{no_levels, many_levels, no_units, Opened, side_small}
+use Rattle.comparison.proofs.Parts.{PartsInvariant, shapes_differ, parts_start, parts_done, parts_stopped, parts_next}
+use Rattle.comparison.proofs.Attempts.{parts_first_none, Passed, passed_none, first_same, pass_same, pass_stands, pass_different, pass_ended, pass_next}
+use Rattle.comparison.proofs.parts_first.+attempt_compare_parts_first.Given as goal
+
+abbrev pub decreases-attempt : goal.decreases-attempt
+decreases-attempt l = 2 * l.deeper + 1
+
+abbrev pub decreases-compare_parts_first : goal.decreases-compare_parts_first
+decreases-compare_parts_first l = 2 * l.deeper
+
+abbrev pub invariant-attempt-loop-parts : goal.invariant-attempt-loop-parts
+invariant-attempt-loop-parts l = (l.rest ≤ l.budget) × PartsInvariant parts_first_at l.table l.terms l.initial.w l.limit l.budget l.l l.r l.deeper l.w l.parts l.i l.j l.rest
+
+abbrev pub decreases-attempt-loop-parts : goal.decreases-attempt-loop-parts
+decreases-attempt-loop-parts l = l.parts
+
+abbrev pub invariant-compare_parts_first-loop-limit : goal.invariant-compare_parts_first-loop-limit
+invariant-compare_parts_first-loop-limit l = Passed l.deeper l.table l.terms l.initial.w l.limit l.initial.rest l.l l.initial.left l.r l.initial.right l.w l.left l.right l.rest
+
+abbrev pub decreases-compare_parts_first-loop-limit : goal.decreases-compare_parts_first-loop-limit
+decreases-compare_parts_first-loop-limit l = l.rest

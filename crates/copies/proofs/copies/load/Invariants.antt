@@ -1,0 +1,13 @@
+use mathlib.Core.Path.{◌≡◌, refl, sym, ◌∙◌}
+use Prim.Native.Nat.{◌+◌, ◌-◌, ◌≤◌}
+use native.Mathlib.Omega.{arith}
+use lib.ListN.{length, length-set}
+use borrow.Author.Tests.{leb-true, leb-false}
+use Rattle.cells.specs.CopyLaws.{copied, copied_none, copied_turn, copied_all, copy_no_source, copy_no_target}
+use Rattle.copies.proofs.copies.load.Given as goal
+
+abbrev pub invariant-loop-i : goal.invariant-loop-i
+invariant-loop-i l = (l.i ≤ l.n) × (l.from + l.n ≤ length l.s) × (l.to + l.n ≤ length l.initial.w) × (length l.w ≡ length l.initial.w) × (l.w ≡ copied l.s l.from l.i l.initial.w l.to)
+
+abbrev pub decreases-loop-i : goal.decreases-loop-i
+decreases-loop-i l = l.n - l.i

@@ -1,0 +1,13 @@
+use mathlib.Core.Path.{◌≡◌, refl, sym, ◌∙◌}
+use Prim.Native.Nat.{◌+◌, ◌-◌, ◌≤◌}
+use native.Mathlib.Omega.{arith}
+use lib.ListN.{length, take, drop}
+use borrow.Author.Tests.{leb-true, leb-false}
+use Rattle.cells.specs.SameCells.{same_end, same_differ, same_no_first, same_no_second, equal_more_lem}
+use Rattle.copies.proofs.copies.same_run.Given as goal
+
+abbrev pub invariant-loop-i : goal.invariant-loop-i
+invariant-loop-i l = (l.i ≤ l.n) × (l.from + l.n ≤ length l.s) × (l.at + l.n ≤ length l.f) × (take l.i (drop l.from l.s) ≡ take l.i (drop l.at l.f))
+
+abbrev pub decreases-loop-i : goal.decreases-loop-i
+decreases-loop-i l = l.n - l.i

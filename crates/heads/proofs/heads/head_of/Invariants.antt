@@ -1,0 +1,14 @@
+-- `head_of`: past each `<A>`, until a contraction or the head. cN is c, N steps before.
+use mathlib.Core.Path.{◌≡◌, refl}
+use Prim.Native.Nat.{◌+◌, ◌-◌, ◌≤◌}
+use native.Mathlib.Omega.{arith}
+use lib.ListN.{length}
+use Rattle.cells.specs.Forests.{at_inside, size_is_length}
+use Rattle.heads.proofs.HeadLaws.{Search, search_starts, search_inside, search_ends, search_application, applying_inside, search_contracts, search_passes}
+use Rattle.heads.proofs.heads.head_of.Given as goal
+
+abbrev pub invariant-loop-i : goal.invariant-loop-i
+invariant-loop-i l = (l.at ≤ l.i) × (l.i ≤ l.end) × (l.end ≡ l.at + l.n) × (l.end ≤ length l.w) × Search l.table l.w l.at l.n l.i
+
+abbrev pub decreases-loop-i : goal.decreases-loop-i
+decreases-loop-i l = l.end - l.i

@@ -1,0 +1,31 @@
+-- The table's rule is one test, computed at each of the 256 entries as the ranges fill them.
+use mathlib.Core.Path.{refl}
+use mathlib.Core.Bool.{Bool}
+use mathlib.Core.List.{List}
+use Prim.Native.Nat.{ℕ, ◌≤◌}
+use lib.Dec.{T, eqb, eqb→eq}
+use lib.ListN.{get_or, length}
+use borrow.Author.Rules.{rules}
+use Rattle.aut68.specs.Bytes.{name_byte}
+use Rattle.kinds.specs.Kinds.{KindsTable, kind_of, place_or0}
+use Rattle.kinds.proofs.Every.{at, every}
+use Rattle.kinds.proofs.ranges.kinds_of_bytes.Goals as goal
+
+abbrev right : ℕ → ℕ → Bool
+right b k = eqb k (kind_of b)
+
+tested : (ks : List ℕ) → T (every right 0 ks) → 256 ≤ length ks → KindsTable ks
+tested ks t l =
+    record { kind = λ b h. eqb→eq (get_or ks b 0) (kind_of b) (at right ks t b (native.Mathlib.Nat.le_trans h l)) }
+
+pub fill-requires-2 : goal.fill-requires-2
+fill-requires-2 c = rw c.fill.ensures refl
+
+pub fill-requires-3 : goal.fill-requires-3
+fill-requires-3 c = rw (c.fill-2.ensures, c.fill.ensures) refl
+
+pub returns : goal.returns
+unfolding kind_of place_or0 name_byte
+returns c =
+    rw (c.fill-3.ensures, c.fill-2.ensures, c.fill.ensures)
+    (tested _ tt (lib.Dec.lit≤ tt))

@@ -1,0 +1,13 @@
+use mathlib.Core.Path.{◌≡◌, refl}
+use Prim.Native.Nat.{◌-◌, ◌≤◌}
+use native.Mathlib.Omega.{arith}
+use lib.ListN.{length, length-set}
+use Rattle.cells.specs.Links.{link_at, unlinked}
+use Rattle.names.proofs.LinkLaws.{unlinked_none, unlinked_turn, unlinked_at}
+use Rattle.names.proofs.hints.unlink.Given as goal
+
+abbrev pub invariant-loop-v : goal.invariant-loop-v
+invariant-loop-v l = (l.v ≤ l.lines) × (l.at ≡ link_at l.v) × (length l.table ≡ length l.initial.table) × (l.table ≡ unlinked l.v l.initial.table)
+
+abbrev pub decreases-loop-v : goal.decreases-loop-v
+decreases-loop-v l = l.lines - l.v

@@ -1,0 +1,9 @@
+use native.Mathlib.Omega.{arith}
+use Rattle.notes.proofs.OpenLaws.{AmongOuter, among_all, among_none, among_this, among_others}
+use Rattle.notes.proofs.is_open.Given as goal
+
+abbrev pub invariant-loop-i : goal.invariant-loop-i
+invariant-loop-i l = AmongOuter l.w l.n l.i
+
+abbrev pub decreases-loop-i : goal.decreases-loop-i
+decreases-loop-i l = l.i

@@ -1,0 +1,9 @@
+use native.Mathlib.Omega.{arith}
+use Rattle.notes.proofs.EntryLaws.{SearchingEntry, search_starts, no_more, out_of_it, this_one_lem, not_down, search_next}
+use Rattle.notes.proofs.noted_in.Given as goal
+
+abbrev pub invariant-loop-k : goal.invariant-loop-k
+invariant-loop-k l = SearchingEntry l.book l.w l.word l.h l.q l.most l.k
+
+abbrev pub decreases-loop-k : goal.decreases-loop-k
+decreases-loop-k l = l.k

@@ -1,0 +1,15 @@
+use mathlib.Core.Path.{◌≡◌, ap, ◌∙◌}
+use mathlib.Core.List.{◌++◌, append-nil}
+use Prim.Native.Nat.{◌-◌, ◌≤◌}
+use native.Mathlib.Omega.{arith}
+use borrow.Author.Fill.{fill_none, fill_more}
+use borrow.Author.Rules.{rules}
+use lib.ListN.{length, drop, replicate, set, length-set}
+use lib.Seq.{drop-length}
+use Rattle.page_rows.proofs.put_blanks.Given as goal
+
+abbrev pub invariant-loop-i : goal.invariant-loop-i
+invariant-loop-i l = (l.part ≡ replicate l.i 32 ++ drop l.i l.initial.part) × ((l.i ≤ length l.part) × (length l.part ≡ length l.initial.part))
+
+abbrev pub decreases-loop-i : goal.decreases-loop-i
+decreases-loop-i l = length l.part - l.i

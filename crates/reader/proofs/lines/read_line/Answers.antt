@@ -1,0 +1,18 @@
+use mathlib.Core.Path.{sym}
+use lib.Seq.{length-take-le}
+use native.Mathlib.Omega.{arith}
+use borrow.Author.Rules.{rules}
+use Rattle.reader.proofs.LineLaws.{line_no_room, line_in_front}
+use Rattle.reader.proofs.lines.read_line.Goals as goal
+
+pub returns-then-limit-w : goal.returns-then-limit-w
+returns-then-limit-w c = line_no_room (omega arith) c.bad_line.ensures
+
+pub slice_bounds-read_into-end-2 : goal.slice_bounds-read_into-end-2
+slice_bounds-read_into-end-2 c = sym (length-take-le _ _ (omega arith))
+
+pub read_into-requires : goal.read_into-requires
+read_into-requires c = length-take-le _ _ (omega arith)
+
+pub returns : goal.returns
+returns c = line_in_front (omega arith) c.read_into.ensures

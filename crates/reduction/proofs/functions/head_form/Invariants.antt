@@ -1,0 +1,13 @@
+-- `head_form`: head steps while there is one and the budget lasts. cN is c, N steps before.
+use Prim.Native.Nat.{◌+◌}
+use native.Mathlib.Omega.{arith}
+use Rattle.cells.specs.Layout.{unit_at, scratch_unit}
+use Rattle.reduction.specs.Frames.{Framed, framed_same}
+use Rattle.reduction.proofs.FormLaws.{Reducing, reducing_starts, form_normal, form_spent, form_framed, form_large, form_steps}
+use Rattle.reduction.proofs.functions.head_form.Given as goal
+
+abbrev pub invariant-loop-h : goal.invariant-loop-h
+invariant-loop-h l = Framed (unit_at l.limit scratch_unit) l.at (l.at + l.limit) l.initial.w l.w × Reducing l.table l.terms l.initial.w l.w l.limit l.budget l.at l.size l.n l.rest
+
+abbrev pub decreases-loop-h : goal.decreases-loop-h
+decreases-loop-h l = l.rest

@@ -1,0 +1,12 @@
+-- `arguments_at`: each argument starts where the one before it ends.
+use Prim.Native.Nat.{◌-◌}
+use native.Mathlib.Omega.{arith}
+use Rattle.reduction.proofs.ArgumentLaws.{Listed, listed_none, listed_more, listed_wrong, listed_all, listed_full}
+use borrow.Author.Rules.{rules}
+use Rattle.reduction.proofs.steps.arguments_at.Given as goal
+
+abbrev pub invariant-loop-i : goal.invariant-loop-i
+invariant-loop-i l = Listed l.table l.w l.at l.count l.initial.starts l.starts l.i l.next
+
+abbrev pub decreases-loop-i : goal.decreases-loop-i
+decreases-loop-i l = 63 - l.i

@@ -1,0 +1,16 @@
+-- `unfolded`: the middle with the arguments put in. cN is c, N steps before.
+use mathlib.Core.Path.{refl}
+use native.Mathlib.Omega.{arith}
+use Rattle.reduction.proofs.PutLaws.{unfolded_none, unfolded_law}
+use borrow.Author.Rules.{rules}
+use Rattle.cells.proofs.result_at.Reads as result-at-reads
+use Rattle.reduction.proofs.steps.arguments_at.Reads as arguments-at-reads
+use Rattle.reduction.proofs.steps.unfolded.Goals as goal
+
+pub returns-then-at-w : goal.returns-then-at-w
+returns-then-at-w c = unfolded_none (omega arith)
+
+pub returns : goal.returns
+returns c =
+    unfolded_law (omega arith) c.field-from.ensures.0 c.field-count.ensures.0 refl refl c.arguments_at.ensures
+    (c.result_at-result.ensures (omega arith)) c.instantiate.ensures

@@ -1,0 +1,11 @@
+-- `open_pair`: identical expressions, else both moved up. cN is c, N steps before.
+use borrow.Author.Rules.{rules}
+use Rattle.sides.proofs.OpeningLaws.{open_same, open_moved}
+use Rattle.sides.proofs.sides.open_pair.Goals as goal
+
+pub returns-then-same_expression : goal.returns-then-same_expression
+returns-then-same_expression c = open_same c.same_expression.ensures c.if-same_expression.true
+
+pub returns : goal.returns
+returns c =
+    open_moved _ _ _ _ _ _ _ _ c.extent-left.ensures c.extent-right.ensures c.move_cells.ensures c.move_cells-2.ensures

@@ -1,0 +1,15 @@
+use native.Mathlib.Omega.{arith}
+use Rattle.symbols.proofs.SameLaws.{four_short}
+use borrow.Author.Rules.{rules}
+use Rattle.symbols.proofs.four_at.Goals as goal
+
+pub four-requires : goal.four-requires
+four-requires c = omega arith
+
+pub returns-then-s-i-ge4 : goal.returns-then-s-i-ge4
+returns-then-s-i-ge4 c = c.four.ensures
+
+pub returns : goal.returns
+returns c =
+    let a = c.args in
+    (four_short a.s.now a.i (omega arith) c.byte_at.ensures.0 c.byte_at-2.ensures.0 c.byte_at-3.ensures.0, omega arith)

@@ -1,0 +1,6 @@
+use Rattle.terms.proofs.Whole.{raise_post}
+use borrow.Author.Rules.{rules}
+use Rattle.terms.proofs.made.raise.Goals as goal
+
+pub returns : goal.returns
+returns c = raise_post c.make.ensures
