@@ -2,7 +2,7 @@
 use Rattle.std.specs.Prelude.{◌≡◌, refl, ◌⊎◌, ℕ, ◌+◌, ◌-◌, ◌≤◌}
 use Rattle.std.proofs.Common.{ap, inl, inr, arith}
 use Rattle.aut68.specs.Language.{aut68}
-use Rattle.aut68.specs.Procedure.Answer.{Answer, code_in, rest_in, code_of, is_verdict, mismatch, tooLarge, outOfBudget}
+use Rattle.aut68.specs.Procedure.Answer.{Answer, code_in, rest_in, code_of, is_verdict, mismatch, too_large, out_of_budget}
 use Rattle.aut68.specs.Expr.{Expr}
 use Rattle.aut68.specs.Lines.{Lines}
 use Rattle.aut68.specs.Comparing.{FindsEquality, Ends, KeepsAnswers, BothComparisons}
@@ -29,7 +29,7 @@ coded (is_stop (differ n)) = coded9 n
 coded (is_stop large) = coded10
 coded (is_stop spent) = coded11
 
-code_of_lem : {X : Type 0} {n : ℕ} → Coded X n → (n ≡ 0) ⊎ ((n ≡ code_of mismatch) ⊎ ((n ≡ code_of tooLarge) ⊎ (n ≡ code_of outOfBudget)))
+code_of_lem : {X : Type 0} {n : ℕ} → Coded X n → (n ≡ 0) ⊎ ((n ≡ code_of mismatch) ⊎ ((n ≡ code_of too_large) ⊎ (n ≡ code_of out_of_budget)))
 unfolding code_of
 code_of_lem (coded0 x) = inl refl
 code_of_lem (coded9 x) = inr (inl refl)

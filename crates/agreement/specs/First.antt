@@ -9,12 +9,12 @@ use Rattle.std.proofs.Math.Dec.{eqb}
 use borrow.Author.Tests.{eqb-true, eqb-false}
 use Rattle.aut68.specs.Language.{aut68}
 use Rattle.aut68.specs.Sizes.{nesting}
-use Rattle.aut68.specs.Procedure.Answer.{Act, Answer, done, stop, Refusal, refuse, mismatch, tooLarge, outOfBudget}
+use Rattle.aut68.specs.Procedure.Answer.{Act, Answer, done, stop, Refusal, refuse, mismatch, too_large, out_of_budget}
 use Rattle.aut68.specs.Expr.{Expr, Exprs, nil, cons, size, first_cell, parts}
 use Rattle.aut68.specs.Lines.{Lines}
 use Rattle.aut68.specs.Rules.Steps.{Equal}
 use Rattle.aut68.specs.Procedure.HeadStep.{head_step, left}
-use Rattle.aut68.specs.Procedure.Compare.{Next, same, byParts, stepLeft, stepRight, next, Comparison, each, has_surplus, compare_parts, sides, compare_at, compare}
+use Rattle.aut68.specs.Procedure.Compare.{Next, same, by_parts, step_left, step_right, next, Comparison, each, has_surplus, compare_parts, sides, compare_at, compare}
 use Rattle.calculus.specs.Reductions.{steps_one}
 use Rattle.calculus.specs.Parallel.{ClosedMiddles}
 use Rattle.calculus.specs.Equality.{Equals, equal_none, equal_more, equal_path, equal_sym, equal_steps, equal_trans, equal_after}
@@ -25,8 +25,8 @@ use Rattle.lookup.specs.Answers.{Judged, is_done, is_stop, judged_map, judged_th
 -- The refusals of a comparison: 9 only where X holds; 10; 11. There are no others.
 pub data Refused (X : Type 0) : Refusal → Type 0 where
   differ : X → Refused X mismatch
-  large : Refused X tooLarge
-  spent : Refused X outOfBudget
+  large : Refused X too_large
+  spent : Refused X out_of_budget
 
 pub refused_map : {X Y : Type 0} → (X → Y) → (r : Refusal) → Refused X r → Refused Y r
 refused_map f r (differ x) = differ (f x)
@@ -95,27 +95,27 @@ module _ (ls : Lines) where
         go : (n : Next) → NextIs ls l r n
             → Settles (Equal ls l r) (elim n [
               | same ↦ done tt zero
-              | byParts ↦ compare_parts aut68 deeper l r zero
-              | stepLeft l' ↦ stop outOfBudget zero
-              | stepRight r' ↦ stop outOfBudget zero
+              | by_parts ↦ compare_parts aut68 deeper l r zero
+              | step_left l' ↦ stop out_of_budget zero
+              | step_right r' ↦ stop out_of_budget zero
             ])
         go same (is_same e) = is_done (equal_path ls e)
-        go byParts (is_parts p q) = parts_settle deeper d l r (head_none ls l p) (head_none ls r q) zero
-        go (stepLeft l') (is_left p) = is_stop spent
-        go (stepRight r') (is_right p) = is_stop spent
+        go by_parts (is_parts p q) = parts_settle deeper d l r (head_none ls l p) (head_none ls r q) zero
+        go (step_left l') (is_left p) = is_stop spent
+        go (step_right r') (is_right p) = is_stop spent
     sides_settle deeper d l r (suc b) = go (λ l r. sides_settle deeper d l r b) (next ls l r) (next_is_lem ls l r)
       where
         go : ((l r : Expr) → Settles (Equal ls l r) (sides aut68 ls L deeper l r b)) → (n : Next) → NextIs ls l r n
             → Settles (Equal ls l r) (elim n [
               | same ↦ done tt (suc b)
-              | byParts ↦ compare_parts aut68 deeper l r (suc b)
-              | stepLeft l' ↦ elim (leb (size l') L) [ true ↦ sides aut68 ls L deeper l' r b | false ↦ stop tooLarge (suc b) ]
-              | stepRight r' ↦ elim (leb (size r') L) [ true ↦ sides aut68 ls L deeper l r' b | false ↦ stop tooLarge (suc b) ]
+              | by_parts ↦ compare_parts aut68 deeper l r (suc b)
+              | step_left l' ↦ elim (leb (size l') L) [ true ↦ sides aut68 ls L deeper l' r b | false ↦ stop too_large (suc b) ]
+              | step_right r' ↦ elim (leb (size r') L) [ true ↦ sides aut68 ls L deeper l r' b | false ↦ stop too_large (suc b) ]
             ])
         go s same (is_same e) = is_done (equal_path ls e)
-        go s byParts (is_parts p q) = parts_settle deeper d l r (head_none ls l p) (head_none ls r q) (suc b)
-        go s (stepLeft l') (is_left p) = judged_sized (leb (size l') L) (suc b) (left_settles p (s l' r)) large
-        go s (stepRight r') (is_right p) = judged_sized (leb (size r') L) (suc b) (right_settles p (s l r')) large
+        go s by_parts (is_parts p q) = parts_settle deeper d l r (head_none ls l p) (head_none ls r q) (suc b)
+        go s (step_left l') (is_left p) = judged_sized (leb (size l') L) (suc b) (left_settles p (s l' r)) large
+        go s (step_right r') (is_right p) = judged_sized (leb (size r') L) (suc b) (right_settles p (s l r')) large
 
     compare_at_equal : (d : ℕ) → SettlesEqual (compare_at aut68 ls L d)
     unfolding compare_at

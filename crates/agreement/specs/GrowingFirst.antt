@@ -9,9 +9,9 @@ use Rattle.aut68.specs.Sizes.{nesting}
 use Rattle.aut68.specs.Expr.{Expr, Exprs, nil, cons, size, first_cell, parts}
 use Rattle.aut68.specs.Lines.{Lines}
 use Rattle.aut68.specs.Procedure.Answer.{done}
-use Rattle.aut68.specs.Procedure.Compare.{Next, same, byParts, stepLeft, stepRight, next, Comparison, each, has_surplus, compare_parts, sides, compare_at, compare}
+use Rattle.aut68.specs.Procedure.Compare.{Next, same, by_parts, step_left, step_right, next, Comparison, each, has_surplus, compare_parts, sides, compare_at, compare}
 use Rattle.lookup.specs.Answers.{large_undecided, spent_undecided, Kept, Grows, grows_give, grows_refuse, grows_then}
-use Rattle.agreement.specs.Which.{Which, theLeft, theRight, pick, step_in}
+use Rattle.agreement.specs.Which.{Which, the_left, the_right, pick, step_in}
 use Rattle.agreement.specs.Sides.{sides_same, sides_parts, sides_step, sides_large}
 
 grows_each : (deeper deeper' : Comparison) → ((l r : Expr) → Grows (deeper l r) (deeper' l r)) → (ls rs : Exprs) → Grows (each deeper ls rs) (each deeper' ls rs)
@@ -39,9 +39,9 @@ module _ (language : Language) (ls : Lines) {L L' : ℕ} (hL : L ≤ L') where
     sides_none : (c d : ℕ) → c ≡ 0 + d → (l r : Expr) (n : Next) → next ls l r ≡ n → Kept d (sides language ls L deeper l r zero) (sides language ls L' deeper' l r c)
     unfolding sides
     sides_none c d e l r same q = rw (q, sides) (sides_same language ls L' deeper' l r c q ∙ ap (done tt) e)
-    sides_none c d e l r byParts q = rw (q, sides_parts language ls L' deeper' l r c q, sides) ((grows_parts language deeper deeper' h l r).kept 0 c d e)
-    sides_none c d e l r (stepLeft l') q = rw (q, sides) (λ v. absurd (spent_undecided v))
-    sides_none c d e l r (stepRight r') q = rw (q, sides) (λ v. absurd (spent_undecided v))
+    sides_none c d e l r by_parts q = rw (q, sides_parts language ls L' deeper' l r c q, sides) ((grows_parts language deeper deeper' h l r).kept 0 c d e)
+    sides_none c d e l r (step_left l') q = rw (q, sides) (λ v. absurd (spent_undecided v))
+    sides_none c d e l r (step_right r') q = rw (q, sides) (λ v. absurd (spent_undecided v))
 
     -- a step in one of the sides
     sides_stepped : (b c d : ℕ) (l r : Expr) (s : Which) (g : Expr) → next ls l r ≡ step_in s g
@@ -61,9 +61,9 @@ module _ (language : Language) (ls : Lines) {L L' : ℕ} (hL : L ≤ L') where
         → Kept d (sides language ls L deeper l r (suc b)) (sides language ls L' deeper' l r (suc c))
     unfolding sides
     sides_some b c d e l r same q k = rw (q, sides) (ap (done tt) e)
-    sides_some b c d e l r byParts q k = rw (q, sides) ((grows_parts language deeper deeper' h l r).kept (suc b) (suc c) d e)
-    sides_some b c d e l r (stepLeft l') q k = sides_stepped b c d l r theLeft l' q k
-    sides_some b c d e l r (stepRight r') q k = sides_stepped b c d l r theRight r' q k
+    sides_some b c d e l r by_parts q k = rw (q, sides) ((grows_parts language deeper deeper' h l r).kept (suc b) (suc c) d e)
+    sides_some b c d e l r (step_left l') q k = sides_stepped b c d l r the_left l' q k
+    sides_some b c d e l r (step_right r') q k = sides_stepped b c d l r the_right r' q k
 
     sides_kept : (b c d : ℕ) → c ≡ b + d → (l r : Expr) → Kept d (sides language ls L deeper l r b) (sides language ls L' deeper' l r c)
     sides_kept zero c d e l r = sides_none c d e l r (next ls l r) refl

@@ -8,7 +8,7 @@ use Rattle.aut68.specs.Sizes.{nesting}
 use Rattle.aut68.specs.Procedure.Answer.{Act, Answer, done, stop, rest_in, is_verdict, code_of, mismatch}
 use Rattle.aut68.specs.Expr.{Expr, size}
 use Rattle.aut68.specs.Lines.{Lines}
-use Rattle.aut68.specs.Procedure.Compare.{Next, same, byParts, stepLeft, stepRight, next, Comparison}
+use Rattle.aut68.specs.Procedure.Compare.{Next, same, by_parts, step_left, step_right, next, Comparison}
 use Rattle.aut68.specs.Demands.{WrongCode}
 use Rattle.lookup.specs.Answers.{Decides, wrong_decides, large_undecided, spent_undecided, Kept, Grows, grows_refuse, larger}
 use Rattle.agreement.specs.GrowingFirst.{grows_parts}
@@ -47,11 +47,11 @@ module _ (ls : Lines) {L L' : ℕ} (hL : L ≤ L') where
         → Kept d (pass ls L deeper again l r b) (pass ls L' deeper' again' l r c)
     unfolding pass
     pass_kept again again' b c d e l r same q k = rw (q, pass) (ap (done tt) e)
-    pass_kept again again' b c d e l r byParts q k = rw (q, pass) ((grows_parts aut68 deeper deeper' h l r).kept b c d e)
-    pass_kept again again' b c d e l r (stepLeft l') q k =
+    pass_kept again again' b c d e l r by_parts q k = rw (q, pass) ((grows_parts aut68 deeper deeper' h l r).kept b c d e)
+    pass_kept again again' b c d e l r (step_left l') q k =
         rw (q, pass) (unless_kept _ _ b d _ _ ((grows_parts aut68 deeper deeper' h l r).kept b c d e) (parts_spend deeper spends l r b)
         (λ s p. step_kept hL l' _ _ s (s + d) d refl (λ t u g f. k l' r t u (omega arith) f)))
-    pass_kept again again' b c d e l r (stepRight r') q k =
+    pass_kept again again' b c d e l r (step_right r') q k =
         rw (q, pass) (unless_kept _ _ b d _ _ ((grows_parts aut68 deeper deeper' h l r).kept b c d e) (parts_spend deeper spends l r b)
         (λ s p. step_kept hL r' _ _ s (s + d) d refl (λ t u g f. k l r' t u (omega arith) f)))
 

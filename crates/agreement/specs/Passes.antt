@@ -5,10 +5,10 @@ use Rattle.std.specs.Prelude.{Bool, true, false, eqb, leb}
 use Prim.Native.Nat.{ℕ, zero, suc, ◌≤◌, ◌<◌}
 use native.Mathlib.Omega.{arith}
 use Rattle.aut68.specs.Language.{aut68}
-use Rattle.aut68.specs.Procedure.Answer.{Act, Answer, done, stop, rest_in, and_then, refuse, mismatch, tooLarge}
+use Rattle.aut68.specs.Procedure.Answer.{Act, Answer, done, stop, rest_in, and_then, refuse, mismatch, too_large}
 use Rattle.aut68.specs.Expr.{Expr, Exprs, nil, cons, size, first_cell, parts}
 use Rattle.aut68.specs.Lines.{Lines}
-use Rattle.aut68.specs.Procedure.Compare.{Next, same, byParts, stepLeft, stepRight, next, Comparison, each, has_surplus, compare_parts}
+use Rattle.aut68.specs.Procedure.Compare.{Next, same, by_parts, step_left, step_right, next, Comparison, each, has_surplus, compare_parts}
 use Rattle.aut68.specs.Procedure.PartsFirst.{differs, unless_equal, step_to, pass, passes, sides_first, parts_first_at}
 
 -- a comparison never leaves more of the budget than there was
@@ -50,7 +50,7 @@ unfolding step_to rest_in
 step_spends L e go k zero = omega arith
 step_spends L e go k (suc s) = at (leb (size e) L)
   where
-    at : (t : Bool) → rest_in {A = Unit {0}} (elim t [ true ↦ go s | false ↦ stop tooLarge (suc s) ]) ≤ suc s
+    at : (t : Bool) → rest_in {A = Unit {0}} (elim t [ true ↦ go s | false ↦ stop too_large (suc s) ]) ≤ suc s
     at true = let q = k s in omega arith
     at false = omega arith
 
@@ -62,14 +62,14 @@ module _ (ls : Lines) (L : ℕ) where
       go : (x : Next)
           → rest_in {A = Unit {0}} (elim x [
             | same ↦ done tt b
-            | byParts ↦ compare_parts aut68 deeper l r b
-            | stepLeft l' ↦ unless_equal (step_to L l' (again l' r)) (compare_parts aut68 deeper l r b)
-            | stepRight r' ↦ unless_equal (step_to L r' (again l r')) (compare_parts aut68 deeper l r b)
+            | by_parts ↦ compare_parts aut68 deeper l r b
+            | step_left l' ↦ unless_equal (step_to L l' (again l' r)) (compare_parts aut68 deeper l r b)
+            | step_right r' ↦ unless_equal (step_to L r' (again l r')) (compare_parts aut68 deeper l r b)
           ]) ≤ b
       go same = omega arith
-      go byParts = parts_spend deeper d l r b
-      go (stepLeft l') = unless_spends _ b _ (parts_spend deeper d l r b) (step_spends L l' _ (s l' r))
-      go (stepRight r') = unless_spends _ b _ (parts_spend deeper d l r b) (step_spends L r' _ (s l r'))
+      go by_parts = parts_spend deeper d l r b
+      go (step_left l') = unless_spends _ b _ (parts_spend deeper d l r b) (step_spends L l' _ (s l' r))
+      go (step_right r') = unless_spends _ b _ (parts_spend deeper d l r b) (step_spends L r' _ (s l r'))
 
   passes_spend : (deeper : Comparison) → Spends deeper → (n : ℕ) → Spends (passes ls L deeper n)
   unfolding passes rest_in
@@ -96,7 +96,7 @@ unfolding step_to
 step_same L e go go' zero k = refl
 step_same L e go go' (suc s) k = at (leb (size e) L)
   where
-    at : (t : Bool) → ◌≡◌ {A = Answer ℕ (Unit {0})} (elim t [ true ↦ go s | false ↦ stop tooLarge (suc s) ]) (elim t [ true ↦ go' s | false ↦ stop tooLarge (suc s) ])
+    at : (t : Bool) → ◌≡◌ {A = Answer ℕ (Unit {0})} (elim t [ true ↦ go s | false ↦ stop too_large (suc s) ]) (elim t [ true ↦ go' s | false ↦ stop too_large (suc s) ])
     at true = k s (omega arith)
     at false = refl
 
@@ -111,20 +111,20 @@ module _ (ls : Lines) (L : ℕ) (deeper : Comparison) (d : Spends deeper) where
           → ◌≡◌ {A = Answer ℕ (Unit {0})}
           (elim x [
             | same ↦ done tt b
-            | byParts ↦ compare_parts aut68 deeper l r b
-            | stepLeft l' ↦ unless_equal (step_to L l' (again l' r)) (compare_parts aut68 deeper l r b)
-            | stepRight r' ↦ unless_equal (step_to L r' (again l r')) (compare_parts aut68 deeper l r b)
+            | by_parts ↦ compare_parts aut68 deeper l r b
+            | step_left l' ↦ unless_equal (step_to L l' (again l' r)) (compare_parts aut68 deeper l r b)
+            | step_right r' ↦ unless_equal (step_to L r' (again l r')) (compare_parts aut68 deeper l r b)
           ])
           (elim x [
             | same ↦ done tt b
-            | byParts ↦ compare_parts aut68 deeper l r b
-            | stepLeft l' ↦ unless_equal (step_to L l' (again' l' r)) (compare_parts aut68 deeper l r b)
-            | stepRight r' ↦ unless_equal (step_to L r' (again' l r')) (compare_parts aut68 deeper l r b)
+            | by_parts ↦ compare_parts aut68 deeper l r b
+            | step_left l' ↦ unless_equal (step_to L l' (again' l' r)) (compare_parts aut68 deeper l r b)
+            | step_right r' ↦ unless_equal (step_to L r' (again' l r')) (compare_parts aut68 deeper l r b)
           ])
       go same = refl
-      go byParts = refl
-      go (stepLeft l') = unless_same _ _ b _ (parts_spend deeper d l r b) (λ s h. step_same L l' _ _ s (λ t g. k l' r t (omega arith)))
-      go (stepRight r') = unless_same _ _ b _ (parts_spend deeper d l r b) (λ s h. step_same L r' _ _ s (λ t g. k l r' t (omega arith)))
+      go by_parts = refl
+      go (step_left l') = unless_same _ _ b _ (parts_spend deeper d l r b) (λ s h. step_same L l' _ _ s (λ t g. k l' r t (omega arith)))
+      go (step_right r') = unless_same _ _ b _ (parts_spend deeper d l r b) (λ s h. step_same L r' _ _ s (λ t g. k l r' t (omega arith)))
 
   -- more passes than there are steps left: as many as one likes
   pub enough_passes : (m n : ℕ) (l r : Expr) (b : ℕ) → b < m → b < n → passes ls L deeper m l r b ≡ passes ls L deeper n l r b

@@ -11,7 +11,7 @@ use Rattle.aut68.specs.Procedure.Answer.{code_of, Act, Answer, done, refuse, mis
 use Rattle.aut68.specs.Expr.{Expr, size, first_cell, parts}
 use Rattle.aut68.specs.Lines.{Lines}
 use Rattle.aut68.specs.Rules.Steps.{Equal}
-use Rattle.aut68.specs.Procedure.Compare.{Next, same, byParts, stepLeft, stepRight, next, Comparison, each, has_surplus, compare_parts}
+use Rattle.aut68.specs.Procedure.Compare.{Next, same, by_parts, step_left, step_right, next, Comparison, each, has_surplus, compare_parts}
 use Rattle.calculus.specs.Parallel.{ClosedMiddles}
 use Rattle.calculus.specs.Equality.{equal_path}
 use Rattle.calculus.specs.HeadForms.{head_none, parts_equal}
@@ -52,14 +52,14 @@ module _ (ls : Lines) where
         go : (x : Next) → NextIs ls l r x
             → Settles (Equal ls l r) (elim x [
               | same ↦ done tt b
-              | byParts ↦ compare_parts aut68 deeper l r b
-              | stepLeft l' ↦ unless_equal (step_to L l' (again l' r)) (compare_parts aut68 deeper l r b)
-              | stepRight r' ↦ unless_equal (step_to L r' (again l r')) (compare_parts aut68 deeper l r b)
+              | by_parts ↦ compare_parts aut68 deeper l r b
+              | step_left l' ↦ unless_equal (step_to L l' (again l' r)) (compare_parts aut68 deeper l r b)
+              | step_right r' ↦ unless_equal (step_to L r' (again l r')) (compare_parts aut68 deeper l r b)
             ])
         go same (is_same e) = is_done (equal_path ls e)
-        go byParts (is_parts p q) = parts_settle ls closed L deeper d l r (head_none ls l p) (head_none ls r q) b
-        go (stepLeft l') (is_left p) = settles_unless _ (parts_attempt deeper d l r b) (settles_step L l' _ (λ c. left_settles ls closed L p (s l' r c)))
-        go (stepRight r') (is_right p) = settles_unless _ (parts_attempt deeper d l r b) (settles_step L r' _ (λ c. right_settles ls closed L p (s l r' c)))
+        go by_parts (is_parts p q) = parts_settle ls closed L deeper d l r (head_none ls l p) (head_none ls r q) b
+        go (step_left l') (is_left p) = settles_unless _ (parts_attempt deeper d l r b) (settles_step L l' _ (λ c. left_settles ls closed L p (s l' r c)))
+        go (step_right r') (is_right p) = settles_unless _ (parts_attempt deeper d l r b) (settles_step L r' _ (λ c. right_settles ls closed L p (s l r' c)))
 
     passes_settle : (deeper : Comparison) → SettlesEqual ls deeper → (n : ℕ) → SettlesEqual ls (passes ls L deeper n)
     unfolding passes

@@ -7,23 +7,23 @@ use Prim.Native.Nat.{ℕ, zero, suc, ◌+◌, ◌≤◌, ◌<◌}
 use native.Mathlib.Omega.{arith}
 use Rattle.std.proofs.lemmas.Bool.{lt-leb}
 use Rattle.aut68.specs.Language.{aut68}
-use Rattle.aut68.specs.Procedure.Answer.{Act, done, stop, Refusal, code_of, mismatch, tooLarge, outOfBudget}
+use Rattle.aut68.specs.Procedure.Answer.{Act, done, stop, Refusal, code_of, mismatch, too_large, out_of_budget}
 use Rattle.aut68.specs.Expr.{Expr, size, identical}
 use Rattle.aut68.specs.Lines.{Lines}
 use Rattle.aut68.specs.Procedure.HeadStep.{Head, no_step, beta, delta, head_step}
-use Rattle.aut68.specs.Procedure.Compare.{Next, same, byParts, stepLeft, stepRight, choose, next, compare_parts}
+use Rattle.aut68.specs.Procedure.Compare.{Next, same, by_parts, step_left, step_right, choose, next, compare_parts}
 use Rattle.aut68.specs.Procedure.PartsFirst.{differs, unless_equal, step_to, pass, parts_first_at}
-use Rattle.agreement.specs.Which.{Which, theLeft, theRight, pick, step_in}
+use Rattle.agreement.specs.Which.{Which, the_left, the_right, pick, step_in}
 use Rattle.agreement.specs.Passes.{parts_first_loop}
 
 -- the sides are not identical
 abbrev pub Other : Next → Type 0
 Other same = ⊥
-Other byParts = Unit {0}
-Other (stepLeft e) = Unit {0}
-Other (stepRight e) = Unit {0}
+Other by_parts = Unit {0}
+Other (step_left e) = Unit {0}
+Other (step_right e) = Unit {0}
 
-larger_other : (t : Bool) (e f : Expr) → Other (elim t [ true ↦ stepLeft e | false ↦ stepRight f ])
+larger_other : (t : Bool) (e f : Expr) → Other (elim t [ true ↦ step_left e | false ↦ step_right f ])
 larger_other true e f = tt
 larger_other false e f = tt
 
@@ -46,12 +46,12 @@ next_other ls l r q = rw (q, next) (choose_other (head_step ls l) (head_step ls 
 -- ---- a step
 
 module _ (L : ℕ) (e : Expr) (go : Act ℕ (Unit {0})) where
-  step_spent : (b : ℕ) → b ≡ 0 → step_to L e go b ≡ stop outOfBudget b
+  step_spent : (b : ℕ) → b ≡ 0 → step_to L e go b ≡ stop out_of_budget b
   unfolding step_to
   step_spent zero z = refl
   step_spent (suc b) z = absurd (omega arith)
 
-  step_large : (b : ℕ) → 0 < b → L < size e → step_to L e go b ≡ stop tooLarge b
+  step_large : (b : ℕ) → 0 < b → L < size e → step_to L e go b ≡ stop too_large b
   unfolding step_to
   step_large zero z h = absurd (omega arith)
   step_large (suc b) z h = rw (lt-leb _ _ h, step_to)
@@ -72,21 +72,21 @@ module _ (ls : Lines) (L d : ℕ) (l r : Expr) (b : ℕ) where
       → parts_first_at ls L (suc d) l r b ≡ done tt b'
   unfolding pass unless_equal
   turn_equal same q o b' e = absurd o
-  turn_equal byParts q o b' e = parts_first_loop ls L d l r b ∙ rw (q, e, pass)
-  turn_equal (stepLeft n) q o b' e = parts_first_loop ls L d l r b ∙ rw (q, e, pass, unless_equal)
-  turn_equal (stepRight n) q o b' e = parts_first_loop ls L d l r b ∙ rw (q, e, pass, unless_equal)
+  turn_equal by_parts q o b' e = parts_first_loop ls L d l r b ∙ rw (q, e, pass)
+  turn_equal (step_left n) q o b' e = parts_first_loop ls L d l r b ∙ rw (q, e, pass, unless_equal)
+  turn_equal (step_right n) q o b' e = parts_first_loop ls L d l r b ∙ rw (q, e, pass, unless_equal)
 
   -- 10 and 11
   pub turn_stands : (x : Next) → next ls l r ≡ x → Other x → (k : Refusal) (b' : ℕ) → differs k ≡ false
       → compare_parts aut68 (parts_first_at ls L d) l r b ≡ stop k b' → parts_first_at ls L (suc d) l r b ≡ stop k b'
   unfolding pass unless_equal
   turn_stands same q o k b' t e = absurd o
-  turn_stands byParts q o k b' t e = parts_first_loop ls L d l r b ∙ rw (q, e, pass)
-  turn_stands (stepLeft n) q o k b' t e = parts_first_loop ls L d l r b ∙ rw (q, e, t, pass, unless_equal)
-  turn_stands (stepRight n) q o k b' t e = parts_first_loop ls L d l r b ∙ rw (q, e, t, pass, unless_equal)
+  turn_stands by_parts q o k b' t e = parts_first_loop ls L d l r b ∙ rw (q, e, pass)
+  turn_stands (step_left n) q o k b' t e = parts_first_loop ls L d l r b ∙ rw (q, e, t, pass, unless_equal)
+  turn_stands (step_right n) q o k b' t e = parts_first_loop ls L d l r b ∙ rw (q, e, t, pass, unless_equal)
 
   -- after 9, and no side has a head step
-  pub turn_different : next ls l r ≡ byParts → (b' : ℕ) → compare_parts aut68 (parts_first_at ls L d) l r b ≡ stop mismatch b'
+  pub turn_different : next ls l r ≡ by_parts → (b' : ℕ) → compare_parts aut68 (parts_first_at ls L d) l r b ≡ stop mismatch b'
       → parts_first_at ls L (suc d) l r b ≡ stop mismatch b'
   unfolding pass
   turn_different q b' e = parts_first_loop ls L d l r b ∙ rw (q, e, pass)
@@ -98,13 +98,13 @@ module _ (ls : Lines) (L d : ℕ) (l r : Expr) (b : ℕ) where
     turn_step = go s q
       where
         go : (s : Which) → next ls l r ≡ step_in s n → parts_first_at ls L (suc d) l r b ≡ step_to L n (parts_first_at ls L (suc d) (pick s n l) (pick s r n)) b'
-        go theLeft q = parts_first_loop ls L d l r b ∙ rw (q, e, pass, unless_equal)
-        go theRight q = parts_first_loop ls L d l r b ∙ rw (q, e, pass, unless_equal)
+        go the_left q = parts_first_loop ls L d l r b ∙ rw (q, e, pass, unless_equal)
+        go the_right q = parts_first_loop ls L d l r b ∙ rw (q, e, pass, unless_equal)
 
-    pub turn_spent : b' ≡ 0 → parts_first_at ls L (suc d) l r b ≡ stop outOfBudget b'
+    pub turn_spent : b' ≡ 0 → parts_first_at ls L (suc d) l r b ≡ stop out_of_budget b'
     turn_spent z = turn_step ∙ step_spent L n _ b' z
 
-    pub turn_large : 0 < b' → L < size n → parts_first_at ls L (suc d) l r b ≡ stop tooLarge b'
+    pub turn_large : 0 < b' → L < size n → parts_first_at ls L (suc d) l r b ≡ stop too_large b'
     turn_large z h = turn_step ∙ step_large L n _ b' z h
 
     pub turn_onward : (c : ℕ) → c + 1 ≡ b' → size n ≤ L → parts_first_at ls L (suc d) l r b ≡ parts_first_at ls L (suc d) (pick s n l) (pick s r n) c

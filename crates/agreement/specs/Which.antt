@@ -1,15 +1,15 @@
 -- One of the two sides.
 use Rattle.aut68.specs.Expr.{Expr}
-use Rattle.aut68.specs.Procedure.Compare.{Next, stepLeft, stepRight}
+use Rattle.aut68.specs.Procedure.Compare.{Next, step_left, step_right}
 
 pub data Which : Type 0 where
-  theLeft theRight : Which
+  the_left the_right : Which
 
 abbrev pub pick : {A : Type 0} → Which → A → A → A
-pick theLeft x y = x
-pick theRight x y = y
+pick the_left x y = x
+pick the_right x y = y
 
 -- a head step in it that leaves an expression
 abbrev pub step_in : Which → Expr → Next
-step_in theLeft = stepLeft
-step_in theRight = stepRight
+step_in the_left = step_left
+step_in the_right = step_right

@@ -7,7 +7,7 @@ use Rattle.aut68.specs.Lines.{Lines}
 use Rattle.aut68.specs.Paragraphs.{State, start}
 use Rattle.aut68.specs.Rules.Steps.{Equal}
 use Rattle.aut68.specs.Rules.Derivation.{Derived}
-use Rattle.aut68.specs.Procedure.Answer.{done, stop, code_in, rest_in, code_of, mismatch, tooLarge, outOfBudget}
+use Rattle.aut68.specs.Procedure.Answer.{done, stop, code_in, rest_in, code_of, mismatch, too_large, out_of_budget}
 use Rattle.aut68.specs.Procedure.Compare.{Comparison, compare}
 use Rattle.aut68.specs.Procedure.PartsFirst.{parts_first}
 
@@ -17,7 +17,7 @@ pub record FindsEquality (ls : Lines) (compares : ℕ → Comparison) : Type 0 w
   pub equal : (L N b : ℕ) (l r : Expr) → compares L l r N ≡ done tt b → Equal ls l r
   pub different : (L N b : ℕ) (l r : Expr) → compares L l r N ≡ stop mismatch b → ¬ Equal ls l r
   pub codes : (L N : ℕ) (l r : Expr)
-      → (code_in (compares L l r N) ≡ 0) ⊎ ((code_in (compares L l r N) ≡ code_of mismatch) ⊎ ((code_in (compares L l r N) ≡ code_of tooLarge) ⊎ (code_in (compares L l r N) ≡ code_of outOfBudget)))
+      → (code_in (compares L l r N) ≡ 0) ⊎ ((code_in (compares L l r N) ≡ code_of mismatch) ⊎ ((code_in (compares L l r N) ≡ code_of too_large) ⊎ (code_in (compares L l r N) ≡ code_of out_of_budget)))
 
 -- the code of a comparison that neither size nor budget stopped
 abbrev pub Ends : ℕ → Type 0

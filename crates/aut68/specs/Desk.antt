@@ -8,7 +8,7 @@ use Rattle.aut68.specs.Lines.{Lines}
 use Rattle.aut68.specs.Rules.Steps.{Equal}
 use Rattle.aut68.specs.Rules.Strings.{Reads, Whole}
 use Rattle.aut68.specs.Procedure.Answer.{code_in, rest_in}
-use Rattle.aut68.specs.Procedure.Calls.{decline_code, notWhole, stringsDiffer, stringTooLarge}
+use Rattle.aut68.specs.Procedure.Calls.{decline_code, not_whole, strings_differ, string_too_large}
 use Rattle.aut68.specs.Procedure.Compare.{Comparison, compare}
 use Rattle.aut68.specs.Procedure.PartsFirst.{parts_first}
 use Rattle.aut68.specs.Procedure.Run.{run, code_at, recorded_at}
@@ -24,9 +24,9 @@ comparison_of true = parts_first
 -- string is one expression (`read_once`).
 pub data Judged (second : Bool) (ls : Lines) (L N : ℕ) (left right : List ℕ) (code steps : ℕ) : Type 0 where
   -- "18, left or right string not whole; both are tested before 10"
-  is_not_whole : ¬ (Whole ls left × Whole ls right) → code ≡ decline_code notWhole → steps ≡ 0 → Judged second ls L N left right code steps
+  is_not_whole : ¬ (Whole ls left × Whole ls right) → code ≡ decline_code not_whole → steps ≡ 0 → Judged second ls L N left right code steps
   -- "A whole string of more than L cells gets 10 before any step."
-  is_too_large : Whole ls left → Whole ls right → (L < length left) ⊎ (L < length right) → code ≡ decline_code stringTooLarge → steps ≡ 0
+  is_too_large : Whole ls left → Whole ls right → (L < length left) ⊎ (L < length right) → code ≡ decline_code string_too_large → steps ≡ 0
       → Judged second ls L N left right code steps
   is_compared : (l r : Expr) → Reads ls left l → Reads ls right r → length left ≤ L → length right ≤ L
       → code ≡ code_in (comparison_of second ls L l r N) → steps ≡ N - rest_in (comparison_of second ls L l r N) → Judged second ls L N left right code steps
@@ -55,7 +55,7 @@ pub record ComparesStrings (second : Bool) (book : Bytes) (N L : ℕ) (s : Store
   -- "'different' (9) only if there is none". Shut out: a program that calls sides different whose parts differ before a head step; one
   -- that calls strings different for their lengths.
   pub different : let ls = (recorded_at (run aut68 book (limits_of N L s))).recorded in
-      code_at (run aut68 book (limits_of N L s)) ≡ 0 → code ≡ decline_code stringsDiffer → Between ls left right (λ l r. ¬ Equal ls l r)
+      code_at (run aut68 book (limits_of N L s)) ≡ 0 → code ≡ decline_code strings_differ → Between ls left right (λ l r. ¬ Equal ls l r)
   -- An answer is kept under larger budgets and limits, with its steps; that the admission ends alike is in `admits_first`. Shut out: a
   -- program that tests strings only as far as L goes; one that counts steps from the larger budget.
   pub kept : let ls = (recorded_at (run aut68 book (limits_of N L s))).recorded in

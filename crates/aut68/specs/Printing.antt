@@ -8,7 +8,7 @@ use Rattle.aut68.specs.Source.{SourceLine}
 use Rattle.aut68.specs.Paragraphs.{start}
 use Rattle.aut68.specs.Pages.{without, without_spaces, pages, read_back}
 use Rattle.aut68.specs.Symbols.{symbols_in}
-use Rattle.aut68.specs.Procedure.Calls.{storeTooSmall}
+use Rattle.aut68.specs.Procedure.Calls.{store_too_small}
 use Rattle.aut68.specs.Procedure.Run.{Ending, run, state_of, code_at, line_at, steps_at, recorded_at, table_end, terms_end, work_end, index_end}
 use Rattle.aut68.specs.Rules.Grammar.{WellFormed, SignLine, IsSign}
 use Rattle.aut68.specs.Rules.Derivation.{Derived}
@@ -64,7 +64,7 @@ ReadsBackPadded = (language : Language) (book : Bytes) (N L : ℕ) (s : Stores)
 pub record PrintsPages (language : Language) (book : Bytes) (N L : ℕ) (s : Stores) (old : Bytes) (code line steps count : ℕ) (s' : Stores) (new : Bytes) : Type 0 where
   -- The book is admitted first; printing takes no step. "15, page store too small; then, as after a refusal, it is untouched." Shut out:
   -- a program that puts 67 bytes in a row, or the number on every row; one that writes the rows that fit.
-  pub admits_first : AdmitsFirst language book N L s code line steps count s' (new ≡ old) (λ _. (steps ≡ 0) × Writes (pages book) storeTooSmall old code count new)
+  pub admits_first : AdmitsFirst language book N L s code line steps count s' (new ≡ old) (λ _. (steps ≡ 0) × Writes (pages book) store_too_small old code count new)
   -- "Columns 7 to 72, read back line by line, give the same shelf cells." Shut out, since it speaks of what was written: a program that
   -- drops the last row of a long line; one that keeps the spaces and lets them pass the end of the text columns.
   pub reads_back : let e = run language book (limits_of N L s) in

@@ -7,7 +7,7 @@ use Rattle.aut68.specs.Lines.{Line, Lines}
 use Rattle.aut68.specs.Paragraphs.{State, start}
 use Rattle.aut68.specs.Index.{names_of}
 use Rattle.aut68.specs.Renumbering.{renumber_line}
-use Rattle.aut68.specs.Procedure.Calls.{decline_code, no_such_line, answerTooLong}
+use Rattle.aut68.specs.Procedure.Calls.{decline_code, no_such_line, answer_too_long}
 use Rattle.aut68.specs.Procedure.Run.{run, code_at, recorded_at}
 use Rattle.aut68.specs.Rules.Names.{IsLine, Member}
 use Rattle.aut68.specs.Rules.Derivation.{Derived, Correct}
@@ -52,7 +52,7 @@ pub data Told (ls : Lines) (v : ℕ) (old : List ℕ) (code count : ℕ) (new : 
   -- "13, the line is 0 or above the last"
   no_line : (v ≡ 0) ⊎ (length ls < v) → code ≡ decline_code no_such_line → count ≡ 0 → new ≡ old → Told ls v old code count new
   -- "a list that does not fit gives 12 and none of it is written"
-  told : (list : List ℕ) → 1 ≤ v → v ≤ length ls → RestsOn ls v list → Writes list answerTooLong old code count new → Told ls v old code count new
+  told : (list : List ℕ) → 1 ≤ v → v ≤ length ls → RestsOn ls v list → Writes list answer_too_long old code count new → Told ls v old code count new
 
 -- What the call promises, of the bytes, the budget N, the limit L, the stores at entry, the line v, the cells of the answer's store at
 -- entry, the outcome, the stores and the answer's store at exit. Each field names two wrong programs that it shuts out.

@@ -1,6 +1,6 @@
 -- Cases of papers 1, 7 and 13 that tell misreadings of the procedure apart. Crate `worked` has the others.
 use Rattle.std.specs.Prelude.{ℕ, List, [], ◌∷◌, ◌++◌}
-use Rattle.aut68.specs.Language.{aut68, autQE}
+use Rattle.aut68.specs.Language.{aut68, aut_qe}
 use Rattle.aut68.specs.Cases.{Case, Kept, kept, indexed, bytes_of, usual}
 
 -- ---- omitted arguments
@@ -64,9 +64,9 @@ families = naturals ++ bytes_of "*f:=PN:[x,nat]type\n*d:=f:type\n*g:=PN:f\n*h:=P
 unfoldable pub telling_qe : List Case
 telling_qe =
     -- 001, 3.3 and 3.4: modus ponens, con, non, dnl
-    usual autQE (bytes_of "*p:=EB:prop\np*q:=EB:prop\nq*i:=EB:[x,p]q\ni*j:=EB:p\nj*mp:=<j>i:q\n*con:=PN:prop\np*non:=[x,p]con:prop\np*k:=EB:non(non(p))\nk*dnl:=PN:p\n") 0 9 0
+    usual aut_qe (bytes_of "*p:=EB:prop\np*q:=EB:prop\nq*i:=EB:[x,p]q\ni*j:=EB:p\nj*mp:=<j>i:q\n*con:=PN:prop\np*non:=[x,p]con:prop\np*k:=EB:non(non(p))\nk*dnl:=PN:p\n") 0 9 0
     ∷  -- prop is no type
-    usual autQE (naturals ++ bytes_of "*p:=PN:prop\n*u:=p:type\n") 9 7 0
+    usual aut_qe (naturals ++ bytes_of "*p:=PN:prop\n*u:=p:type\n") 9 7 0
     ∷  -- second chance: d has category type, but unfolds to f; the head step is counted
-    usual autQE (families ++ bytes_of "*u:=<one>h:<one>f\n") 0 10 1
+    usual aut_qe (families ++ bytes_of "*u:=<one>h:<one>f\n") 0 10 1
     ∷ []

@@ -2,7 +2,7 @@
 -- values its cells have: cellValues, or narrowValues for shelves stored before.
 use Rattle.std.specs.Prelude.{◌≡◌, Bool, true, false, ◌&&◌, ℕ, ◌≤◌, List, [], ◌∷◌, leb, ltb, length, take}
 use Rattle.std.proofs.Math.Option.{Option, none, some}
-use Rattle.aut68.specs.Procedure.Calls.{Decline, storeTooSmall, cellTooLarge, decline_code}
+use Rattle.aut68.specs.Procedure.Calls.{Decline, store_too_small, cell_too_large, decline_code}
 use Rattle.aut68.specs.Procedure.Run.{over}
 
 -- is each cell one of so many values?
@@ -15,8 +15,8 @@ fits_width values (x ∷ xs) = ltb x values && fits_width values xs
 unfoldable pub conversion : ℕ → List ℕ → List ℕ → Option Decline
 conversion values source target =
     elim (leb (length source) (length target) && ltb (length source) 4294967296) [
-      | false ↦ some storeTooSmall
-      | true ↦ elim (fits_width values source) [ false ↦ some cellTooLarge | true ↦ none ]
+      | false ↦ some store_too_small
+      | true ↦ elim (fits_width values source) [ false ↦ some cell_too_large | true ↦ none ]
     ]
 
 -- What a call leaves that puts the source into the target, whose cells have so many values: its numbers, and the target.

@@ -15,7 +15,7 @@ use Rattle.aut68.specs.Stores.{Stores, stores, Limits, limits_of}
 use Rattle.aut68.specs.Bytes.{Bytes, lines}
 use Rattle.aut68.specs.Lines.{table_of, rows_from, terms_of}
 use Rattle.aut68.specs.Index.{index_of}
-use Rattle.aut68.specs.Procedure.Answer.{Refusal, code_of, workTooSmall, limitOutOfRange, outOfSpace}
+use Rattle.aut68.specs.Procedure.Answer.{Refusal, code_of, work_too_small, limit_out_of_range, out_of_space}
 use Rattle.aut68.specs.Procedure.Run.{Recorded, state_of, Ending, turned_away, refused_at, nothing, check_lines, run, over, code_at, line_at, steps_at, recorded_at, table_end, terms_end, work_end, index_end}
 use Rattle.aut68.specs.Demands.{Determined}
 use Rattle.lookup.specs.Runs.{LinesEnd, all_pass, left_open, one_stops, lines_end, run_admitted}
@@ -55,16 +55,16 @@ module _ (language : Language) (book : Bytes) (N L : ℕ) (s : Stores) where
   unfolding code_at line_at steps_at recorded_at work_end
   away {r} q = ends {e = turned_away r} q refl refl
 
-  pub low_limit : L < smallest_limit → EndsEarly limitOutOfRange s.work
+  pub low_limit : L < smallest_limit → EndsEarly limit_out_of_range s.work
   unfolding run
   low_limit h = away (rw (lt-leb smallest_limit L h, run) refl)
 
-  pub high_limit : largest_limit < L → smallest_limit ≤ L → EndsEarly limitOutOfRange s.work
+  pub high_limit : largest_limit < L → smallest_limit ≤ L → EndsEarly limit_out_of_range s.work
   unfolding run
   high_limit h k = away (rw (le-leb smallest_limit L k, lt-leb L largest_limit h, run) refl)
 
   module _ (low : smallest_limit ≤ L) (high : L ≤ largest_limit) where
-    pub little_work : length s.work < work_units * L → EndsEarly workTooSmall s.work
+    pub little_work : length s.work < work_units * L → EndsEarly work_too_small s.work
     unfolding run
     little_work h = away (rw (le-leb smallest_limit L low, le-leb L largest_limit high, lt-leb (work_units * L) (length s.work) h, run) refl)
 
@@ -80,10 +80,10 @@ module _ (language : Language) (book : Bytes) (N L : ℕ) (s : Stores) where
           ∙ ap (λ (y : List ℕ). zeros ++ y) d
           ∙ sym (ap (λ (k : ℕ). zeros ++ drop k s.work) (length-replicate (work_units * L) 0)))
 
-      pub long_book : {w' : List ℕ} → book_limit < length book → w' ≡ cleared (work_units * L) s.work → EndsEarly outOfSpace w'
+      pub long_book : {w' : List ℕ} → book_limit < length book → w' ≡ cleared (work_units * L) s.work → EndsEarly out_of_space w'
       unfolding run code_at line_at steps_at recorded_at work_end
       long_book h e =
-          ends {e = refused_at outOfSpace 0 0 nothing}
+          ends {e = refused_at out_of_space 0 0 nothing}
           (rw (le-leb smallest_limit L low, le-leb L largest_limit high, le-leb (work_units * L) (length s.work) enough, lt-leb (length book) book_limit h, run) refl) refl
           (e ∙ cleared_over s.work refl refl)
 

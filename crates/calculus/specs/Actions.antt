@@ -2,7 +2,7 @@
 use Rattle.std.specs.Prelude.{◌≡◌, refl, Bool, List, [], ◌∷◌, ℕ, zero, suc, ◌<◌, leb, length}
 use Rattle.std.proofs.Math.Bool.{true, false}
 use Rattle.std.proofs.Common.{arith}
-use Rattle.aut68.specs.Procedure.Answer.{Act, done, and_then, ensure, Refusal, tooLarge}
+use Rattle.aut68.specs.Procedure.Answer.{Act, done, and_then, ensure, Refusal, too_large}
 use Rattle.aut68.specs.Expr.{Expr, type, prop, var, bound, const, app, abs, size, is_type}
 use Rattle.aut68.specs.Lines.{Line, Lines}
 use Rattle.aut68.specs.Rules.Names.{IsLine, first, later}
@@ -34,12 +34,12 @@ nth_domain R (p ∷ sc) zero h b = is_done innermost
 nth_domain R (p ∷ sc) (suc i) h b = judged_map (λ q d. outside d) (λ r x. x) (nth_domain R sc i (omega arith) b)
 
 module _ {P : Expr → Type 0} {R : Refusal → Type 0} where
-  made_sized : (t : Bool) (e : Expr) → P e → R tooLarge → (b : ℕ) → Judged P R (and_then (λ _ s. done e s) (ensure t tooLarge b))
+  made_sized : (t : Bool) (e : Expr) → P e → R too_large → (b : ℕ) → Judged P R (and_then (λ _ s. done e s) (ensure t too_large b))
   unfolding ensure and_then
   made_sized true e p q b = is_done p
   made_sized false e p q b = is_stop q
 
-  pub made_judged : (L : ℕ) (e : Expr) → P e → R tooLarge → (b : ℕ) → Judged P R (made L e b)
+  pub made_judged : (L : ℕ) (e : Expr) → P e → R too_large → (b : ℕ) → Judged P R (made L e b)
   unfolding made
   made_judged L e p q b = made_sized (leb (size e) L) e p q b
 

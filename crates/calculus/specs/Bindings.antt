@@ -2,7 +2,7 @@
 use Rattle.std.specs.Prelude.{Bool, List, ℕ, suc, ◌+◌, ◌≤◌, length}
 use Rattle.std.proofs.Math.Bool.{true, false}
 use Rattle.std.proofs.Common.{arith}
-use Rattle.aut68.specs.Language.{Language, aut68, autQE}
+use Rattle.aut68.specs.Language.{Language, aut68, aut_qe}
 use Rattle.aut68.specs.Expr.{Expr, type, abs, is_type, over_binding}
 use Rattle.aut68.specs.Substitution.{lift}
 use Rattle.aut68.specs.Lines.{Lines}
@@ -27,7 +27,7 @@ module _ (language : Language) (ls : Lines) (X : ℕ → Type 0) where
 
       go : (language : Language) → InCategory k (over_binding language p c)
       go aut68 = at (is_type c)
-      go autQE = (w, x)
+      go aut_qe = (w, x)
 
   domain_scoped : {p : Expr} {sc : List Expr} {i : ℕ} → DomainAt p sc i → ScopedScope X (ConstantOf ls) sc → (k : ℕ) × In k p × (k + suc i ≤ length sc)
   unfolding ScopedScope

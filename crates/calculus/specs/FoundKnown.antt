@@ -4,8 +4,8 @@ use Rattle.std.proofs.Math.Path.{refl, subst}
 use Rattle.std.proofs.Common.{sym}
 use native.Mathlib.Omega.{arith}
 use Rattle.std.proofs.Math.ListN.{length}
-use Rattle.aut68.specs.Language.{Language, aut68, autQE}
-use Rattle.aut68.specs.Procedure.Answer.{Answer, done, stop, ◌>>=◌, Act, Refusal, notFunction, refuse}
+use Rattle.aut68.specs.Language.{Language, aut68, aut_qe}
+use Rattle.aut68.specs.Procedure.Answer.{Answer, done, stop, ◌>>=◌, Act, Refusal, not_function, refuse}
 use Rattle.aut68.specs.Expr.{Expr, type, prop, var, bound, const, app, abs, is_sort, Shape, shape, abstraction, other, over_binding}
 use Rattle.aut68.specs.Substitution.{lift, substitute, instantiate}
 use Rattle.aut68.specs.Lines.{Lines}
@@ -51,9 +51,9 @@ second_known : (language : Language) (ls : Lines) (search : Search) (k d : ℕ) 
     → Judged (λ _. Known ls k f) Any (second_chance language search d sc f b)
 unfolding second_chance
 second_known aut68 ls search k d sc f w s b = is_stop tt
-second_known autQE ls search k d sc f w s b = go (is_sort f) refl
+second_known aut_qe ls search k d sc f w s b = go (is_sort f) refl
   where
-    go : (t : Bool) → is_sort f ≡ t → Judged (λ _. Known ls k f) Any ((elim t as (λ _. Act ℕ Expr) [ true ↦ refuse notFunction | false ↦ search d sc f ]) b)
+    go : (t : Bool) → is_sort f ≡ t → Judged (λ _. Known ls k f) Any ((elim t as (λ _. Act ℕ Expr) [ true ↦ refuse not_function | false ↦ search d sc f ]) b)
     go true q = is_stop tt
     go false q = anyway (plain_known ls k f w s q) (search d sc f b)
 

@@ -3,7 +3,7 @@ use Rattle.std.specs.Prelude.{◌≡◌, true, false, leb}
 use Rattle.std.proofs.Math.Path.{refl}
 use Rattle.std.proofs.Math.Option.{Option, none, some}
 use Prim.Native.Nat.{ℕ, zero, suc}
-use Rattle.aut68.specs.Procedure.Answer.{Answer, done, stop, tooLarge, outOfBudget}
+use Rattle.aut68.specs.Procedure.Answer.{Answer, done, stop, too_large, out_of_budget}
 use Rattle.aut68.specs.Expr.{Expr, size, Shape, shape, abstraction, other}
 use Rattle.aut68.specs.Lines.{Lines}
 use Rattle.aut68.specs.Rules.Steps.{Reduces}
@@ -37,14 +37,14 @@ module _ (ls : Lines) where
   head_form_finds X L f zero = go (shape f) refl
     where
       next : (o : Option Expr) → left (head_step ls f) ≡ o → shape f ≡ other
-          → Judged {S = ℕ} (Formed f) (Finding X) (elim o [ none ↦ done f zero | some g ↦ stop outOfBudget zero ])
+          → Judged {S = ℕ} (Formed f) (Finding X) (elim o [ none ↦ done f zero | some g ↦ stop out_of_budget zero ])
       next none e s = is_done (record { heads = Categories.done; ended = is_other s e })
       next (some g) e s = is_stop spent
 
       go : (s : Shape) → shape f ≡ s
           → Judged {S = ℕ} (Formed f) (Finding X) (elim s [
             | abstraction p q ↦ done f zero
-            | other ↦ elim (left (head_step ls f)) [ none ↦ done f zero | some g ↦ stop outOfBudget zero ]
+            | other ↦ elim (left (head_step ls f)) [ none ↦ done f zero | some g ↦ stop out_of_budget zero ]
           ])
       go (abstraction p q) e = is_done (record { heads = Categories.done; ended = is_function e })
       go other e = next (left (head_step ls f)) refl e
@@ -53,7 +53,7 @@ module _ (ls : Lines) where
       next : ((g : Expr) → Judged (Formed g) (Finding X) (head_form ls L g b)) → (o : Option Expr) → left (head_step ls f) ≡ o → shape f ≡ other
           → Judged {S = ℕ} (Formed f) (Finding X) (elim o [
             | none ↦ done f (suc b)
-            | some g ↦ elim (leb (size g) L) [ true ↦ head_form ls L g b | false ↦ stop tooLarge (suc b) ]
+            | some g ↦ elim (leb (size g) L) [ true ↦ head_form ls L g b | false ↦ stop too_large (suc b) ]
           ])
       next ih none e s = is_done (record { heads = Categories.done; ended = is_other s e })
       next ih (some g) e s = judged_sized (leb (size g) L) (suc b) (stepped e (ih g)) large
@@ -63,7 +63,7 @@ module _ (ls : Lines) where
             | abstraction p q ↦ done f (suc b)
             | other ↦ elim (left (head_step ls f)) [
               | none ↦ done f (suc b)
-              | some g ↦ elim (leb (size g) L) [ true ↦ head_form ls L g b | false ↦ stop tooLarge (suc b) ]
+              | some g ↦ elim (leb (size g) L) [ true ↦ head_form ls L g b | false ↦ stop too_large (suc b) ]
             ]
           ])
       go ih (abstraction p q) e = is_done (record { heads = Categories.done; ended = is_function e })

@@ -6,18 +6,18 @@ use Rattle.std.proofs.Math.Option.{none, some}
 use Rattle.aut68.specs.Expr.{Expr, identical}
 use Rattle.aut68.specs.Lines.{Lines}
 use Rattle.aut68.specs.Procedure.HeadStep.{Head, no_step, beta, delta, head_step, left}
-use Rattle.aut68.specs.Procedure.Compare.{Next, same, byParts, stepLeft, stepRight, choose, next}
+use Rattle.aut68.specs.Procedure.Compare.{Next, same, by_parts, step_left, step_right, choose, next}
 use Rattle.calculus.specs.Shapes.{identical_same}
 
 module _ (ls : Lines) where
   pub data NextIs (l r : Expr) : Next → Type 0 where
     is_same : l ≡ r → NextIs l r same
-    is_parts : left (head_step ls l) ≡ none → left (head_step ls r) ≡ none → NextIs l r byParts
-    is_left : {l' : Expr} → left (head_step ls l) ≡ some l' → NextIs l r (stepLeft l')
-    is_right : {r' : Expr} → left (head_step ls r) ≡ some r' → NextIs l r (stepRight r')
+    is_parts : left (head_step ls l) ≡ none → left (head_step ls r) ≡ none → NextIs l r by_parts
+    is_left : {l' : Expr} → left (head_step ls l) ≡ some l' → NextIs l r (step_left l')
+    is_right : {r' : Expr} → left (head_step ls r) ≡ some r' → NextIs l r (step_right r')
 
   larger_line : {l r l' r' : Expr} (t : Bool) → left (head_step ls l) ≡ some l' → left (head_step ls r) ≡ some r'
-      → NextIs l r (elim t [ true ↦ stepLeft l' | false ↦ stepRight r' ])
+      → NextIs l r (elim t [ true ↦ step_left l' | false ↦ step_right r' ])
   larger_line true p q = is_left p
   larger_line false p q = is_right q
 

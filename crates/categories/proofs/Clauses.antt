@@ -7,7 +7,7 @@ use native.Mathlib.Omega.{arith}
 use lib.ListN.{length}
 use Rattle.aut68.specs.Procedure.Category as Category
 use Rattle.aut68.specs.Language.{aut68}
-use Rattle.aut68.specs.Procedure.Answer.{Act, Answer, done, stop, and_then, ◌>>=◌, refuse, ensure, Refusal, code_of, notFunction, not_type}
+use Rattle.aut68.specs.Procedure.Answer.{Act, Answer, done, stop, and_then, ◌>>=◌, refuse, ensure, Refusal, code_of, not_function, not_type}
 use Rattle.aut68.specs.Expr.{Expr, Exprs, var, bound, const, app, abs, nil, cons, snoc, count_exprs, is_type, Shape, shape, abstraction, other, over_binding}
 use Rattle.aut68.specs.Substitution.{lift, substitute, instantiate}
 use Rattle.aut68.specs.Lines.{Line, Lines}
@@ -103,7 +103,7 @@ module _ (ls : Lines) (L : ℕ) (sc : List Expr) (n : ℕ) where
       chosen t =
           elim t as (λ _. Act ℕ Expr) [
             | abstraction p q ↦ (category68 ls L sc a >>= λ found. compare aut68 ls L found p >>= λ _. made L (substitute a 0 q))
-            | other ↦ refuse notFunction
+            | other ↦ refuse not_function
           ]
 
       rest : Category.Function → Act ℕ Expr

@@ -3,7 +3,7 @@
 use Rattle.std.specs.Prelude.{◌≡◌, List, [], ◌∷◌, ℕ, suc}
 use Rattle.std.proofs.Math.Path.{refl, ap₂}
 use Rattle.aut68.specs.Language.{aut68}
-use Rattle.aut68.specs.Procedure.Answer.{Act, and_then, ◌>>=◌, refuse, ensure, notFunction, not_type}
+use Rattle.aut68.specs.Procedure.Answer.{Act, and_then, ◌>>=◌, refuse, ensure, not_function, not_type}
 use Rattle.aut68.specs.Expr.{Expr, Exprs, type, prop, var, bound, const, app, abs, nil, cons, snoc, is_type, shape, abstraction, other, over_binding}
 use Rattle.aut68.specs.Substitution.{substitute, instantiate}
 use Rattle.aut68.specs.Lines.{Lines}
@@ -27,7 +27,7 @@ module _ (ls : Lines) (L : ℕ) where
         found ← seekA
         _ ← compare aut68 ls L found p
         made L (substitute a 0 q))
-      | other ↦ refuse notFunction
+      | other ↦ refuse not_function
     ]
 
   -- `[x,P]T`, with what seeks P's category and T's

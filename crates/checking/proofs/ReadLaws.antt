@@ -7,7 +7,7 @@ use Rattle.aut68.specs.Language.{Language}
 use Rattle.aut68.specs.Stores.{Limits}
 use Rattle.aut68.specs.Bytes.{Bytes}
 use Rattle.aut68.specs.Paragraphs.{State}
-use Rattle.aut68.specs.Procedure.Answer.{Answer, done, stop, give, aside, and_then, ensure, Refusal, code_of, outOfSpace}
+use Rattle.aut68.specs.Procedure.Answer.{Answer, done, stop, give, aside, and_then, ensure, Refusal, code_of, out_of_space}
 use Rattle.aut68.specs.Procedure.Resolve.{found}
 use Rattle.aut68.specs.Procedure.Resolve as Resolve
 use Rattle.aut68.specs.Procedure.CheckLine.{Passed, read_line, room, store, check_categories, check_line}
@@ -34,7 +34,7 @@ module _ (language : Language) (st : State) (m : Limits) (bytes : Bytes) (b : �
   not_read e = rw e refl
 
   -- refused for want of room
-  pub no_room : {p : Passed} → read_line language st m.limit bytes tt ≡ found p → room st.earlier m p.line ≡ false → check_line language st m bytes b ≡ stop outOfSpace b
+  pub no_room : {p : Passed} → read_line language st m.limit bytes tt ≡ found p → room st.earlier m p.line ≡ false → check_line language st m bytes b ≡ stop out_of_space b
   unfolding check_line store aside and_then ensure
   no_room e f = rw (e, f) refl
 

@@ -178,7 +178,13 @@ fn refused(code: u32, lines: usize, i: usize) -> Numbers {
 }
 
 // What the comparison of the expressions ends with, over a book of so many lines.
-fn compare_behind<E: Env>(rt: &E, book: &[u8], table: &[u32], lines: usize, work: &mut [Cell]) -> Numbers {
+fn compare_behind<E: Env>(
+    rt: &E,
+    book: &[u8],
+    table: &[u32],
+    lines: usize,
+    work: &mut [Cell],
+) -> Numbers {
     let mut left: [Cell; LIMIT] = [0; LIMIT];
     let l = read_argument(rt, 1, book, table, lines, work, &mut left);
     if l.code != 0 {

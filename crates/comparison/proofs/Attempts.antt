@@ -11,7 +11,7 @@ use Rattle.aut68.specs.Sizes.{nesting}
 use Rattle.aut68.specs.Language.{aut68}
 use Rattle.aut68.specs.Expr.{Expr, size}
 use Rattle.aut68.specs.Lines.{Lines}
-use Rattle.aut68.specs.Procedure.Answer.{Answer, done, stop, code_of, mismatch, tooLarge}
+use Rattle.aut68.specs.Procedure.Answer.{Answer, done, stop, code_of, mismatch, too_large}
 use Rattle.aut68.specs.Procedure.Compare.{Next, next, Comparison, compare_parts}
 use Rattle.aut68.specs.Procedure.PartsFirst.{differs, parts_first_at}
 use Rattle.lookup.specs.Answers.{code_injective}
@@ -32,7 +32,7 @@ use Rattle.comparison.proofs.Depths.{result_is, Opened, placed, pair_frame, deep
 
 pub parts_first_none : (ls : Lines) (L : ℕ) (e f : Expr) (b : ℕ) → Result (λ _. Unit {0}) 10 b (parts_first_at ls L 0 e f b)
 unfolding parts_first_at code_of
-parts_first_none ls L e f b = refused {r = tooLarge} refl
+parts_first_none ls L e f b = refused {r = too_large} refl
 
 -- the second comparison that may go so many levels deeper; it has no other comparison inside
 abbrev pub second : ℕ → ℕ → Lines → Unit {0} → Comparison

@@ -8,7 +8,7 @@ use Rattle.aut68.specs.Sizes.{work_units, nesting}
 use Rattle.aut68.specs.Language.{aut68}
 use Rattle.aut68.specs.Expr.{Expr}
 use Rattle.aut68.specs.Lines.{Lines}
-use Rattle.aut68.specs.Procedure.Answer.{code_of, tooLarge}
+use Rattle.aut68.specs.Procedure.Answer.{code_of, too_large}
 use Rattle.aut68.specs.Procedure.Compare.{sides, compare_at}
 use Rattle.cells.specs.Cells.{Outside}
 use Rattle.cells.specs.Layout.{unit_at, side_unit}
@@ -22,7 +22,7 @@ use Rattle.comparison.proofs.Depths.{result_is, Opened, placed, pair_frame, deep
 
 pub compare_at_none : (ls : Lines) (L : ℕ) (e f : Expr) (b : ℕ) → Result (λ _. Unit {0}) 10 b (compare_at aut68 ls L 0 e f b)
 unfolding compare_at code_of
-compare_at_none ls L e f b = refused {r = tooLarge} refl
+compare_at_none ls L e f b = refused {r = too_large} refl
 
 compare_at_more : (ls : Lines) (L deeper : ℕ) → (deeper ≡ 0 → ⊥) → (e f : Expr) (b : ℕ)
     → compare_at aut68 ls L deeper e f b ≡ sides aut68 ls L (compare_at aut68 ls L (deeper - 1)) e f b

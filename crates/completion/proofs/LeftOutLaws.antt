@@ -8,7 +8,7 @@ use native.Mathlib.Decide.{dec_lt}
 use lib.ListN.{length, get_or, take, length-append, get_or-append}
 use lib.Seq.{take-append-le, take_all, get_or_at, length-take-le}
 use Rattle.aut68.specs.Lines.{Line, Lines, row_cell}
-use Rattle.aut68.specs.Procedure.Answer.{wrongArity}
+use Rattle.aut68.specs.Procedure.Answer.{wrong_arity}
 use Rattle.aut68.specs.Procedure.Resolve.{found, refused, member, left_out, context_at}
 use Rattle.aut68.specs.Rules.Names.{IsLine, Context}
 use Rattle.aut68.specs.Sizes.{at_indicator, at_context}
@@ -65,7 +65,7 @@ module _ {ls : Lines} {book tb : List ℕ} {lines : ℕ} (k : Known ls book tb l
         go zero q = absurd (omega (arith, ap length (sym (zero_context ls) ∙ q), length-take-le (suc n) of (omega arith)))
         go (suc i) q = omega arith
 
-    cannot : (own : List ℕ) → member last own ≡ false → left_out count of own tt ≡ refused wrongArity
+    cannot : (own : List ℕ) → member last own ≡ false → left_out count of own tt ≡ refused wrong_arity
     cannot own m = cannot_be_put_in of own count n (omega arith) (λ (a, q). false≢true (sym m ∙ member_at last own n a (sym q ∙ at_place)))
 
     can : (indicator : ℕ) → indicator ≤ lines → member last (context_at ls indicator) ≡ true → left_out count of (context_at ls indicator) tt ≡ found (context_at ls last)

@@ -3,7 +3,7 @@ use Rattle.std.specs.Prelude.{◌≡◌, ◌≢◌, List, [], ◌∷◌, ◌++�
 use Rattle.std.proofs.Math.Seq.{slice}
 use Rattle.aut68.specs.Bytes.{Bytes}
 use Rattle.aut68.specs.Lines.{Line, Lines, row_cell}
-use Rattle.aut68.specs.Procedure.Answer.{wrongArity}
+use Rattle.aut68.specs.Procedure.Answer.{wrong_arity}
 use Rattle.aut68.specs.Procedure.Resolve.{found, refused, left_out, context_at}
 use Rattle.aut68.specs.Rules.Names.{IsLine}
 use Rattle.aut68.specs.Sizes.{cell_factor, line_limit, at_indicator}
@@ -30,7 +30,7 @@ pub record LineUp (tb : List ℕ) (c n r : ℕ) : Type 0 where
 pub record LastLeftOut (tb w : List ℕ) (indicator v count r : ℕ) : Type 0 where
   pub none : (ls : Lines) (book : Bytes) (lines : ℕ) → Known ls book tb lines → ContextNoted ls indicator w → indicator ≤ lines
       → (l : Line) → IsLine ls v l → count < length l.context → r ≡ 0
-      → left_out count l.context (context_at ls indicator) tt ≡ refused wrongArity
+      → left_out count l.context (context_at ls indicator) tt ≡ refused wrong_arity
   pub some : (ls : Lines) (book : Bytes) (lines : ℕ) → Known ls book tb lines → ContextNoted ls indicator w → indicator ≤ lines
       → (l : Line) → IsLine ls v l → count < length l.context → r ≢ 0
       → (r ≤ lines) × (left_out count l.context (context_at ls indicator) tt ≡ found (context_at ls r))

@@ -8,7 +8,7 @@ use lib.ListN.{length}
 use Rattle.aut68.specs.Bytes.{Bytes}
 use Rattle.aut68.specs.Lines.{Line, line_of}
 use Rattle.aut68.specs.Paragraphs.{State}
-use Rattle.aut68.specs.Procedure.Answer.{Answer, wrongArity}
+use Rattle.aut68.specs.Procedure.Answer.{Answer, wrong_arity}
 use Rattle.aut68.specs.Procedure.Resolve.{found, refused, Meaning, a_bound, a_variable, a_constant, left_out, wanted, context_at}
 use Rattle.aut68.specs.Rules.Names.{IsLine}
 use Rattle.aut68.specs.Sizes.{cell_factor, nesting}
@@ -35,7 +35,7 @@ of_constant_lem st context (a_constant v) {cell} e l P f =
     let q : v ≡ cell / cell_factor = omega arith in
     f (line_of st.earlier v) (subst (λ u. IsLine st.earlier u (line_of st.earlier v)) q (context_of_line st.earlier v (omega arith))) l
 
-refused_with : {w w' : List ℕ} {first end end' d fault fault' : ℕ} {us : Answer (Unit {0}) (List ℕ)} → fault' ≡ 6 → us ≡ refused wrongArity → Filled w w' first end end' d fault fault' us
+refused_with : {w w' : List ℕ} {first end end' d fault fault' : ℕ} {us : Answer (Unit {0}) (List ℕ)} → fault' ≡ 6 → us ≡ refused wrong_arity → Filled w w' first end end' d fault fault' us
 refused_with {w} {w'} {first} {end} {end'} {d} {fault} {fault'} e q = subst (λ us. Filled w w' first end end' d fault fault' us) (sym q) (wrong e)
 
 nothing_inserted : {w : List ℕ} {first end d : ℕ} → Inserted w w first end end d []

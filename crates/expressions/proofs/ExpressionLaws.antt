@@ -13,7 +13,7 @@ use Rattle.aut68.specs.Bytes.{Bytes, name_byte}
 use Rattle.aut68.specs.Source.{Src}
 use Rattle.aut68.specs.Expr.{Expr, cells, levels}
 use Rattle.aut68.specs.Paragraphs.{State}
-use Rattle.aut68.specs.Procedure.Answer.{done, stop, code_of, malformed, tooLarge}
+use Rattle.aut68.specs.Procedure.Answer.{done, stop, code_of, malformed, too_large}
 use Rattle.aut68.specs.Procedure.Parse.{Read, spaces, symbol, an_expression}
 use Rattle.aut68.specs.Procedure.Resolve.{Naming, resolve, context_at}
 use Rattle.aut68.specs.Sizes.{nesting}
@@ -31,7 +31,7 @@ use Rattle.expressions.specs.declared.parts.Reading.{Reading}
 use Rattle.expressions.specs.Walk.{ReadTo, SameBelow, Written}
 use Rattle.expressions.specs.Posts.{expression_in, named_in, application_in, abstraction_in, Sized, Ready, Refusing, Onward, ExpressionRead}
 use Rattle.expressions.proofs.StoreLaws.{below_same}
-use Rattle.expressions.proofs.ReadLaws.{read_is, read_stop, choose_application, choose_abstraction, choose_named, too_deep, opens_nothing}
+use Rattle.expressions.proofs.ReadLaws.{read_is, read_stop, choose_application, choose_abstraction, choose_named, too_deep_lem, opens_nothing}
 
 -- ---- names are looked up further on, where nothing is written below
 
@@ -151,7 +151,7 @@ pub code_malformed : code_of malformed ≡ 3
 unfolding code_of
 code_malformed = refl
 
-pub code_too_large : code_of tooLarge ≡ 10
+pub code_too_large : code_of too_large ≡ 10
 unfolding code_of
 code_too_large = refl
 
@@ -177,7 +177,7 @@ module _ {ks s book tb : List ℕ} {lines indicator : ℕ} {scope : Scope} {w : 
           onward = onward_refused (below_same r.to w) h (omega arith) small p.from (p.within inside);
           read = λ st ready.
               read_is (ap (λ d. an_expression aut68 d inner (drop r.at s)) (no_level scope.depth deep))
-              (read_stop (too_deep (drop r.at s) (ap opens_kind (sym (kind_ahead p q ready.table)) ∙ sym e ∙ f)) (h.code_is ∙ sym code_too_large));
+              (read_stop (too_deep_lem (drop r.at s) (ap opens_kind (sym (kind_ahead p q ready.table)) ∙ sym e ∙ f)) (h.code_is ∙ sym code_too_large));
         }
 
     pub expression_malformed : {t : Bool} → t ≡ opens_kind k → t ≡ false → Refusing 3 at r.to r'

@@ -10,7 +10,7 @@ use borrow.Author.Tests.{eq-eqb, ne_eqb, le-leb, lt-leb}
 use Rattle.aut68.specs.Language.{aut68}
 use Rattle.aut68.specs.Rules.Grammar.{inner, below}
 use Rattle.aut68.specs.Bytes.{Bytes, opens_expression, name_byte}
-use Rattle.aut68.specs.Procedure.Answer.{Answer, done, stop, and_then, Refusal, code_of, malformed, tooLarge, give}
+use Rattle.aut68.specs.Procedure.Answer.{Answer, done, stop, and_then, Refusal, code_of, malformed, too_large, give}
 use Rattle.aut68.specs.Procedure.Parse.{Read, spaces, symbol, starts, comma_or_close, arguments, arguments_if_any, named, application, abstraction, word_at, an_expression}
 use Rattle.aut68.specs.Source.{Src, nil}
 use Rattle.lookup.specs.Answers.{code_nonzero}
@@ -133,9 +133,9 @@ module _ (d : ℕ) (bs : Bytes) where
         an_expression,
       )
 
-pub too_deep : (bs : Bytes) → opens_kind (first_kind (spaces bs)) ≡ true → an_expression aut68 0 inner bs ≡ stop tooLarge bs
+pub too_deep_lem : (bs : Bytes) → opens_kind (first_kind (spaces bs)) ≡ true → an_expression aut68 0 inner bs ≡ stop too_large bs
 unfolding an_expression
-too_deep bs e = rw (starts_opens (spaces bs) ∙ e, an_expression)
+too_deep_lem bs e = rw (starts_opens (spaces bs) ∙ e, an_expression)
 
 pub opens_nothing : (bs : Bytes) → opens_kind (first_kind (spaces bs)) ≡ false → an_expression aut68 0 inner bs ≡ stop malformed bs
 unfolding an_expression

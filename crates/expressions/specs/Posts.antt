@@ -8,7 +8,7 @@ use Rattle.aut68.specs.Source.{Used, Src, Srcs, count_srcs}
 use Rattle.aut68.specs.Expr.{cells, cellss, levels, levelss}
 use Rattle.aut68.specs.Paragraphs.{State}
 use Rattle.aut68.specs.Procedure.Parse.{Read, an_expression, named, application, abstraction, arguments}
-use Rattle.aut68.specs.Procedure.Answer.{Answer, wrongArity}
+use Rattle.aut68.specs.Procedure.Answer.{Answer, wrong_arity}
 use Rattle.aut68.specs.Procedure.Resolve.{found, refused, Meaning, wanted, left_out, resolve, resolves, meaning, context_at}
 use Rattle.aut68.specs.Sizes.{nesting}
 use Rattle.cells.specs.Layout.{line_unit, reader_units}
@@ -131,7 +131,7 @@ pub record Inserted (w w' : List ℕ) (first end end' d : ℕ) (us : List ℕ) :
 -- what was left out is put in; else the fault is 6
 pub data Filled (w w' : List ℕ) (first end end' d fault fault' : ℕ) : Answer (Unit {0}) (List ℕ) → Type 0 where
   put_in : {us : List ℕ} → fault' ≡ fault → Inserted w w' first end end' d us → Filled w w' first end end' d fault fault' (found us)
-  wrong : fault' ≡ 6 → Filled w w' first end end' d fault fault' (refused wrongArity)
+  wrong : fault' ≡ 6 → Filled w w' first end end' d fault fault' (refused wrong_arity)
 
 -- r is the argument string a of a name that means m, its cells from `first` on, with what was left out
 pub record Completed (tb : List ℕ) (indicator : ℕ) (w w' : List ℕ) (first depth : ℕ) (a : Reading) (m : NameMeaning) (r : Reading) : Type 0 where

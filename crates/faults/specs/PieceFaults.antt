@@ -9,7 +9,7 @@ use Rattle.std.proofs.Math.Dec.{eqb}
 use Rattle.aut68.specs.Language.{Language}
 use Rattle.aut68.specs.Sizes.{nesting}
 use Rattle.aut68.specs.Bytes.{Bytes}
-use Rattle.aut68.specs.Procedure.Answer.{Answer, done, stop, malformed, tooLarge}
+use Rattle.aut68.specs.Procedure.Answer.{Answer, done, stop, malformed, too_large}
 use Rattle.aut68.specs.Procedure.Parse.{spaces, a_line, a_sign_line, signed}
 use Rattle.aut68.specs.Rules.Grammar.{Symbol, SignLine, sign_line, IsSign}
 use Rattle.aut68.specs.Rules.Openings.{OpensAt, opens_at, LineOpens, in_middle, in_category}
@@ -94,7 +94,7 @@ module _ (language : Language) where
     pub ordinary_malformed : (k : ℕ) → ((rest : Bytes) × (a_line language k bytes ≡ stop malformed rest)) ↔ (PieceFault language bytes ⊎ PieceUnended language bytes)
     ordinary_malformed k = (λ (rest, e). ordinary_fault.1 (malformed_where language k bytes e), λ h. malformed_if language k bytes (ordinary_fault.0 h))
 
-    pub ordinary_deep : (k : ℕ) → ((rest : Bytes) × (a_line language k bytes ≡ stop tooLarge rest)) ↔ FirstTooDeep language bytes
+    pub ordinary_deep : (k : ℕ) → ((rest : Bytes) × (a_line language k bytes ≡ stop too_large rest)) ↔ FirstTooDeep language bytes
     ordinary_deep k = (λ (rest, e). too_large_where language k bytes e, λ h. too_large_if language k bytes h)
 
   -- ---- paragraph lines

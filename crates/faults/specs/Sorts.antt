@@ -2,7 +2,7 @@
 use Rattle.std.specs.Prelude.{◌≡◌, ℕ, suc, length}
 use Rattle.std.proofs.Math.Path.{refl}
 use Rattle.std.proofs.Common.{◌∙◌}
-use Rattle.aut68.specs.Language.{Language, aut68, autQE, Extended, extended}
+use Rattle.aut68.specs.Language.{Language, aut68, aut_qe, Extended, extended}
 use Rattle.aut68.specs.Bytes.{Bytes, name_byte, same_bytes, word_type, word_prop, word_pn, word_eb}
 use Rattle.aut68.specs.Source.{Src}
 use Rattle.aut68.specs.Rules.Grammar.{Position, inner, ending, Symbol, NameBytes, no_byte, one_more, IsName, Expression}
@@ -29,7 +29,7 @@ prop_closes extended d = refl
 prop_name : (language : Language) (d : ℕ) {w : Bytes} → IsName language w → prop_or_call language d w ≡ named language (calls d) w
 unfolding prop_or_call
 prop_name aut68 d n = refl
-prop_name autQE d {w} n = if_false _ _ (same_of_ne w word_prop (n.not_prop extended))
+prop_name aut_qe d {w} n = if_false _ _ (same_of_ne w word_prop (n.not_prop extended))
 
 pub heads_begin : (language : Language) {l : Lead} {place : Position} {d : ℕ} {k : Word} → Heads l place d k → (K : Stack) (b : ℕ) → leads language l K b ≡ begin language place d k K b
 unfolding leads

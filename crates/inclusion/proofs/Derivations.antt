@@ -4,7 +4,7 @@ use Rattle.std.proofs.Common.{ap, sym, ◌∙◌, inl, inr, arith}
 use Rattle.std.proofs.Math.Path.{subst}
 use Rattle.std.proofs.Math.Option.{Option}
 use mathlib.Core.List.{List, [], ◌∷◌, ◌++◌}
-use Rattle.aut68.specs.Language.{Language, aut68, autQE, extended}
+use Rattle.aut68.specs.Language.{Language, aut68, aut_qe, extended}
 use Rattle.aut68.specs.Bytes.{Bytes, word_prop}
 use Rattle.aut68.specs.Source.{Used, plain, inside, Src, Srcs, Middle, SourceLine}
 use Rattle.aut68.specs.Expr.{Expr, Exprs, const, in_front, count_exprs}
@@ -80,8 +80,8 @@ abs_at : (language : Language) (place : Position) (w : Bytes) (x y : Src) → Pu
 unfolding Pure PureBefore below
 abs_at aut68 inner w x y h k = (h, k)
 abs_at aut68 ending w x y h k = (h, pure_before y k)
-abs_at autQE inner w x y h k = (h, k)
-abs_at autQE ending w x y h k = (h, k)
+abs_at aut_qe inner w x y h k = (h, k)
+abs_at aut_qe ending w x y h k = (h, k)
 
 module _ (language : Language) where
   mutual
@@ -186,7 +186,7 @@ ends_68 st {vs = vs} d {c = c} (inr p) h y = absurd (scoped_ends (VariableOf st.
 pub category_ends_lem : (language : Language) (st : State) {v : ℕ} {vs : List ℕ} → Context st.earlier v vs → {s : SourceLine} {bytes : Bytes} {c : Expr} → WellFormed language s bytes
     → Means st vs [] s.category c → Supertype c → IsType language c
 category_ends_lem aut68 st d (line i t n u v m y f z) h e = ends_68 st d (form_68 f) h e
-category_ends_lem autQE st d w h e = a_supertype extended e
+category_ends_lem aut_qe st d w h e = a_supertype extended e
 
 -- so a line's category is `type` or resolved
 pub category_plain : (st : State) {v : ℕ} {vs : List ℕ} → Context st.earlier v vs → {s : SourceLine} {bytes : Bytes} {c : Expr} → WellFormed aut68 s bytes → Means st vs [] s.category c
@@ -259,18 +259,18 @@ denotes_not : {st : State} {u : Used} {v : ℕ} → NoneIs st → Denotes st u v
 denotes_not N (an_earlier h) = let (q, l) = innermost_has h in λ p. N.lines _ _ l.is_line (l.identifier_is ∙ p)
 denotes_not N (in_closed h l) = let (q, n) = innermost_has h in (λ p. N.paragraphs _ n.is_paragraph.is_paragraph p, λ p. N.lines _ _ l.is_line (l.identifier_is ∙ p))
 
-name_qe : {w : Bytes} → IsName aut68 w → w ≢ word_prop → IsName autQE w
+name_qe : {w : Bytes} → IsName aut68 w → w ≢ word_prop → IsName aut_qe w
 name_qe h n = record { bytes = h.bytes; at_least = h.at_least; at_most = h.at_most; not_type = h.not_type; not_pn = h.not_pn; not_eb = h.not_eb; not_prop = λ x. n }
 
-used_qe : {u : Used} {a b : Bytes} → UsedForm aut68 u a b → NotUsed u → UsedForm autQE u a b
+used_qe : {u : Used} {a b : Bytes} → UsedForm aut68 u a b → NotUsed u → UsedForm aut_qe u a b
 used_qe (a_plain n s) k = a_plain (name_qe n k) s
 used_qe (a_pointed n s t m u) k = a_pointed (name_qe n k.0) s t (name_qe m k.1) u
 
-sign_qe : {sign : ℕ} {p bytes : Bytes} → SignLine aut68 sign p bytes → p ≢ word_prop → SignLine autQE sign p bytes
+sign_qe : {sign : ℕ} {p bytes : Bytes} → SignLine aut68 sign p bytes → p ≢ word_prop → SignLine aut_qe sign p bytes
 sign_qe (sign_line s n t u) k = sign_line s (name_qe n k) t u
 
 -- an expression inside may stand where a category ends
-wider_place : (place : Position) {x : Src} {a b : Bytes} → Expression autQE inner x a b → Expression autQE place x a b
+wider_place : (place : Position) {x : Src} {a b : Bytes} → Expression aut_qe inner x a b → Expression aut_qe place x a b
 unfolding below
 wider_place inner h = h
 wider_place ending (lone n) = lone n
@@ -302,7 +302,7 @@ module _ (st : State) (vs : List ℕ) (N : NoneIs st) where
     unfolding NotBound below
 
     expression_qe : {place : Position} {x : Src} {a b : Bytes} → Expression aut68 place x a b → (bs : List Bytes) (e : Expr) → Means st vs bs x e → NotAmong bs → NotBound word_prop x
-        → Expression autQE place x a b
+        → Expression aut_qe place x a b
     expression_qe (lone n) bs e m k u = lone (used_qe n (used_not m k))
     expression_qe (call n t h) bs e m k u =
         let (es, x) = call_means h m in
@@ -316,30 +316,30 @@ module _ (st : State) (vs : List ℕ) (N : NoneIs st) where
     expression_qe (Grammar.is_type s) bs e m k u = Grammar.is_type s
     expression_qe (Grammar.is_prop h _) bs e m k u = elim h [ ]
 
-    arguments_qe : {xs : Srcs} {a b : Bytes} → Arguments aut68 xs a b → (bs : List Bytes) (es : Exprs) → MeanAll st vs bs xs es → NotAmong bs → NotBoundIn word_prop xs → Arguments autQE xs a b
+    arguments_qe : {xs : Srcs} {a b : Bytes} → Arguments aut68 xs a b → (bs : List Bytes) (es : Exprs) → MeanAll st vs bs xs es → NotAmong bs → NotBoundIn word_prop xs → Arguments aut_qe xs a b
     arguments_qe (last h s) bs es m k u = let (e, rest, x, y) = all_mean m in last (expression_qe h bs e x k u.0) s
     arguments_qe (another h s g) bs es m k u =
         let (e, rest, x, y) = all_mean m in
         another (expression_qe h bs e x k u.0) s (arguments_qe g bs rest y k u.1)
 
-  middle_qe : {m : Middle} {a b : Bytes} {k : Kind} → MiddleForm aut68 m a b → MiddleMeans st vs m k → NotBoundMiddle word_prop m → MiddleForm autQE m a b
+  middle_qe : {m : Middle} {a b : Bytes} {k : Kind} → MiddleForm aut68 m a b → MiddleMeans st vs m k → NotBoundMiddle word_prop m → MiddleForm aut_qe m a b
   unfolding NotBoundMiddle
   middle_qe (Grammar.is_eb s) h u = Grammar.is_eb s
   middle_qe (Grammar.is_pn s) h u = Grammar.is_pn s
   middle_qe (Grammar.is_meaning x) (Names.is_meaning {m = e} h) u = Grammar.is_meaning (expression_qe x [] e h no_name u)
 
-  indicator_qe : {o : Option Used} {a b : Bytes} {v : ℕ} → IndicatorForm aut68 o a b → Indicates st o v → IndicatorForm autQE o a b
+  indicator_qe : {o : Option Used} {a b : Bytes} {v : ℕ} → IndicatorForm aut68 o a b → Indicates st o v → IndicatorForm aut_qe o a b
   indicator_qe empty h = empty
   indicator_qe (indicator n) (named d i) = indicator (used_qe n (denotes_not N d))
 
   form_qe : {s : SourceLine} {bytes : Bytes} {v : ℕ} {k : Kind} {c : Expr} → WellFormed aut68 s bytes → Indicates st s.indicator v → MiddleMeans st vs s.middle k
       → Means st vs [] s.category c → NoProp s
-      → WellFormed autQE s bytes
+      → WellFormed aut_qe s bytes
   form_qe (line i s n t r m u c z) hi hm hc without =
       line (indicator_qe i hi) s (name_qe n without.identifier) t r (middle_qe m hm without.middle) u (expression_qe c [] _ hc no_name without.category) z
 
 -- a line of AUT-68, after lines that are right, is one of AUT-QE
-derivation_inside : {st : State} {bytes : Bytes} {l : Line} → Right aut68 st.earlier → NoneIs st → (d : Derivation aut68 st bytes l) → NoProp d.source → Derivation autQE st bytes l
+derivation_inside : {st : State} {bytes : Bytes} {l : Line} → Right aut68 st.earlier → NoneIs st → (d : Derivation aut68 st bytes l) → NoProp d.source → Derivation aut_qe st bytes l
 derivation_inside {st} {l = l} R N d without =
     let M = derivation_meets d in
     record {
@@ -372,7 +372,7 @@ opening_not {st} {p} N n = record { lines = N.lines; paragraphs = λ x m. at (me
     at (inl m) = N.paragraphs _ m
     at (inr e) = λ q. n (sym (ap (λ (z : Paragraph). z.name) e) ∙ q)
 
-inside_from : {st all : State} {pieces : List Bytes} → Derived aut68 st pieces all → Built aut68 st.earlier → NoneIs st → BookWithoutProp pieces → Derived autQE st pieces all
+inside_from : {st all : State} {pieces : List Bytes} → Derived aut68 st pieces all → Built aut68 st.earlier → NoneIs st → BookWithoutProp pieces → Derived aut_qe st pieces all
 inside_from Derivation.no_more B N without = Derivation.no_more
 inside_from (Derivation.piece (Derivation.line d) h) B N (one_line f g without) =
     let P = f d.source d.form in
@@ -388,5 +388,5 @@ unfolding start outside
 start_not = record { lines = λ v l i. absurd (no_line_lem i); paragraphs = λ x m. absurd (no_member m) }
 
 -- "every book accepted as AUT-68 must be correct there, provided `prop` is no identifier, bound or paragraph name in it"
-pub book_inside : {st : State} {pieces : List Bytes} → Derived aut68 start pieces st → BookWithoutProp pieces → Derived autQE start pieces st
+pub book_inside : {st : State} {pieces : List Bytes} → Derived aut68 start pieces st → BookWithoutProp pieces → Derived aut_qe start pieces st
 book_inside h without = inside_from h start_built start_not without

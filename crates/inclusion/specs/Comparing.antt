@@ -8,16 +8,16 @@ use Rattle.std.proofs.Math.Option.{some}
 use Prim.Native.Nat.{ℕ, zero, suc}
 use Rattle.std.proofs.Math.Dec.{eqb}
 use Rattle.std.proofs.lemmas.Bool.{eqb-false}
-use Rattle.aut68.specs.Language.{Language, aut68, autQE, Extended, extended}
+use Rattle.aut68.specs.Language.{Language, aut68, aut_qe, Extended, extended}
 use Rattle.aut68.specs.Sizes.{nesting}
-use Rattle.aut68.specs.Procedure.Answer.{Act, Answer, done, stop, give, refuse, mismatch, tooLarge, outOfBudget}
+use Rattle.aut68.specs.Procedure.Answer.{Act, Answer, done, stop, give, refuse, mismatch, too_large, out_of_budget}
 use Rattle.aut68.specs.Expr.{Expr, Exprs, type, prop, var, bound, const, app, abs, nil, cons, size, first_cell, parts, ends_in_type, ends_in_prop}
 use Rattle.aut68.specs.Lines.{Lines}
 use Rattle.aut68.specs.Rules.Steps.{Reduces, Equal}
 use Rattle.aut68.specs.Rules.Serving.{Basic, a_type, a_prop, Ends, itself, before, Drops, Serves}
 use Rattle.aut68.specs.Rules.Serving
 use Rattle.aut68.specs.Procedure.HeadStep.{head_step, left}
-use Rattle.aut68.specs.Procedure.Compare.{Next, same, byParts, stepLeft, stepRight, next, Comparison, each, ends_as, has_surplus, compare_parts, sides, compare_at, compare}
+use Rattle.aut68.specs.Procedure.Compare.{Next, same, by_parts, step_left, step_right, next, Comparison, each, ends_as, has_surplus, compare_parts, sides, compare_at, compare}
 use Rattle.aut68.specs.Rules.Resolved.{Scoped, ConstantOf, VariableLine, Known}
 use Rattle.calculus.specs.Reductions.{steps_one, steps_eq}
 use Rattle.calculus.specs.Equality.{Equals, equal_none, equal_more, equal_path, equal_steps, equal_sym, equal_trans, abs_steps}
@@ -66,13 +66,13 @@ ends_prop (before h) = ends_prop h
 surplus_serves : (language : Language) (ls : Lines) (l r : Expr) → has_surplus language l r ≡ true → Serves language ls l r
 unfolding has_surplus ends_as
 surplus_serves aut68 ls l r q = false_not_true q
-surplus_serves autQE ls l type q = ends_serves autQE ls extended a_type (type_ends l q)
-surplus_serves autQE ls l prop q = ends_serves autQE ls extended a_prop (prop_ends l q)
-surplus_serves autQE ls l (var v) q = false_not_true q
-surplus_serves autQE ls l (bound i) q = false_not_true q
-surplus_serves autQE ls l (const v xs) q = false_not_true q
-surplus_serves autQE ls l (app a b) q = false_not_true q
-surplus_serves autQE ls l (abs p t) q = false_not_true q
+surplus_serves aut_qe ls l type q = ends_serves aut_qe ls extended a_type (type_ends l q)
+surplus_serves aut_qe ls l prop q = ends_serves aut_qe ls extended a_prop (prop_ends l q)
+surplus_serves aut_qe ls l (var v) q = false_not_true q
+surplus_serves aut_qe ls l (bound i) q = false_not_true q
+surplus_serves aut_qe ls l (const v xs) q = false_not_true q
+surplus_serves aut_qe ls l (app a b) q = false_not_true q
+surplus_serves aut_qe ls l (abs p t) q = false_not_true q
 
 has_surplus_lem : {language : Language} {l s : Expr} → Extended language → Basic s → Ends s l → has_surplus language l s ≡ true
 unfolding has_surplus ends_as
@@ -273,27 +273,27 @@ module _ (ls : Lines) where
         go : (n : Next) → NextIs ls l r n
             → Settles (Serves language ls l r) (elim n [
               | same ↦ done tt zero
-              | byParts ↦ compare_parts language deeper l r zero
-              | stepLeft l' ↦ stop outOfBudget zero
-              | stepRight r' ↦ stop outOfBudget zero
+              | by_parts ↦ compare_parts language deeper l r zero
+              | step_left l' ↦ stop out_of_budget zero
+              | step_right r' ↦ stop out_of_budget zero
             ])
         go same (is_same e) = is_done (path_serves language ls e)
-        go byParts (is_parts p q) = parts_settle deeper d l r (head_none ls l p) (head_none ls r q) w x zero
-        go (stepLeft l') (is_left p) = is_stop spent
-        go (stepRight r') (is_right p) = is_stop spent
+        go by_parts (is_parts p q) = parts_settle deeper d l r (head_none ls l p) (head_none ls r q) w x zero
+        go (step_left l') (is_left p) = is_stop spent
+        go (step_right r') (is_right p) = is_stop spent
     sides_settle deeper d l r w x (suc b) = go (λ l r w x. sides_settle deeper d l r w x b) (next ls l r) (next_is_lem ls l r)
       where
         go : ((l r : Expr) → Categorical l → Categorical r → Settles (Serves language ls l r) (sides language ls L deeper l r b)) → (n : Next) → NextIs ls l r n
             → Settles (Serves language ls l r) (elim n [
               | same ↦ done tt (suc b)
-              | byParts ↦ compare_parts language deeper l r (suc b)
-              | stepLeft l' ↦ elim (leb (size l') L) [ true ↦ sides language ls L deeper l' r b | false ↦ stop tooLarge (suc b) ]
-              | stepRight r' ↦ elim (leb (size r') L) [ true ↦ sides language ls L deeper l r' b | false ↦ stop tooLarge (suc b) ]
+              | by_parts ↦ compare_parts language deeper l r (suc b)
+              | step_left l' ↦ elim (leb (size l') L) [ true ↦ sides language ls L deeper l' r b | false ↦ stop too_large (suc b) ]
+              | step_right r' ↦ elim (leb (size r') L) [ true ↦ sides language ls L deeper l r' b | false ↦ stop too_large (suc b) ]
             ])
         go s same (is_same e) = is_done (path_serves language ls e)
-        go s byParts (is_parts p q) = parts_settle deeper d l r (head_none ls l p) (head_none ls r q) w x (suc b)
-        go s (stepLeft l') (is_left p) = judged_sized (leb (size l') L) (suc b) (left_settles p (s l' r (after_step p w) x)) large
-        go s (stepRight r') (is_right p) = judged_sized (leb (size r') L) (suc b) (right_settles p (s l r' w (after_step p x))) large
+        go s by_parts (is_parts p q) = parts_settle deeper d l r (head_none ls l p) (head_none ls r q) w x (suc b)
+        go s (step_left l') (is_left p) = judged_sized (leb (size l') L) (suc b) (left_settles p (s l' r (after_step p w) x)) large
+        go s (step_right r') (is_right p) = judged_sized (leb (size r') L) (suc b) (right_settles p (s l r' w (after_step p x))) large
 
     compare_at_settles : (d : ℕ) → SettlesServes (compare_at language ls L d)
     unfolding compare_at

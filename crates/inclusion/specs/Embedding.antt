@@ -2,7 +2,7 @@
 use Rattle.std.specs.Prelude.{◌≡◌, refl, Bool, true, false, List, [], ◌∷◌, ℕ, suc, length}
 use Rattle.std.proofs.Common.{sym, subst, inl, inr}
 use Rattle.std.proofs.Math.Option.{none}
-use Rattle.aut68.specs.Language.{Language, aut68, autQE, Extended}
+use Rattle.aut68.specs.Language.{Language, aut68, aut_qe, Extended}
 use Rattle.aut68.specs.Expr.{Expr, Exprs, type, app, abs, is_type, shape, other, over_binding}
 use Rattle.aut68.specs.Substitution.{substitute}
 use Rattle.aut68.specs.Lines.{Lines}
@@ -47,7 +47,7 @@ over_reduces aut68 ls W k p c d w r = go (is_type c) (is_type d) refl refl
     go true false e e' = absurd (is_type_false d e' (type_steps ls (subst (λ z. Reduces ls z d) (is_type_true c e) r)))
     go false true e e' = absurd (is_type_false c e (known_type ls W k c w (subst (λ z. Equal ls c z) (is_type_true d e') (equal_steps ls r))))
     go false false e e' = steps_abs ls Steps.done r
-over_reduces autQE ls W k p c d w r = steps_abs ls Steps.done r
+over_reduces aut_qe ls W k p c d w r = steps_abs ls Steps.done r
 
 pub record Embedded (language : Language) (ls : Lines) (ctx : List ℕ) (sc : List Expr) (e c : Expr) : Type 0 where
   pub category : Expr

@@ -2,9 +2,9 @@
 use Rattle.std.specs.Prelude.{◌≡◌, refl, ◌⊎◌, Bool, true, false, ◌||◌, ℕ, suc, ltb}
 use Rattle.std.proofs.Common.{subst, sym, ◌∙◌, inl, inr}
 use Rattle.std.proofs.Math.Option.{none}
-use Rattle.aut68.specs.Language.{Language, aut68, autQE, extended}
+use Rattle.aut68.specs.Language.{Language, aut68, aut_qe, extended}
 use Rattle.aut68.specs.Sizes.{nesting}
-use Rattle.aut68.specs.Procedure.Answer.{done, ensure, Refusal, not_type, tooLarge}
+use Rattle.aut68.specs.Procedure.Answer.{done, ensure, Refusal, not_type, too_large}
 use Rattle.aut68.specs.Expr.{Expr, type, prop, abs, is_type, ends_in_type, ends_in_prop, Shape, shape, abstraction, other}
 use Rattle.aut68.specs.Lines.{Lines}
 use Rattle.aut68.specs.Rules.Steps.{Reduces, Equal}
@@ -28,9 +28,9 @@ use Rattle.inclusion.specs.Comparing.{type_ends, prop_ends, ends_type, ends_prop
 pub opens_judged : (language : Language) (X : Type 0) (d b : ℕ) → Judged (λ _. Unit {0}) (Finding X) (opens language d b)
 unfolding opens ensure
 opens_judged aut68 X d b = is_done tt
-opens_judged autQE X d b = go (ltb d (suc nesting))
+opens_judged aut_qe X d b = go (ltb d (suc nesting))
   where
-    go : (t : Bool) → Judged (λ _. Unit {0}) (Finding X) (ensure t tooLarge b)
+    go : (t : Bool) → Judged (λ _. Unit {0}) (Finding X) (ensure t too_large b)
     go true = is_done tt
     go false = is_stop large
 
@@ -51,17 +51,17 @@ or_right false t q = q
 pub is_type_lem : (language : Language) (k : Expr) → serves_as_type language k ≡ true → IsType language k
 unfolding serves_as_type
 is_type_lem aut68 k q = subst (IsType aut68) (sym (is_type_true k q)) the_type
-is_type_lem autQE k q = go (or_true (ends_in_type k) (ends_in_prop k) q)
+is_type_lem aut_qe k q = go (or_true (ends_in_type k) (ends_in_prop k) q)
   where
-    go : (ends_in_type k ≡ true) ⊎ (ends_in_prop k ≡ true) → IsType autQE k
+    go : (ends_in_type k ≡ true) ⊎ (ends_in_prop k ≡ true) → IsType aut_qe k
     go (inl e) = a_supertype extended (record { sort = type; is_basic = a_type; ends = type_ends k e })
     go (inr e) = a_supertype extended (record { sort = prop; is_basic = a_prop; ends = prop_ends k e })
 
 pub type_is : (language : Language) {k : Expr} → IsType language k → serves_as_type language k ≡ true
 unfolding serves_as_type is_type ends_in_type
 type_is aut68 the_type = refl
-type_is autQE the_type = or_left (ends_in_type type) (ends_in_prop type) refl
-type_is autQE {k} (a_supertype x h) = go h.is_basic h.ends
+type_is aut_qe the_type = or_left (ends_in_type type) (ends_in_prop type) refl
+type_is aut_qe {k} (a_supertype x h) = go h.is_basic h.ends
   where
     go : {s : Expr} → Basic s → Ends s k → (ends_in_type k || ends_in_prop k) ≡ true
     go a_type e = or_left (ends_in_type k) (ends_in_prop k) (ends_type e)

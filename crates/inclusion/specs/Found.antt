@@ -7,8 +7,8 @@ use Rattle.std.proofs.Math.Logic.{inr}
 use Rattle.std.proofs.Math.Option.{none}
 use Prim.Native.Nat.{ℕ, zero, suc}
 use Rattle.std.proofs.Math.ListN.{length}
-use Rattle.aut68.specs.Language.{Language, aut68, autQE, Extended, extended}
-use Rattle.aut68.specs.Procedure.Answer.{Act, Answer, and_then, refuse, notFunction}
+use Rattle.aut68.specs.Language.{Language, aut68, aut_qe, Extended, extended}
+use Rattle.aut68.specs.Procedure.Answer.{Act, Answer, and_then, refuse, not_function}
 use Rattle.aut68.specs.Expr.{Expr, Exprs, type, prop, var, bound, const, app, abs, nil, cons, snoc, count_exprs, is_sort, Shape, shape, abstraction, other}
 use Rattle.aut68.specs.Substitution.{substitute, instantiate}
 use Rattle.aut68.specs.Lines.{Line, Lines}
@@ -105,30 +105,30 @@ module _ (ls : Lines) (W : ResolvedLines ls) (contexts : RightContexts ls) (ctx 
   unfolding second_chance
   second_finds aut68 right search sf d sc s T a b c f wb hc red nf m =
       is_stop (no_function (no_function_lem aut68 ls W contexts right.middles ctx sc (scope_known ls ctx sc s) wb hc.liberal (head_reduces ls red) nf (λ g d p q x e w h y r k ha z. elim x [ ])))
-  second_finds autQE right search sf d sc s T a b c f wb hc red nf m = go (is_sort f) refl
+  second_finds aut_qe right search sf d sc s T a b c f wb hc red nf m = go (is_sort f) refl
     where
       known : KnownScope ls sc
       known = scope_known ls ctx sc s
 
       inside : InContext ls ctx (length sc) c
-      inside = resolved_liberal autQE ls ctx W N hc.liberal wb s
+      inside = resolved_liberal aut_qe ls ctx W N hc.liberal wb s
 
-      sorted : is_sort f ≡ false → Valid autQE ls ctx sc c → (S : Sorted autQE ls ctx sc f) × Resolved ls ctx (length sc) f
+      sorted : is_sort f ≡ false → Valid aut_qe ls ctx sc c → (S : Sorted aut_qe ls ctx sc f) × Resolved ls ctx (length sc) f
       sorted q (inl y) = absurd (sort_false ls f nf q y.is_basic (ends_steps ls y.is_basic y.ends (head_reduces ls red)))
       sorted q (inr S) =
-          let wc = sorted_resolved autQE ls W ctx (length sc) inside S in
-          let wf : Resolved ls ctx (length sc) f = resolved_steps autQE ls W contexts right.middles ctx (length sc) (head_reduces ls red) wc in (
-            kept_sorted autQE ls W ctx (heads_kept autQE ls W contexts right.middles ctx (heads_to ls red) sc S.category S.has S.super wc known) S.super
+          let wc = sorted_resolved aut_qe ls W ctx (length sc) inside S in
+          let wf : Resolved ls ctx (length sc) f = resolved_steps aut_qe ls W contexts right.middles ctx (length sc) (head_reduces ls red) wc in (
+            kept_sorted aut_qe ls W ctx (heads_kept aut_qe ls W contexts right.middles ctx (heads_to ls red) sc S.category S.has S.super wc known) S.super
                 (resolved_known ls ctx (length sc) f wf) known,
             wf,
           )
 
       go : (t : Bool) → is_sort f ≡ t
-          → Judged (Second autQE ls ctx sc f) (Finding ((r : Expr) → ¬ Liberal autQE ls ctx sc (app a b) r))
-          ((elim t as (λ _. Act ℕ Expr) [ true ↦ refuse notFunction | false ↦ search d sc f ]) m)
+          → Judged (Second aut_qe ls ctx sc f) (Finding ((r : Expr) → ¬ Liberal aut_qe ls ctx sc (app a b) r))
+          ((elim t as (λ _. Act ℕ Expr) [ true ↦ refuse not_function | false ↦ search d sc f ]) m)
       go true q =
-          is_stop (no_function (no_function_lem autQE ls W contexts right.middles ctx sc known wb hc.liberal (head_reduces ls red) nf
-          (λ g d p q' x e w h y r k ha z. sort_apart autQE ls W contexts right.middles ctx sc known (sort_true f q) e w)))
+          is_stop (no_function (no_function_lem aut_qe ls W contexts right.middles ctx sc known wb hc.liberal (head_reduces ls red) nf
+          (λ g d p q' x e w h y r k ha z. sort_apart aut_qe ls W contexts right.middles ctx sc known (sort_true f q) e w)))
       go false q =
           let (S, wf) = sorted q hc.valid in
           judged_map
@@ -140,8 +140,8 @@ module _ (ls : Lines) (W : ResolvedLines ls) (contexts : RightContexts ls) (ctx 
               sort = S.super.sort;
               is_basic = S.super.is_basic;
               ends =
-                  equal_ends ls W (length sc) S.super.is_basic (known_liberal autQE ls ctx W h.liberal (resolved_known ls ctx (length sc) f wf) known)
-                  (liberal_unique ls W autQE ctx h.liberal S.has (resolved_known ls ctx (length sc) f wf) known) S.super.ends;
+                  equal_ends ls W (length sc) S.super.is_basic (known_liberal aut_qe ls ctx W h.liberal (resolved_known ls ctx (length sc) f wf) known)
+                  (liberal_unique ls W aut_qe ctx h.liberal S.has (resolved_known ls ctx (length sc) f wf) known) S.super.ends;
             };
           })
           (finding_map (λ deny r h. absurd (deny S.category S.has)))

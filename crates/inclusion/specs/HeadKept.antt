@@ -3,7 +3,7 @@
 use Rattle.std.specs.Prelude.{◌≡◌, refl, ◌⊎◌, Bool, true, false, List, [], ℕ, suc, length}
 use Rattle.std.proofs.Common.{ap, ◌∙◌, inl, inr}
 use Rattle.std.proofs.Math.Path.{sym, subst}
-use Rattle.aut68.specs.Language.{Language, aut68, autQE}
+use Rattle.aut68.specs.Language.{Language, aut68, aut_qe}
 use Rattle.aut68.specs.Expr.{Expr, Exprs, type, const, app, abs, nil, is_type, over_binding}
 use Rattle.aut68.specs.Substitution.{substitute, instantiate}
 use Rattle.aut68.specs.Lines.{Line, Lines, abbreviation, line_of}
@@ -40,7 +40,7 @@ over_reaches aut68 ls p c {p'} {q'} r = go (is_type c) r
     go : (t : Bool) → Reduces ls (elim t as (λ _. Expr) [ true ↦ type | false ↦ abs p c ]) (abs p' q') → Equal ls p p' × Equal ls c q'
     go true r = absurd (type_no_abs ls r)
     go false r = equal_abs_inv ls (equal_steps ls r)
-over_reaches autQE ls p c r = equal_abs_inv ls (equal_steps ls r)
+over_reaches aut_qe ls p c r = equal_abs_inv ls (equal_steps ls r)
 
 -- every middle has a category that serves for the written one
 pub record RightMiddle (language : Language) (ls : Lines) (l : Line) (m : Expr) : Type 0 where

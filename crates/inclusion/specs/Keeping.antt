@@ -1,7 +1,7 @@
 -- `Kept language ls ctx sc e c`: e has a category that serves for c. How such facts are put together, constructor by constructor.
 use Rattle.std.specs.Prelude.{◌≡◌, refl, List, ◌∷◌, ℕ, suc, length}
 use Rattle.std.proofs.Common.{sym, subst}
-use Rattle.aut68.specs.Language.{Language, aut68, autQE, Extended, extended}
+use Rattle.aut68.specs.Language.{Language, aut68, aut_qe, Extended, extended}
 use Rattle.aut68.specs.Expr.{Expr, type, app, abs, over_binding}
 use Rattle.aut68.specs.Substitution.{substitute}
 use Rattle.aut68.specs.Lines.{Lines}
@@ -92,15 +92,15 @@ module _ (language : Language) (ls : Lines) (W : ResolvedLines ls) (ctx : List �
 -- what serves for a domain's category is one
 pub is_type_served : (language : Language) (ls : Lines) → ResolvedLines ls → (k : ℕ) (c d : Expr) → KnownCategory ls k c → Serves language ls c d → IsType language d → IsType language c
 is_type_served aut68 ls W k c d w h the_type = subst (IsType aut68) (sym (known_type ls W k c w (serves_68 ls h))) the_type
-is_type_served autQE ls W k c d w h the_type = a_supertype extended (record { sort = type; is_basic = a_type; ends = serves_ends ls W autQE k a_type w h itself })
-is_type_served autQE ls W k c d w h (a_supertype x e) = a_supertype x (record { sort = e.sort; is_basic = e.is_basic; ends = serves_ends ls W autQE k e.is_basic w h e.ends })
+is_type_served aut_qe ls W k c d w h the_type = a_supertype extended (record { sort = type; is_basic = a_type; ends = serves_ends ls W aut_qe k a_type w h itself })
+is_type_served aut_qe ls W k c d w h (a_supertype x e) = a_supertype x (record { sort = e.sort; is_basic = e.is_basic; ends = serves_ends ls W aut_qe k e.is_basic w h e.ends })
 is_type_served aut68 ls W k c d w h (a_supertype x e) = elim x [ ]
 
 pub over_serves : (language : Language) (ls : Lines) → ResolvedLines ls → (k : ℕ) (p c d : Expr) → KnownCategory ls k c → KnownCategory ls k d → Serves language ls c d
     → Serves language ls (over_binding language p c) (over_binding language p d)
 unfolding over_binding
 over_serves aut68 ls W k p c d w x h = equal_serves aut68 ls (over_equal ls W aut68 k p c d w x (serves_68 ls h))
-over_serves autQE ls W k p c d w x h = serves_abs autQE ls (equal_refl ls p) h
+over_serves aut_qe ls W k p c d w x h = serves_abs aut_qe ls (equal_refl ls p) h
 
 module _ (language : Language) (ls : Lines) (W : ResolvedLines ls) (ctx : List ℕ) where
   pub kept_abs : {sc : List Expr} {p t k c : Expr} → Kept language ls ctx sc p k → IsType language k → Kept language ls ctx (p ∷ sc) t c

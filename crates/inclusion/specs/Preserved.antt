@@ -1,7 +1,7 @@
 -- A step keeps the category, up to serving: what is reached has a category that serves for the earlier one.
 use Rattle.std.specs.Prelude.{◌≡◌, refl, Bool, true, false, List, ◌∷◌, ℕ, suc, length}
 use Rattle.std.proofs.Common.{sym, ◌∙◌, subst}
-use Rattle.aut68.specs.Language.{Language, aut68, autQE, Extended, extended}
+use Rattle.aut68.specs.Language.{Language, aut68, aut_qe, Extended, extended}
 use Rattle.aut68.specs.Expr.{Expr, Exprs, type, const, app, abs, cons, snoc, is_type, over_binding}
 use Rattle.aut68.specs.Substitution.{substitute, instantiate}
 use Rattle.aut68.specs.Lines.{Lines}
@@ -41,7 +41,7 @@ over_domain aut68 ls {p} {p'} c e = go (is_type c)
     go : (t : Bool) → Equal ls (elim t as (λ _. Expr) [ true ↦ type | false ↦ abs p c ]) (elim t as (λ _. Expr) [ true ↦ type | false ↦ abs p' c ])
     go true = equal_refl ls type
     go false = equal_abs ls e (equal_refl ls c)
-over_domain autQE ls c e = equal_abs ls e (equal_refl ls c)
+over_domain aut_qe ls c e = equal_abs ls e (equal_refl ls c)
 
 module _ (language : Language) (ls : Lines) (W : ResolvedLines ls) (contexts : RightContexts ls) (right : RightMiddles language ls) (ctx : List ℕ) where
   -- ---- contraction

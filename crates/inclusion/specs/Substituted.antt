@@ -3,7 +3,7 @@ use Rattle.std.specs.Prelude.{◌≡◌, Bool, List, ◌∷◌, ℕ, zero, suc, 
 use Rattle.std.proofs.Math.Path.{refl, sym}
 use Rattle.std.proofs.Common.{ap, ◌∙◌, arith}
 use Rattle.std.proofs.Math.Bool.{true, false}
-use Rattle.aut68.specs.Language.{Language, aut68, autQE, Extended}
+use Rattle.aut68.specs.Language.{Language, aut68, aut_qe, Extended}
 use Rattle.aut68.specs.Expr.{Expr, Exprs, type, prop, var, bound, const, app, abs, nil, cons, snoc, is_type, over_binding}
 use Rattle.aut68.specs.Substitution.{lift, substitute, instantiate}
 use Rattle.aut68.specs.Lines.{Line, Lines}
@@ -153,7 +153,7 @@ module _ (language : Language) (ls : Lines) (W : ResolvedLines ls) (ctx ctx' : L
 
       go : (language : Language) → sub σ θ (over_binding language p c) ≡ over_binding language (sub σ θ p) (sub (up σ) (λ v. raise (θ v)) c)
       go aut68 = at (is_type c) ∙ ap (λ t. elim t as (λ _. Expr) [ true ↦ type | false ↦ abs (sub σ θ p) (sub (up σ) (λ v. raise (θ v)) c) ]) (sym q)
-      go autQE = refl
+      go aut_qe = refl
 
   pub is_type_put : {k : Expr} (σ θ : ℕ → Expr) → IsType language k → IsType language (sub σ θ k)
   unfolding sub

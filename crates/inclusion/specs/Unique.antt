@@ -3,7 +3,7 @@ use Rattle.std.specs.Prelude.{◌≡◌, ◌↔◌, Bool, List, ℕ, suc, length
 use Rattle.std.proofs.Math.Path.{refl, sym, ap}
 use Rattle.std.proofs.Common.{subst, ◌∙◌, arith}
 use Rattle.std.proofs.Math.Bool.{true, false}
-use Rattle.aut68.specs.Language.{Language, aut68, autQE}
+use Rattle.aut68.specs.Language.{Language, aut68, aut_qe}
 use Rattle.aut68.specs.Expr.{Expr, type, app, abs, is_type, over_binding}
 use Rattle.aut68.specs.Substitution.{lift, substitute, instantiate}
 use Rattle.aut68.specs.Lines.{Line, Lines}
@@ -63,7 +63,7 @@ module _ (ls : Lines) (W : ResolvedLines ls) where
       go true false e e' = absurd (is_type_false c' e' (known_type k c' w' (subst (λ z. Equal ls c' z) (is_type_true c e) (equal_sym ls h))))
       go false true e e' = absurd (is_type_false c e (known_type k c w (subst (λ z. Equal ls c z) (is_type_true c' e') h)))
       go false false e e' = equal_abs ls (equal_refl ls p) h
-  over_equal autQE k p c c' w w' h = equal_abs ls (equal_refl ls p) h
+  over_equal aut_qe k p c c' w w' h = equal_abs ls (equal_refl ls p) h
 
   module _ (language : Language) (ctx : List ℕ) where
     pub liberal_unique : {sc : List Expr} {e c c' : Expr} → Liberal language ls ctx sc e c → Liberal language ls ctx sc e c' → Known ls (length sc) e → KnownScope ls sc → Equal ls c c'

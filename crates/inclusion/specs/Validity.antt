@@ -5,7 +5,7 @@ use Rattle.std.proofs.Common.{sym, subst, arith}
 use Rattle.std.proofs.Math.Logic.{inl, inr}
 use Rattle.std.proofs.Math.Bool.{true, false}
 use Rattle.std.proofs.Math.ListN.{length}
-use Rattle.aut68.specs.Language.{Language, aut68, autQE}
+use Rattle.aut68.specs.Language.{Language, aut68, aut_qe}
 use Rattle.aut68.specs.Expr.{Expr, Exprs, type, const, app, abs, nil, is_type, count_exprs, over_binding}
 use Rattle.aut68.specs.Substitution.{lift, substitute, instantiate}
 use Rattle.aut68.specs.Lines.{Line, Lines}
@@ -78,7 +78,7 @@ super_over aut68 p {c} h = go (is_type c)
     go : (t : Bool) → Supertype (elim t [ true ↦ type | false ↦ abs p c ])
     go true = record { sort = type; is_basic = a_type; ends = itself }
     go false = record { sort = h.sort; is_basic = h.is_basic; ends = before h.ends }
-super_over autQE p {c} h = record { sort = h.sort; is_basic = h.is_basic; ends = before h.ends }
+super_over aut_qe p {c} h = record { sort = h.sort; is_basic = h.is_basic; ends = before h.ends }
 
 over_super : (language : Language) (p : Expr) {c : Expr} → Supertype (over_binding language p c) → Supertype c
 unfolding over_binding
@@ -87,7 +87,7 @@ over_super aut68 p {c} h = go (is_type c) refl h
     go : (t : Bool) → is_type c ≡ t → Supertype (elim t as (λ _. Expr) [ true ↦ type | false ↦ abs p c ]) → Supertype c
     go true q h = subst Supertype (sym (is_type_true c q)) h
     go false q h = super_body h
-over_super autQE p {c} h = super_body h
+over_super aut_qe p {c} h = super_body h
 
 -- what ends in `type` or `prop` has no category
 pub no_category : {language : Language} {ls : Lines} {ctx : List ℕ} {s e : Expr} {sc : List Expr} {c : Expr} → Basic s → Ends s e → ¬ Liberal language ls ctx sc e c
@@ -130,7 +130,7 @@ module _ (language : Language) (ls : Lines) (W : ResolvedLines ls) (ctx : List �
           go : (t : Bool) → is_type c ≡ t → elim t as (λ _. Expr) [ true ↦ type | false ↦ abs p c ] ≡ abs p c
           go true q = absurd (no_category a_type (subst (λ z. Ends type z) (sym (is_type_true c q)) itself) h.has)
           go false q = refl
-      over_sorted autQE = refl
+      over_sorted aut_qe = refl
 
   -- an application to something whose category is sorted
   pub valid_second : {sc : List Expr} {a f k p q : Expr} (h : Sorted language ls ctx sc f) → Reduces ls h.category (abs p q) → Liberal language ls ctx sc a k → Serves language ls k p

@@ -1,7 +1,7 @@
 -- Categories under a renaming of the bound variables: further bindings around an expression change nothing.
 use Rattle.std.specs.Prelude.{◌≡◌, refl, Bool, true, false, List, ◌∷◌, ℕ, zero, suc, ◌<◌, length}
 use Rattle.std.proofs.Common.{ap, sym, ◌∙◌, arith}
-use Rattle.aut68.specs.Language.{Language, aut68, autQE}
+use Rattle.aut68.specs.Language.{Language, aut68, aut_qe}
 use Rattle.aut68.specs.Expr.{Expr, Exprs, type, prop, var, bound, const, app, abs, is_type, over_binding}
 use Rattle.aut68.specs.Substitution.{lift, substitute, instantiate}
 use Rattle.aut68.specs.Lines.{Line, Lines}
@@ -47,7 +47,7 @@ over_ren aut68 ρ p c = go (is_type c) ∙ ap (λ t. elim t as (λ _. Expr) [ tr
     go : (t : Bool) → ren ρ (elim t [ true ↦ type | false ↦ abs p c ]) ≡ elim t as (λ _. Expr) [ true ↦ type | false ↦ abs (ren ρ p) (ren (upr ρ) c) ]
     go true = refl
     go false = refl
-over_ren autQE ρ p c = refl
+over_ren aut_qe ρ p c = refl
 
 pub supertype_ren : {e : Expr} (ρ : ℕ → ℕ) → Supertype e → Supertype (ren ρ e)
 supertype_ren ρ h = record { sort = h.sort; is_basic = h.is_basic; ends = ends_ren ρ h.is_basic h.ends }

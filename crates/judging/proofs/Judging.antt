@@ -9,8 +9,8 @@ use lib.ListN.{length}
 use Rattle.aut68.specs.Sizes.{largest_limit, nesting}
 use Rattle.aut68.specs.Expr.{Expr}
 use Rattle.aut68.specs.Lines.{Lines}
-use Rattle.aut68.specs.Procedure.Answer.{Answer, code_in, rest_in, code_of, mismatch, tooLarge, outOfBudget}
-use Rattle.aut68.specs.Procedure.Calls.{decline_code, notWhole, stringTooLarge}
+use Rattle.aut68.specs.Procedure.Answer.{Answer, code_in, rest_in, code_of, mismatch, too_large, out_of_budget}
+use Rattle.aut68.specs.Procedure.Calls.{decline_code, not_whole, string_too_large}
 use Rattle.aut68.specs.Procedure.Compare.{Comparison, compare}
 use Rattle.aut68.specs.Procedure.PartsFirst.{parts_first, parts_first_at}
 use Rattle.aut68.specs.Rules.Strings.{Whole}
@@ -55,7 +55,7 @@ result_code (refused e) = (e, refl)
 
 module _ {second : Bool} {tb ts w : List ℕ} {limit lines : ℕ} {left right : List ℕ} {budget : ℕ} {is_left : Bool}
     (saysLeft : SaysWhole tb lines left is_left) where
-  pub left_not_whole : is_left ≡ false → JudgedPost second tb ts w limit lines left right budget (decline_code notWhole) 0 0 0
+  pub left_not_whole : is_left ≡ false → JudgedPost second tb ts w limit lines left right budget (decline_code not_whole) 0 0 0
   left_not_whole f =
       record {
         no_line = refl;
@@ -64,7 +64,7 @@ module _ {second : Bool} {tb ts w : List ℕ} {limit lines : ℕ} {left right : 
       }
 
   module _ {is_right : Bool} (saysRight : SaysWhole tb lines right is_right) where
-    pub right_not_whole : is_right ≡ false → JudgedPost second tb ts w limit lines left right budget (decline_code notWhole) 0 0 0
+    pub right_not_whole : is_right ≡ false → JudgedPost second tb ts w limit lines left right budget (decline_code not_whole) 0 0 0
     right_not_whole f =
         record {
           no_line = refl;
@@ -73,7 +73,7 @@ module _ {second : Bool} {tb ts w : List ℕ} {limit lines : ℕ} {left right : 
         }
 
     module _ (wholeLeft : is_left ≡ true) (wholeRight : is_right ≡ true) where
-      pub judged_large : (limit < length left) ⊎ (limit < length right) → JudgedPost second tb ts w limit lines left right budget (decline_code stringTooLarge) 0 0 0
+      pub judged_large : (limit < length left) ⊎ (limit < length right) → JudgedPost second tb ts w limit lines left right budget (decline_code string_too_large) 0 0 0
       judged_large h =
           record {
             no_line = refl;
@@ -100,5 +100,5 @@ module _ {second : Bool} {tb ts w : List ℕ} {limit lines : ℕ} {left right : 
             }
           where
             named : (second : Bool) (ls : Lines) → ResolvedLines ls → (l r : Expr) → code ≡ code_in (comparison_of second ls limit l r budget)
-                → (code ≡ 0) ⊎ ((code ≡ code_of mismatch) ⊎ ((code ≡ code_of tooLarge) ⊎ (code ≡ code_of outOfBudget)))
-            named second ls W l r p = subst (λ x. (x ≡ 0) ⊎ ((x ≡ code_of mismatch) ⊎ ((x ≡ code_of tooLarge) ⊎ (x ≡ code_of outOfBudget)))) (sym p) ((finds second ls W).codes limit budget l r)
+                → (code ≡ 0) ⊎ ((code ≡ code_of mismatch) ⊎ ((code ≡ code_of too_large) ⊎ (code ≡ code_of out_of_budget)))
+            named second ls W l r p = subst (λ x. (x ≡ 0) ⊎ ((x ≡ code_of mismatch) ⊎ ((x ≡ code_of too_large) ⊎ (x ≡ code_of out_of_budget)))) (sym p) ((finds second ls W).codes limit budget l r)

@@ -3,7 +3,7 @@ use Rattle.std.specs.Prelude.{◌≡◌, ◌⊎◌, Bool, true, false, List, ℕ
 use Rattle.aut68.specs.Language.{aut68}
 use Rattle.aut68.specs.Sizes.{work_units, nesting}
 use Rattle.aut68.specs.Lines.{Lines}
-use Rattle.aut68.specs.Procedure.Answer.{code_of, mismatch, tooLarge, outOfBudget}
+use Rattle.aut68.specs.Procedure.Answer.{code_of, mismatch, too_large, out_of_budget}
 use Rattle.aut68.specs.Procedure.Compare.{compare_at}
 use Rattle.aut68.specs.Procedure.PartsFirst.{parts_first_at}
 use Rattle.aut68.specs.Desk.{Judged}
@@ -21,7 +21,7 @@ pub record ComparesOne (second : Bool) (tb ts w : List ℕ) (limit budget a b : 
 
 -- the answer has the code that a comparison ended with
 abbrev pub Named : ℕ → ℕ → Type 0
-Named code answered = (code ≡ 0) ⊎ ((code ≡ code_of mismatch) ⊎ ((code ≡ code_of tooLarge) ⊎ (code ≡ code_of outOfBudget))) → answered ≡ code
+Named code answered = (code ≡ 0) ⊎ ((code ≡ code_of mismatch) ⊎ ((code ≡ code_of too_large) ⊎ (code ≡ code_of out_of_budget))) → answered ≡ code
 
 -- two strings judged over the first `lines` lines
 pub record JudgedPost (second : Bool) (tb ts w : List ℕ) (limit lines : ℕ) (left right : List ℕ) (budget code line steps count : ℕ) : Type 0 where

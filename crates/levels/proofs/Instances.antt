@@ -9,7 +9,7 @@ use lib.Dec.{leb, eqb}
 use lib.ListN.{length, take, drop, set, length-set}
 use borrow.Author.Tests.{eqb-true}
 use Rattle.aut68.specs.Sizes.{cell_values, line_limit, largest_limit, nesting, at_context, at_category, cell_factor}
-use Rattle.aut68.specs.Procedure.Answer.{done, and_then, ensure, tooLarge}
+use Rattle.aut68.specs.Procedure.Answer.{done, and_then, ensure, too_large}
 use Rattle.aut68.specs.Expr.{Expr, Exprs, size, sizes, cells, cellss, count_exprs}
 use Rattle.aut68.specs.Substitution.{instantiate}
 use Rattle.aut68.specs.Lines.{Line, Lines, row_cell}
@@ -86,7 +86,7 @@ pub made_is : (L : ℕ) (e : Expr) (b : ℕ) (a : Expr) (b' : ℕ) → made L e 
 unfolding made and_then ensure
 made_is L e b a b' h = go (leb (size e) L) h
   where
-    go : (t : Bool) → and_then (λ _ s. done e s) (ensure t tooLarge b) ≡ done a b' → a ≡ e
+    go : (t : Bool) → and_then (λ _ s. done e s) (ensure t too_large b) ≡ done a b' → a ≡ e
     go true q = cc
     go false q = cc
 

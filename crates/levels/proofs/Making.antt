@@ -11,7 +11,7 @@ use lib.ListN.{length, drop}
 use lib.Seq.{sets, take_all}
 use borrow.Author.Tests.{le-leb, lt-leb}
 use Rattle.aut68.specs.Sizes.{largest_limit, work_units}
-use Rattle.aut68.specs.Procedure.Answer.{done, and_then, ensure, code_of, tooLarge}
+use Rattle.aut68.specs.Procedure.Answer.{done, and_then, ensure, code_of, too_large}
 use Rattle.aut68.specs.Expr.{Expr, size, cells}
 use Rattle.aut68.specs.Procedure.Category.{made}
 use Rattle.cells.specs.Results.{Result, passed, refused}
@@ -32,7 +32,7 @@ module _ {R : Expr → Type 0} {code rest L budget : ℕ} (e : Expr) where
   unfolding made and_then ensure
   made_passed h z q r = rw q (go (leb (size e) L) (le-leb _ _ h))
     where
-      go : (t : Bool) → t ≡ true → Result R code budget (and_then (λ _ s. done e s) (ensure t tooLarge budget))
+      go : (t : Bool) → t ≡ true → Result R code budget (and_then (λ _ s. done e s) (ensure t too_large budget))
       go true x = passed z r
       go false x = absurd (false≢true x)
 
@@ -40,7 +40,7 @@ module _ {R : Expr → Type 0} {code rest L budget : ℕ} (e : Expr) where
   unfolding made and_then ensure code_of
   made_refused h z q = rw q (go (leb (size e) L) (lt-leb _ _ h))
     where
-      go : (t : Bool) → t ≡ false → Result R code budget (and_then (λ _ s. done e s) (ensure t tooLarge budget))
+      go : (t : Bool) → t ≡ false → Result R code budget (and_then (λ _ s. done e s) (ensure t too_large budget))
       go true x = absurd (true≢false x)
       go false x = refused z
 

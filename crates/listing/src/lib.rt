@@ -41,11 +41,7 @@ fn listing(book: &[u8], out: &mut [u8]) -> usize {
 }
 
 // Lists the book that `from` has, on `to`. Where a read fails, standard error says why, and nothing is listed.
-pub fn list_book<E: Eprint, R: Read, W: Write>(
-    rt: &E,
-    from: &mut R,
-    to: &mut W,
-) -> io::Result<()> {
+pub fn list_book<E: Eprint, R: Read, W: Write>(rt: &E, from: &mut R, to: &mut W) -> io::Result<()> {
     let mut book = [0u8; BYTES + 1];
     let r = read_book(from, &mut book);
     if let Some(e) = r.failed {

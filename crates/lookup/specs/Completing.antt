@@ -4,7 +4,7 @@ use Rattle.std.specs.Prelude.{◌≡◌, refl, ℕ, suc, ◌+◌, ◌≤◌, max
 use Rattle.std.proofs.Common.{ap, sym, ◌∙◌, subst, arith, eqb-true, eq-eqb, ne_eqb}
 use Rattle.std.proofs.lemmas.List.{length-map}
 use Rattle.aut68.specs.Expr.{Exprs, in_front, levels, levelss, count_exprs}
-use Rattle.aut68.specs.Procedure.Answer.{Answer, ◌>>=◌, give, refuse, Refusal, wrongArity}
+use Rattle.aut68.specs.Procedure.Answer.{Answer, ◌>>=◌, give, refuse, Refusal, wrong_arity}
 use Rattle.aut68.specs.Procedure.Resolve.{Naming, found, refused, left_out}
 use Rattle.aut68.specs.Rules.Names.{Member, here, there, LeftOut, all_written, first_left_out}
 use Rattle.lookup.specs.Lists.{Each}
@@ -64,7 +64,7 @@ left_out_map ρ (first_left_out h) = first_left_out (left_out_map ρ h)
 
 -- `left_out` finds what is left out, and refuses only a count.
 abbrev Looked : ℕ → List ℕ → List ℕ → Naming (List ℕ) → Type 0
-Looked j of own m = Judged (LeftOut j of own) (λ r. wrongArity ≡ r) (m tt)
+Looked j of own m = Judged (LeftOut j of own) (λ r. wrong_arity ≡ r) (m tt)
 
 counted : {j : ℕ} (of own : List ℕ) (t : Bool) → (t ≡ true → j ≡ length of) → (m : Naming (List ℕ)) → Looked j of own m
     → Looked j of own (elim t as (λ _. Naming (List ℕ)) [ true ↦ give [] | false ↦ m ])
@@ -72,7 +72,7 @@ counted of own true c m h = is_done (all_written (c refl))
 counted of own false c m h = h
 
 compared : {j : ℕ} (v u : ℕ) (of own : List ℕ) (t : Bool) → (t ≡ true → v ≡ u) → Looked j of own (left_out j of own)
-    → Looked j (v ∷ of) (u ∷ own) (elim t as (λ _. Naming (List ℕ)) [ true ↦ (left_out j of own >>= λ us. give (v ∷ us)) | false ↦ refuse wrongArity ])
+    → Looked j (v ∷ of) (u ∷ own) (elim t as (λ _. Naming (List ℕ)) [ true ↦ (left_out j of own >>= λ us. give (v ∷ us)) | false ↦ refuse wrong_arity ])
 compared {j} v u of own true c h =
     judged_then _ h (λ r e. e) (λ us _ k. is_done (subst (λ x. LeftOut j (v ∷ of) (x ∷ own) (v ∷ us)) (c refl) (first_left_out k)))
 compared v u of own false c h = is_stop refl
@@ -87,7 +87,7 @@ left_out_looked j (v ∷ of) (u ∷ own) =
 pub left_out_sound : (j : ℕ) (of own : List ℕ) {us : List ℕ} → left_out j of own tt ≡ found us → LeftOut j of own us
 left_out_sound j of own h = judged_done (left_out_looked j of own) h
 
-pub left_out_refuses : (j : ℕ) (of own : List ℕ) {r : Refusal} → left_out j of own tt ≡ refused r → wrongArity ≡ r
+pub left_out_refuses : (j : ℕ) (of own : List ℕ) {r : Refusal} → left_out j of own tt ≡ refused r → wrong_arity ≡ r
 left_out_refuses j of own h = judged_stop (left_out_looked j of own) h
 
 pub left_out_complete : {j : ℕ} {of own us : List ℕ} → LeftOut j of own us → left_out j of own tt ≡ found us
@@ -106,9 +106,9 @@ left_out_complete {j} (first_left_out {v} {of} h) =
 pub left_out_none : {j : ℕ} {of own us : List ℕ} {r : Refusal} → left_out j of own tt ≡ refused r → ¬ LeftOut j of own us
 left_out_none h k = stop≢done (sym h ∙ left_out_complete k)
 
-pub left_out_refused : (j : ℕ) (of own : List ℕ) → ((us : List ℕ) → ¬ LeftOut j of own us) → left_out j of own tt ≡ refused wrongArity
+pub left_out_refused : (j : ℕ) (of own : List ℕ) → ((us : List ℕ) → ¬ LeftOut j of own us) → left_out j of own tt ≡ refused wrong_arity
 left_out_refused j of own n = go (left_out_looked j of own)
   where
-    go : {m : Answer (Unit {0}) (List ℕ)} → Judged (LeftOut j of own) (λ r. wrongArity ≡ r) m → m ≡ refused wrongArity
+    go : {m : Answer (Unit {0}) (List ℕ)} → Judged (LeftOut j of own) (λ r. wrong_arity ≡ r) m → m ≡ refused wrong_arity
     go (is_done h) = absurd (n _ h)
     go (is_stop e) = ap refused (sym e)

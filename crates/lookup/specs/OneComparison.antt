@@ -5,7 +5,7 @@ use Rattle.std.proofs.Common.{ap, sym, ◌∙◌, subst, subst₂, arith, length
 use Rattle.std.proofs.Math.Decide.{dec_lt}
 use Rattle.std.proofs.Math.ListN.{get_or-append}
 use Rattle.std.proofs.lemmas.List.{take-append-le, get_or_at}
-use Rattle.aut68.specs.Procedure.Answer.{Answer, done, stop, wrongArity}
+use Rattle.aut68.specs.Procedure.Answer.{Answer, done, stop, wrong_arity}
 use Rattle.aut68.specs.Procedure.Resolve.{found, refused, left_out}
 use Rattle.aut68.specs.Lines.{Lines}
 use Rattle.aut68.specs.Rules.Names.{Context, no_context, within, LeftOut, all_written, first_left_out}
@@ -49,22 +49,22 @@ comparison_holds (first_left_out h) (suc n) q = let (a, b) = comparison_holds h 
 
 -- ---- what `left_out` answers, by count and one comparison
 
-refuse_unless : (j : ℕ) (of own : List ℕ) → ((us : List ℕ) → ¬ LeftOut j of own us) → left_out j of own tt ≡ refused wrongArity
+refuse_unless : (j : ℕ) (of own : List ℕ) → ((us : List ℕ) → ¬ LeftOut j of own us) → left_out j of own tt ≡ refused wrong_arity
 refuse_unless j of own n = go (left_out j of own tt) refl
   where
-    go : (f : Answer (Unit {0}) (List ℕ)) → left_out j of own tt ≡ f → left_out j of own tt ≡ refused wrongArity
+    go : (f : Answer (Unit {0}) (List ℕ)) → left_out j of own tt ≡ f → left_out j of own tt ≡ refused wrong_arity
     go (done us tt) e = absurd (n us (left_out_sound j of own e))
     go (stop r tt) e = e ∙ ap (λ x. refused x) (sym (left_out_refuses j of own e))
 
 pub all_written_lem : (of own : List ℕ) {j : ℕ} → j ≡ length of → left_out j of own tt ≡ found []
 all_written_lem of own e = left_out_complete (all_written e)
 
-pub too_many : (of own : List ℕ) (j : ℕ) → length of < j → left_out j of own tt ≡ refused wrongArity
+pub too_many : (of own : List ℕ) (j : ℕ) → length of < j → left_out j of own tt ≡ refused wrong_arity
 too_many of own j h = refuse_unless j of own (λ us k. (let a = left_out_count k in omega (arith, a, h)))
 
 pub can_be_put_in : {ls : Lines} {a b : ℕ} {of own : List ℕ} (j : ℕ) → Context ls a of → Context ls b own → (n : ℕ) → suc n + j ≡ length of → n < length own → get_or of n 0 ≡ get_or own n 0
     → left_out j of own tt ≡ found (take (suc n) of)
 can_be_put_in j c d n e h q = left_out_complete (one_comparison c d n e h q)
 
-pub cannot_be_put_in : (of own : List ℕ) (j n : ℕ) → suc n + j ≡ length of → ¬ ((n < length own) × (get_or of n 0 ≡ get_or own n 0)) → left_out j of own tt ≡ refused wrongArity
+pub cannot_be_put_in : (of own : List ℕ) (j n : ℕ) → suc n + j ≡ length of → ¬ ((n < length own) × (get_or of n 0 ≡ get_or own n 0)) → left_out j of own tt ≡ refused wrong_arity
 cannot_be_put_in of own j n e h = refuse_unless j of own (λ us k. h (comparison_holds k n e))

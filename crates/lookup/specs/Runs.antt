@@ -12,7 +12,7 @@ use Rattle.aut68.specs.Sizes.{smallest_limit, largest_limit, work_units, book_li
 use Rattle.aut68.specs.Stores.{Limits}
 use Rattle.aut68.specs.Bytes.{Bytes, lines}
 use Rattle.aut68.specs.Paragraphs.{Opened, State, start, with_line, with_place}
-use Rattle.aut68.specs.Procedure.Answer.{Answer, done, stop, Refusal, is_verdict, workTooSmall, limitOutOfRange, outOfSpace, unbalanced}
+use Rattle.aut68.specs.Procedure.Answer.{Answer, done, stop, Refusal, is_verdict, work_too_small, limit_out_of_range, out_of_space, unbalanced}
 use Rattle.aut68.specs.Procedure.CheckPiece.{PassedPiece, passed_line, moved_to, check_piece}
 use Rattle.aut68.specs.Procedure.Run.{Recorded, Ending, turned_away, accepted, refused_at, code_at, state_of, one_more, elsewhere, after_piece, at_end, check_lines, nothing, run}
 use Rattle.aut68.specs.Demands.{Accepted, Wrong, Verdict, Admitted}
@@ -100,19 +100,19 @@ module _ (language : Language) where
 
   -- a call that is refused before the first line
   pub data Early : Ending → Type 0 where
-    unfit : {r : Refusal} → (r ≡ limitOutOfRange) ⊎ (r ≡ workTooSmall) → Early (turned_away r)
-    too_long : Early (refused_at outOfSpace 0 0 nothing)
+    unfit : {r : Refusal} → (r ≡ limit_out_of_range) ⊎ (r ≡ work_too_small) → Early (turned_away r)
+    too_long : Early (refused_at out_of_space 0 0 nothing)
 
   pub early_undecided : {e : Ending} → Early e → ¬ Wrong e
   unfolding Wrong code_at is_verdict
   early_undecided (unfit (inl q)) w = false≢true (subst Decides q (wrong_decides _ w))
   early_undecided (unfit (inr q)) w = false≢true (subst Decides q (wrong_decides _ w))
-  early_undecided too_long w = space_undecided (wrong_decides outOfSpace w)
+  early_undecided too_long w = space_undecided (wrong_decides out_of_space w)
 
   pub early_refused : {e : Ending} → Early e → ¬ Accepted e
   unfolding Accepted code_at
   early_refused (unfit {r} q) h = code_nonzero r h
-  early_refused too_long h = code_nonzero outOfSpace h
+  early_refused too_long h = code_nonzero out_of_space h
 
   module _ (book : Bytes) (m : Limits) where
     pub run_admitted : Admitted language book m → run language book m ≡ check_lines language m nothing 0 m.budget (lines book)

@@ -11,7 +11,7 @@ use Rattle.aut68.specs.Language.{aut68}
 use Rattle.aut68.specs.Sizes.{open_limit}
 use Rattle.aut68.specs.Bytes.{Bytes}
 use Rattle.aut68.specs.Paragraphs.{Opened, State, opening, closed_to}
-use Rattle.aut68.specs.Procedure.Answer.{Answer, done, stop, aside, ensure, malformed, duplicate, outOfSpace, unbalanced}
+use Rattle.aut68.specs.Procedure.Answer.{Answer, done, stop, aside, ensure, malformed, duplicate, out_of_space, unbalanced}
 use Rattle.aut68.specs.Procedure.Parse.{starts, spaces, a_sign_line, signed}
 use Rattle.aut68.specs.Procedure.Lookup.{unused}
 use Rattle.aut68.specs.Procedure.CheckPiece.{check_opening, closing, check_closing}
@@ -40,17 +40,17 @@ module _ (st : State) (bytes : Bytes) (c : ℕ) where
     opening_taken u = done_then _ (ap (λ (m : Answer Bytes Bytes). aside m c) r) (stop_then _ (ap (λ t. ensure t duplicate c) u))
 
     module _ (u : unused p st ≡ true) where
-      pub opening_deep : ltb (length st.place.opened) open_limit ≡ false → check_opening aut68 st bytes c ≡ stop outOfSpace c
+      pub opening_deep : ltb (length st.place.opened) open_limit ≡ false → check_opening aut68 st bytes c ≡ stop out_of_space c
       unfolding check_opening aside ensure
       opening_deep d =
           done_then _ (ap (λ (m : Answer Bytes Bytes). aside m c) r)
-          (done_then _ (ap (λ t. ensure t duplicate c) u) (stop_then _ (ap (λ t. ensure t outOfSpace c) d)))
+          (done_then _ (ap (λ t. ensure t duplicate c) u) (stop_then _ (ap (λ t. ensure t out_of_space c) d)))
 
       pub opening_passes : ltb (length st.place.opened) open_limit ≡ true → check_opening aut68 st bytes c ≡ done (opening p st.place) c
       unfolding check_opening aside ensure
       opening_passes d =
           done_then _ (ap (λ (m : Answer Bytes Bytes). aside m c) r)
-          (done_then _ (ap (λ t. ensure t duplicate c) u) (done_then _ (ap (λ t. ensure t outOfSpace c) d) refl))
+          (done_then _ (ap (λ t. ensure t duplicate c) u) (done_then _ (ap (λ t. ensure t out_of_space c) d) refl))
 
   -- ---- a closing
 

@@ -12,7 +12,7 @@ use Rattle.aut68.specs.Sizes.{book_limit, name_limit, open_limit}
 use Rattle.aut68.specs.Bytes.{Bytes}
 use Rattle.aut68.specs.Lines.{part_of}
 use Rattle.aut68.specs.Paragraphs.{Opened, Place, State, with_place, opening, closed_to}
-use Rattle.aut68.specs.Procedure.Answer.{done, code_of, duplicate, outOfSpace, unbalanced}
+use Rattle.aut68.specs.Procedure.Answer.{done, code_of, duplicate, out_of_space, unbalanced}
 use Rattle.aut68.specs.Procedure.Parse.{signed}
 use Rattle.aut68.specs.Procedure.Lookup.{unused}
 use Rattle.aut68.specs.Procedure.CheckPiece.{check_opening}
@@ -102,7 +102,7 @@ module _ {ks book tb : List ℕ} {n : ℕ} {w : List ℕ} {start len at next k :
     line_deep : {w' : List ℕ} {o' : Open} → open_limit ≤ o.depth → MovedResult book tb n w' next st bytes 12 o'
     unfolding code_of
     line_deep d =
-        refused {r = outOfSpace}
+        refused {r = out_of_space}
         (λ m c.
         check_opening_lem aut68 st m bytes c (is_signed a)
         ∙ stop_then _ (opening_deep st bytes c a.read (not-false _ (unused_is e)) (le-ltb (length st.place.opened) open_limit (omega (arith, depth_is_lem a)))))

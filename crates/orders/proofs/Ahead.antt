@@ -17,7 +17,7 @@ use Rattle.aut68.specs.Rules.Names.{IsLine, Member, here, there, Denotes, NoneMe
 use Rattle.aut68.specs.Rules.Derivation.{Derivation}
 use Rattle.aut68.specs.Rules.Orders.{Permutation, Names, PrecedesDependency}
 use Rattle.aut68.specs.Rules.Arrangements.{Stands}
-use Rattle.aut68.specs.Procedure.Answer.{stop, Refusal, code_of, unknownName, tooLarge}
+use Rattle.aut68.specs.Procedure.Answer.{stop, Refusal, code_of, unknown_name, too_large}
 use Rattle.aut68.specs.Procedure.Resolve.{context_at}
 use Rattle.aut68.specs.Procedure.CheckLine.{check_line}
 use Rattle.lookup.specs.Answers.{Decides, large_undecided}
@@ -121,9 +121,9 @@ module _ (language : Language) where
         unknown_here m b {r} h d =
             let e = at (late_stopped language s.derivation (distinct_state A.derived) (right_contexts A.derived) (unused_flat fresh) (named_by s.derivation.form)
             (none_meant A.derived) ρ own_context (λ w x. alike w) m b h).0 in
-            let z : code_of r ≡ code_of unknownName = ap code_of e in
+            let z : code_of r ≡ code_of unknown_name = ap code_of e in
             omega arith
           where
-            at : (r ≡ unknownName) ⊎ (r ≡ tooLarge) → r ≡ unknownName
+            at : (r ≡ unknown_name) ⊎ (r ≡ too_large) → r ≡ unknown_name
             at (inl e) = e
             at (inr e) = absurd (large_undecided (subst Decides e d))

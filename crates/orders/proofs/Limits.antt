@@ -11,7 +11,7 @@ use Rattle.aut68.specs.Sizes.{smallest_limit}
 use Rattle.aut68.specs.Stores.{Stores, Limits, Larger}
 use Rattle.aut68.specs.Bytes.{Bytes, same_bytes, lines}
 use Rattle.aut68.specs.Paragraphs.{Opened, State}
-use Rattle.aut68.specs.Procedure.Answer.{Answer, stop, aside, done, outOfSpace, duplicate, unbalanced}
+use Rattle.aut68.specs.Procedure.Answer.{Answer, stop, aside, done, out_of_space, duplicate, unbalanced}
 use Rattle.aut68.specs.Procedure.CheckLine.{read_line, store, check_line}
 use Rattle.aut68.specs.Procedure.CheckPiece.{PassedPiece, check_opening, closing, check_closing, check_piece}
 use Rattle.aut68.specs.Procedure.Run.{Recorded, state_of, Ending, accepted, refused_at, code_at, line_at, steps_at, table_end, terms_end, index_end, at_end, check_lines, nothing, run}
@@ -42,7 +42,7 @@ module _ (language : Language) (st : State) where
   unfolding check_line store
   grows_line m m' h bytes =
       grows_then (grows_read h.limit bytes) λ p.
-      grows_then (grows_test outOfSpace space_undecided _ _ (larger_room h st.earlier p.line)) λ _.
+      grows_then (grows_test out_of_space space_undecided _ _ (larger_room h st.earlier p.line)) λ _.
       grows_then (grows_categories language st.earlier h.limit p.line) λ _.
       grows_give
 
@@ -50,7 +50,7 @@ module _ (language : Language) (st : State) where
 
   grows_opening : (bytes : Bytes) → Grows (check_opening language st bytes) (check_opening language st bytes)
   unfolding check_opening
-  grows_opening bytes = grows_then (grows_aside stays_same) λ p. grows_then (grows_ensure _ duplicate) λ _. grows_then (grows_ensure _ outOfSpace) λ _. grows_give
+  grows_opening bytes = grows_then (grows_aside stays_same) λ p. grows_then (grows_ensure _ duplicate) λ _. grows_then (grows_ensure _ out_of_space) λ _. grows_give
 
   grows_close : (p : Bytes) → Grows (closing p st.place) (closing p st.place)
   unfolding closing

@@ -15,7 +15,7 @@ use Rattle.aut68.specs.Stores.{Limits, before_line}
 use Rattle.aut68.specs.Bytes.{Bytes, lines}
 use Rattle.aut68.specs.Lines.{Line, Lines}
 use Rattle.aut68.specs.Paragraphs.{Opened, State}
-use Rattle.aut68.specs.Procedure.Answer.{Answer, done, stop, and_then, ◌>>=◌, give, ensure, aside, outOfSpace}
+use Rattle.aut68.specs.Procedure.Answer.{Answer, done, stop, and_then, ◌>>=◌, give, ensure, aside, out_of_space}
 use Rattle.aut68.specs.Procedure.CheckLine.{read_line, room, store, check_categories, check_line}
 use Rattle.aut68.specs.Procedure.CheckPiece.{PassedPiece, passed_line, moved_to, check_piece}
 use Rattle.aut68.specs.Procedure.Run.{Recorded, state_of, Ending, refused_at, one_more, elsewhere, after_piece, at_end, check_lines, nothing, run}
@@ -38,7 +38,7 @@ module _ (n : ℕ) (m : Limits) (le : n ≤ m.lines) where
     unfolding check_line store
     line_same st bytes b h = λ i.
         (aside (read_line language st m.limit bytes tt) >>= λ p.
-        ensure (room_same st.earlier p.line h i) outOfSpace >>= λ _.
+        ensure (room_same st.earlier p.line h i) out_of_space >>= λ _.
         check_categories language st.earlier m.limit p.line >>= λ _.
         give p) b
 

@@ -8,12 +8,12 @@ use Rattle.std.proofs.Math.Option.{Option, none, some}
 use mathlib.Core.List.{List, [], ◌∷◌}
 use Prim.Native.Nat.{ℕ, zero, suc, ◌+◌, ◌≤◌}
 use Rattle.std.proofs.Math.Dec.{leb}
-use Rattle.aut68.specs.Language.{Language, aut68, autQE}
+use Rattle.aut68.specs.Language.{Language, aut68, aut_qe}
 use Rattle.aut68.specs.Sizes.{nesting}
 use Rattle.aut68.specs.Expr.{Expr, Exprs, type, prop, var, bound, const, app, abs, nil, cons, snoc, size, is_sort, Shape, shape, abstraction, other, parts, over_binding}
 use Rattle.aut68.specs.Substitution.{lift, substitute, instantiate}
 use Rattle.aut68.specs.Lines.{Line, Lines, Kind, variable, primitive, abbreviation}
-use Rattle.aut68.specs.Procedure.Answer.{Act, done, ◌>>=◌, refuse, notFunction, not_type, tooLarge}
+use Rattle.aut68.specs.Procedure.Answer.{Act, done, ◌>>=◌, refuse, not_function, not_type, too_large}
 use Rattle.aut68.specs.Procedure.HeadStep.{head_step, left}
 use Rattle.aut68.specs.Procedure.Compare.{compare}
 use Rattle.aut68.specs.Procedure.Category.{nth, the_line, made, head_form, to_function, serves_as_type, opens, Search, second_chance, category_at, arguments, searches, category}
@@ -36,7 +36,7 @@ module _ (language : Language) (ls : Lines) {L L' : ℕ} (hL : L ≤ L') where
 
   grows_made : (e : Expr) → Grows (made L e) (made L' e)
   unfolding made
-  grows_made e = grows_then (grows_test tooLarge large_undecided _ _ (larger (size e) hL)) (λ _. grows_give)
+  grows_made e = grows_then (grows_test too_large large_undecided _ _ (larger (size e) hL)) (λ _. grows_give)
 
   form_none : (c d : ℕ) → c ≡ 0 + d → (f : Expr) (s : Shape) → shape f ≡ s → (o : Option Expr) → left (head_step ls f) ≡ o → Kept d (head_form ls L f zero) (head_form ls L' f c)
   unfolding head_form
@@ -81,7 +81,7 @@ module _ (language : Language) (ls : Lines) {L L' : ℕ} (hL : L ≤ L') where
     where
       go : (l : Language) → Grows (opens l d) (opens l d)
       go aut68 = grows_give
-      go autQE = grows_ensure (ltb d (suc nesting)) tooLarge
+      go aut_qe = grows_ensure (ltb d (suc nesting)) too_large
 
   GrowsSearch : Search → Search → Type 0
   GrowsSearch search search' = (d : ℕ) (sc : List Expr) (e : Expr) → Grows (search d sc e) (search' d sc e)
@@ -91,14 +91,14 @@ module _ (language : Language) (ls : Lines) {L L' : ℕ} (hL : L ≤ L') where
     unfolding second_chance GrowsSearch
     grows_second d sc f = go language
       where
-        at : (t : Bool) → Grows {A = Expr} (elim t as (λ _. Act ℕ Expr) [ true ↦ refuse notFunction | false ↦ search d sc f ])
-            (elim t as (λ _. Act ℕ Expr) [ true ↦ refuse notFunction | false ↦ search' d sc f ])
+        at : (t : Bool) → Grows {A = Expr} (elim t as (λ _. Act ℕ Expr) [ true ↦ refuse not_function | false ↦ search d sc f ])
+            (elim t as (λ _. Act ℕ Expr) [ true ↦ refuse not_function | false ↦ search' d sc f ])
         at true = grows_refuse
         at false = hs d sc f
 
         go : (l : Language) → Grows (second_chance l search d sc f) (second_chance l search' d sc f)
         go aut68 = grows_refuse
-        go autQE = at (is_sort f)
+        go aut_qe = at (is_sort f)
 
     grows_application : (d : ℕ) (sc : List Expr) (a f : Expr) (cat cat' : Act ℕ Expr) → Grows cat cat' → (s : Shape)
         → Grows {A = Expr} (elim s as (λ _. Act ℕ Expr) [

@@ -2,7 +2,7 @@
 use Rattle.std.specs.Prelude.{◌≡◌, List, ℕ, ◌*◌, length, drop}
 use Rattle.aut68.specs.Sizes.{work_units}
 use Rattle.aut68.specs.Lines.{Lines}
-use Rattle.aut68.specs.Procedure.Calls.{decline_code, notWhole}
+use Rattle.aut68.specs.Procedure.Calls.{decline_code, not_whole}
 use Rattle.heads.specs.Book.{Book}
 use Rattle.outcomes.specs.declared.answers.AnswerNumbers.{AnswerNumbers}
 use Rattle.pairs.specs.declared.Pair.{Pair}
@@ -10,7 +10,7 @@ use Rattle.pairs.specs.Sheet.{Marked, MarkedUpTo}
 
 -- the numbers of a string that is not whole
 abbrev pub NotWhole : AnswerNumbers → Type 0
-NotWhole r = (r.code ≡ decline_code notWhole) × (r.line ≡ 0) × (r.steps ≡ 0) × (r.length ≡ 0)
+NotWhole r = (r.code ≡ decline_code not_whole) × (r.line ≡ 0) × (r.steps ≡ 0) × (r.length ≡ 0)
 
 -- one pair, over the first `lines` lines
 pub record PairPost (tb ts w : List ℕ) (limit lines : ℕ) (cells : List ℕ) (p : Pair) (place : AnswerNumbers) (w' : List ℕ) : Type 0 where

@@ -4,7 +4,7 @@ use Rattle.aut68.specs.Language.{aut68}
 use Rattle.aut68.specs.Stores.{Stores}
 use Rattle.aut68.specs.Bytes.{Bytes}
 use Rattle.aut68.specs.Lines.{Lines}
-use Rattle.aut68.specs.Procedure.Calls.{decline_code, storeTooSmall}
+use Rattle.aut68.specs.Procedure.Calls.{decline_code, store_too_small}
 use Rattle.aut68.specs.Admission.{AdmitsFirst}
 use Rattle.aut68.specs.Desk.{Judged, ComparesStrings}
 use Rattle.outcomes.specs.declared.answers.AnswerNumbers.{AnswerNumbers}
@@ -43,7 +43,7 @@ counted n = elim (leb n 4294967295) [ true ↦ n | false ↦ 4294967295 ]
 -- What the call says of a list of pairs and a sheet, and what it leaves there. Exactly one of the two.
 pub data Sheeted (ls : Lines) (L : ℕ) (cells : List ℕ) (pairs : List Pair) (old : List AnswerNumbers) (code steps count : ℕ) (new : List AnswerNumbers) : Type 0 where
   -- "If the sheet for outcomes is shorter than the list, the call gives 15; then .. it writes none."
-  too_short : length old < length pairs → code ≡ decline_code storeTooSmall → steps ≡ 0 → count ≡ 0 → new ≡ old → Sheeted ls L cells pairs old code steps count new
+  too_short : length old < length pairs → code ≡ decline_code store_too_small → steps ≡ 0 → count ≡ 0 → new ≡ old → Sheeted ls L cells pairs old code steps count new
   -- "the call itself gives 0 with 0 steps"
   marked : length pairs ≤ length old → code ≡ 0 → steps ≡ 0 → count ≡ counted (length pairs) → MarkedUpTo (length pairs) ls L cells pairs new
       → drop (length pairs) new ≡ drop (length pairs) old → Sheeted ls L cells pairs old code steps count new

@@ -11,7 +11,7 @@ use Rattle.aut68.specs.Bytes.{Bytes}
 use Rattle.aut68.specs.Source.{Used}
 use Rattle.aut68.specs.Lines.{Line, Kind, variable, primitive, abbreviation, line_of, kind_number, row_cell}
 use Rattle.aut68.specs.Paragraphs.{State}
-use Rattle.aut68.specs.Procedure.Answer.{unknownName}
+use Rattle.aut68.specs.Procedure.Answer.{unknown_name}
 use Rattle.aut68.specs.Procedure.Lookup.{number_of}
 use Rattle.aut68.specs.Procedure.Resolve.{found, refused, indicator_line}
 use Rattle.aut68.specs.Sizes.{line_limit, at_kind}
@@ -34,12 +34,12 @@ indicator_none : (st : State) → indicator_line st none tt ≡ found 0
 unfolding indicator_line
 indicator_none st = refl
 
-indicator_nowhere : (st : State) (u : Used) → number_of st u ≡ none → indicator_line st (some u) tt ≡ refused unknownName
+indicator_nowhere : (st : State) (u : Used) → number_of st u ≡ none → indicator_line st (some u) tt ≡ refused unknown_name
 unfolding indicator_line
 indicator_nowhere st u e = rw (e, indicator_line)
 
 indicator_constant : (st : State) (u : Used) (v : ℕ) (k : Kind) → number_of st u ≡ some v → (line_of st.earlier v).kind ≡ k → kind_number k ≢ 0
-    → indicator_line st (some u) tt ≡ refused unknownName
+    → indicator_line st (some u) tt ≡ refused unknown_name
 unfolding indicator_line kind_number
 indicator_constant st u v variable e f n = absurd (n refl)
 indicator_constant st u v primitive e f n = rw (e, f, indicator_line)

@@ -14,7 +14,7 @@ use Rattle.aut68.specs.Expr.{Expr, cells, levels}
 use Rattle.aut68.specs.Source.{Used}
 use Rattle.aut68.specs.Lines.{Kind, kind_cells, line_cells, row_cell}
 use Rattle.aut68.specs.Paragraphs.{State, current}
-use Rattle.aut68.specs.Procedure.Answer.{◌>>=◌, give, ensure, aside, code_of, duplicate, tooLarge}
+use Rattle.aut68.specs.Procedure.Answer.{◌>>=◌, give, ensure, aside, code_of, duplicate, too_large}
 use Rattle.aut68.specs.Procedure.Parse.{Placed, a_line}
 use Rattle.aut68.specs.Procedure.Lookup.{unused}
 use Rattle.aut68.specs.Procedure.Resolve.{Naming, indicator_line, resolve_middle, context_at}
@@ -42,7 +42,7 @@ use Rattle.expressions.proofs.StoreLaws.{below_same, below_then, part_append, pa
 use Rattle.expressions.proofs.ReadLaws.{read_is}
 use Rattle.reader.specs.declared.lines.Line.{Line as LineOf}
 use Rattle.reader.specs.Posts.{MiddleKind, kind_levels, LineWritten, BodyRead, IndicatorFound, LineRead, LineReadInto, LineReadTo}
-use Rattle.reader.proofs.StepLaws.{reading_result, step_stopped, step_names, step_fault, step_right, step_wrong, step_indicator, step_no_indicator}
+use Rattle.reader.proofs.StepLaws.{reading_result, step_stopped, step_names, step_fault, step_right_lem, step_wrong, step_indicator, step_no_indicator}
 use Rattle.reader.proofs.LimitLaws.{laid_small, laid_large, within, not_within, middle_within_lem, middle_not_within}
 use Rattle.reader.proofs.StepLaws.{name_unused, name_taken, kind_number_lem, context_length, indicator_within, zero_or_not}
 
@@ -173,7 +173,7 @@ module _ {ks s book tb : List ℕ} {lines : ℕ} (limit : ℕ) {w w₁ w' : List
                   let (q, m) = looked_up H hz P in
                   let middle = P.middle_written.names refl in
                   step_indicator _ (subst (λ o. IndicatorFound lines found (indicator_line st o tt)) (sym P.indicator_is) (F st t k noted)) le (I.1 le)
-                  (step_right _ duplicate (ap (λ x. unused x st) (sym q) ∙ name_unused T t k (note_stays large noted) m free)
+                  (step_right_lem _ duplicate (ap (λ x. unused x st) (sym q) ∙ name_unused T t k (note_stays large noted) m free)
                   (⊎_elim
                   (λ z. step_names _ middle z (λ x ex sx. step_fault _ (P.category_written.names z) n e))
                   (λ y. step_fault _ middle y (e ∙ P.category_written.kept y))
@@ -184,8 +184,8 @@ module _ {ks s book tb : List ℕ} {lines : ℕ} (limit : ℕ) {w w₁ w' : List
           -- what is left to be done where the names mean something: the middle's and the category's limits
           left : State → Placed → Kind → Expr → Naming Passed
           left st p x d =
-              ensure (middle_within_limits limit x) tooLarge >>= λ _.
-              ensure (within_limits limit d) tooLarge >>= λ _.
+              ensure (middle_within_limits limit x) too_large >>= λ _.
+              ensure (within_limits limit d) too_large >>= λ _.
               give
               (record {
                 before = p.before;
@@ -216,7 +216,7 @@ module _ {ks s book tb : List ℕ} {lines : ℕ} (limit : ℕ) {w w₁ w' : List
                     let (q, m) = looked_up H hz P in
                     let z : P.fault_between ≡ 0 = ⊎_elim (λ z. z) (λ y. absurd (y (sym (P.category_written.kept y) ∙ n))) (zero_or_not P.fault_between) in
                     step_indicator _ (subst (λ o. IndicatorFound lines found (indicator_line st o tt)) (sym P.indicator_is) (F st t k noted)) le (I.1 le)
-                    (step_right _ duplicate (ap (λ x. unused x st) (sym q) ∙ name_unused T t k (note_stays large noted) m free)
+                    (step_right_lem _ duplicate (ap (λ x. unused x st) (sym q) ∙ name_unused T t k (note_stays large noted) m free)
                     (step_names _ (P.middle_written.names refl) z (λ x ex sx.
                     step_names _ (P.category_written.names z) n (λ d ed sd.
                     f st k (indicator_within (F st t k noted) k.few I) (note_stays large noted) p P x d ex sx sd)))));
@@ -226,7 +226,7 @@ module _ {ks s book tb : List ℕ} {lines : ℕ} (limit : ℕ) {w w₁ w' : List
           unfolding left code_of
           line_large_middle g e =
               after_names (λ st k earlier noted p P x d ex sx sd.
-              step_wrong _ tooLarge (middle_not_within x (laid_large sx (B.upward rz).0 g (omega (arith, P.long, below_noted.long)))) e)
+              step_wrong _ too_large (middle_not_within x (laid_large sx (B.upward rz).0 g (omega (arith, P.long, below_noted.long)))) e)
 
           module _ (f : r.count - line_unit * limit ≤ limit) where
             middle_fits_lem : (x : Kind) {between : List ℕ} → length between ≡ length w₁ → Laid between (line_unit * limit) r.count nesting (kind_cells x) (kind_levels x)
@@ -238,8 +238,8 @@ module _ {ks s book tb : List ℕ} {lines : ℕ} (limit : ℕ) {w w₁ w' : List
             line_large_category g e =
                 let (start, more) = B.upward rz in
                 after_names (λ st k earlier noted p P x d ex sx sd.
-                step_right _ tooLarge (middle_within_lem x (middle_fits_lem x P.long sx))
-                (step_wrong _ tooLarge (not_within d (laid_large sd more (omega arith) (omega (arith, below_kept.long)))) e))
+                step_right_lem _ too_large (middle_within_lem x (middle_fits_lem x P.long sx))
+                (step_wrong _ too_large (not_within d (laid_large sd more (omega arith) (omega (arith, below_kept.long)))) e))
 
             pub line_read : {context paragraph : ℕ} → r.to - line_unit * limit - (r.count - line_unit * limit) ≤ limit
                 → (indicator ≡ 0 → context ≡ 0) × (1 ≤ indicator → context ≡ row_cell tb indicator at_context + 1) → CurrentTold w' paragraph
@@ -264,8 +264,8 @@ module _ {ks s book tb : List ℕ} {lines : ℕ} (limit : ℕ) {w w₁ w' : List
                 let between : r.count ≤ length P.between = omega (arith, P.long, below_noted.long) in
                 let cx = (sx.fits between).0 in
                 let cd = (sd.fits end).0 in
-                step_right _ tooLarge (middle_within_lem x (middle_fits_lem x P.long sx))
-                (step_right _ tooLarge (within d (laid_small sd more (omega arith) end))
+                step_right_lem _ too_large (middle_within_lem x (middle_fits_lem x P.long sx))
+                (step_right_lem _ too_large (within d (laid_small sd more (omega arith) end))
                 (Results.passed refl
                 (record {
                   first_is = sym P.before_is;

@@ -61,9 +61,9 @@ module _ {A B : Type 0} {Q : B → Type 0} {code : ℕ} (f : A → Naming B) whe
   step_fault (faulty e) n c = Results.refused (c ∙ e)
 
 module _ {B : Type 0} {Q : B → Type 0} {code : ℕ} (f : Unit {0} → Naming B) where
-  pub step_right : {t : Bool} (r : Refusal) → t ≡ true → Result Q code tt (f tt tt) → Result Q code tt (and_then f (ensure t r tt))
+  pub step_right_lem : {t : Bool} (r : Refusal) → t ≡ true → Result Q code tt (f tt tt) → Result Q code tt (and_then f (ensure t r tt))
   unfolding ensure
-  step_right r e h = step_read f (ap (λ t. ensure t r tt) e) h
+  step_right_lem r e h = step_read f (ap (λ t. ensure t r tt) e) h
 
   pub step_wrong : {t : Bool} (r : Refusal) → t ≡ false → code ≡ code_of r → Result Q code tt (and_then f (ensure t r tt))
   unfolding ensure

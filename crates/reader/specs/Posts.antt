@@ -10,7 +10,7 @@ use Rattle.aut68.specs.Expr.{cells, levels}
 use Rattle.aut68.specs.Paragraphs.{State}
 use Rattle.aut68.specs.Lines.{Kind, kind_cells, kind_number, line_cells}
 use Rattle.aut68.specs.Lines as Lines
-use Rattle.aut68.specs.Procedure.Answer.{Answer, unknownName}
+use Rattle.aut68.specs.Procedure.Answer.{Answer, unknown_name}
 use Rattle.aut68.specs.Procedure.Parse.{Placed, a_middle, an_expression, word_ahead}
 use Rattle.aut68.specs.Procedure.Resolve.{found, refused, resolve, resolve_middle, context_at}
 use Rattle.aut68.specs.Procedure.CheckLine.{Passed, read_line}
@@ -106,7 +106,7 @@ pub record BodyRead (ks s book tb : List ℕ) (lines indicator : ℕ) (w w' : Li
 -- r is the indicator's line, 0 if empty; `line_limit` where it is no `EB` line
 pub data IndicatorFound (lines r : ℕ) : Answer (Unit {0}) ℕ → Type 0 where
   is_line : {v : ℕ} → r ≡ v → v ≤ lines → IndicatorFound lines r (found v)
-  no_line : r ≡ line_limit → IndicatorFound lines r (refused unknownName)
+  no_line : r ≡ line_limit → IndicatorFound lines r (refused unknown_name)
 
 -- the line p as it was read: where its identifier is, its row's numbers, and its cells in the store from `to` on
 pub record LineRead (s : Bytes) (w' : List ℕ) (to : ℕ) (l : Line) (p : Passed) : Type 0 where

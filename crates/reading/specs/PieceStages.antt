@@ -9,7 +9,7 @@ use Rattle.aut68.specs.Stores.{Limits}
 use Rattle.aut68.specs.Bytes.{Bytes, same_bytes}
 use Rattle.aut68.specs.Lines.{Line}
 use Rattle.aut68.specs.Paragraphs.{Opened, Place, State, with_place, closed_to}
-use Rattle.aut68.specs.Procedure.Answer.{Act, Answer, give, refuse, done, stop, and_then, Refusal, malformed, duplicate, outOfSpace, unbalanced}
+use Rattle.aut68.specs.Procedure.Answer.{Act, Answer, give, refuse, done, stop, and_then, Refusal, malformed, duplicate, out_of_space, unbalanced}
 use Rattle.aut68.specs.Procedure.Parse.{a_sign_line, signed}
 use Rattle.aut68.specs.Procedure.Lookup.{unused}
 use Rattle.aut68.specs.Procedure.CheckLine.{Passed, check_line}
@@ -113,7 +113,7 @@ module _ (language : Language) (st : State) (bytes : Bytes) where
   pub data Unopened (r : Refusal) : Type 0 where
     is_malformed : r ≡ malformed → ((p : Bytes) → ¬ SignLine language 43 p bytes) → Unopened r
     is_taken : {p : Bytes} → r ≡ duplicate → SignLine language 43 p bytes → Taken st p → Unopened r
-    too_many : {p : Bytes} → r ≡ outOfSpace → SignLine language 43 p bytes → Unopened r
+    too_many : {p : Bytes} → r ≡ out_of_space → SignLine language 43 p bytes → Unopened r
 
   -- Why a closing is refused: its form, or it names another than the innermost open paragraph.
   pub data Unclosed (r : Refusal) : Type 0 where
@@ -130,7 +130,7 @@ module _ (language : Language) (st : State) (bytes : Bytes) where
       aside_done (a_sign_line language 43 bytes) e₁ λ rest f₁ q₁.
       let s = sign_sound language 43 bytes f₁ in
       stopped _ _ h₁ (λ e. ensure_stop (unused p st) duplicate e λ g t q. is_taken (sym t) s (unused_taken g)) λ u₂ b₂ e₂ h₂.
-      stopped _ _ h₂ (λ e. ensure_stop (ltb (length st.place.opened) open_limit) outOfSpace e λ g t q. too_many (sym t) s) λ u₃ b₃ e₃ h₃.
+      stopped _ _ h₂ (λ e. ensure_stop (ltb (length st.place.opened) open_limit) out_of_space e λ g t q. too_many (sym t) s) λ u₃ b₃ e₃ h₃.
       absurd (stop≢done (sym h₃))
 
   pub unclosed : (b : ℕ) {r : Refusal} {b' : ℕ} → check_closing language st bytes b ≡ stop r b' → Unclosed r

@@ -11,7 +11,7 @@ use borrow.Author.Tests.{le-leb, lt-leb, leb-true, leb-false}
 use Rattle.aut68.specs.Sizes.{largest_limit, work_units}
 use Rattle.aut68.specs.Expr.{Expr, type, prop, var, bound, const, app, abs, nil, cons, size, cells, first_cell, count_exprs, Shape, shape, abstraction, other}
 use Rattle.aut68.specs.Lines.{Lines}
-use Rattle.aut68.specs.Procedure.Answer.{Refusal, done, stop, and_then, code_of, notFunction, tooLarge, outOfBudget}
+use Rattle.aut68.specs.Procedure.Answer.{Refusal, done, stop, and_then, code_of, not_function, too_large, out_of_budget}
 use Rattle.aut68.specs.Procedure.HeadStep.{Head, no_step, head_step, left}
 use Rattle.aut68.specs.Procedure.Category.{head_form, parts, to_function}
 use Rattle.calculus.specs.Scoped.{ScopedCategory}
@@ -50,11 +50,11 @@ module _ (ls : Lines) (L : ℕ) where
   stepped_shape (app a b) x e = refl
   stepped_shape (abs p t) x e = absurd (none-ne-some x e)
 
-  form_spent_at : (g x : Expr) → left (head_step ls g) ≡ some x → head_form ls L g 0 ≡ stop outOfBudget 0
+  form_spent_at : (g x : Expr) → left (head_step ls g) ≡ some x → head_form ls L g 0 ≡ stop out_of_budget 0
   unfolding head_form
   form_spent_at g x e = rw (stepped_shape g x e, e, head_form)
 
-  form_large_at : (g x : Expr) (b : ℕ) → left (head_step ls g) ≡ some x → L < size x → head_form ls L g (suc b) ≡ stop tooLarge (suc b)
+  form_large_at : (g x : Expr) (b : ℕ) → left (head_step ls g) ≡ some x → L < size x → head_form ls L g (suc b) ≡ stop too_large (suc b)
   unfolding head_form
   form_large_at g x b e h = rw (stepped_shape g x e, e, lt-leb (size x) L h, head_form)
 
@@ -84,7 +84,7 @@ module _ (ls : Lines) (L : ℕ) where
   unfolding to_function and_then
   function_stops c b b' e = rw (e, and_then)
 
-  function_none : (c g : Expr) (b b' : ℕ) → head_form ls L c b ≡ done g b' → shape g ≡ other → to_function ls L c b ≡ stop notFunction b'
+  function_none : (c g : Expr) (b b' : ℕ) → head_form ls L c b ≡ done g b' → shape g ≡ other → to_function ls L c b ≡ stop not_function b'
   unfolding parts
   function_none c g b b' e s = function_of c g b b' e ∙ ap (λ (x : Shape). parts x b') s
 
@@ -142,8 +142,8 @@ module _ {tb ts w₀ w : List ℕ} {limit budget at n₀ n budget' : ℕ} {h : s
     is = λ l {ls} B k c K y s q u a.
         let r = R.of l B k c K y s q u a in
         let (x, i) = head_some_of (H.is B k r.g r.known r.lies.at r.sized) z in
-        FunctionPosts.refused outOfBudget refl
-        (r.same ∙ ap (head_form ls limit r.g) e ∙ form_spent_at ls limit r.g x i ∙ ap (λ (b : ℕ). stop outOfBudget b) (sym e));
+        FunctionPosts.refused out_of_budget refl
+        (r.same ∙ ap (head_form ls limit r.g) e ∙ form_spent_at ls limit r.g x i ∙ ap (λ (b : ℕ). stop out_of_budget b) (sym e));
   }
 
   module _ {w₁ : List ℕ} {r : ℕ} (nonzero : h.kind ≡ 0 → ⊥) (budgeted : budget' ≡ 0 → ⊥) (S : StepPost tb ts w w₁ limit h r) where
@@ -164,15 +164,15 @@ module _ {tb ts w₀ w : List ℕ} {limit budget at n₀ n budget' : ℕ} {h : s
           let y = R.of l B k c K z s q u a in
           let X = step_of l B k z u y in
           let e : budget' ≡ suc (budget' - 1) = omega arith in
-          FunctionPosts.refused tooLarge refl
+          FunctionPosts.refused too_large refl
           (y.same
           ∙ ap (head_form ls limit y.g) e
-          ∙ form_large_at ls limit y.g X.next (budget' - 1) X.is (too_large X)
-          ∙ ap (λ (b : ℕ). stop tooLarge b) (sym e));
+          ∙ form_large_at ls limit y.g X.next (budget' - 1) X.is (too_large_lem X)
+          ∙ ap (λ (b : ℕ). stop too_large b) (sym e));
     }
       where
-        too_large : {ls : Lines} {e : Expr} (X : Stepped ls limit at e r w₁) → limit < size X.next
-        too_large X = go (leb (size X.next) limit) refl
+        too_large_lem : {ls : Lines} {e : Expr} (X : Stepped ls limit at e r w₁) → limit < size X.next
+        too_large_lem X = go (leb (size X.next) limit) refl
           where
             go : (t : Bool) → leb (size X.next) limit ≡ t → limit < size X.next
             go false q = leb-false (size X.next) limit q
@@ -243,7 +243,7 @@ module _ {tb ts w w' : List ℕ} {limit budget at n code size' budget' : ℕ} (P
       go (FunctionPosts.refused r z e) = absurd (code_nonzero r (sym z ∙ zero-code))
       go {ls} {c = c} (normal g z q K s o a e) =
           let sh : shape g ≡ other = not_abs g (λ i. never (omega (arith, at_inside g a.at, cells_long g)) (at_first g a.at ∙ i)) in
-          subst (Result _ f.code f.budget) (sym (function_none ls limit c g budget budget' e sh ∙ ap (stop notFunction) (sym b))) (refused x)
+          subst (Result _ f.code f.budget) (sym (function_none ls limit c g budget budget' e sh ∙ ap (stop not_function) (sym b))) (refused x)
 
   pub function_abstraction : code ≡ 0 → get_or w' at 0 ≡ 5 → (f : Function) → Skipped tb w' (at + 1) 1 f.body → f.domain ≡ at + 1 → f.size ≡ size' → f.code ≡ 0 → f.budget ≡ budget'
       → FunctionPost tb ts w w' limit budget at n f

@@ -9,7 +9,7 @@ use Rattle.aut68.specs.Language.{aut68}
 use Rattle.aut68.specs.Sizes.{work_units}
 use Rattle.aut68.specs.Stores.{Stores, stores, limits_of}
 use Rattle.aut68.specs.Bytes.{Bytes}
-use Rattle.aut68.specs.Procedure.Calls.{decline_code, no_such_line, answerTooLong}
+use Rattle.aut68.specs.Procedure.Calls.{decline_code, no_such_line, answer_too_long}
 use Rattle.aut68.specs.Procedure.Run.{Ending, run, recorded_at}
 use Rattle.aut68.specs.Demands.{Determined}
 use Rattle.aut68.specs.Admission.{too_long, written}
@@ -69,7 +69,7 @@ module _ (book : Bytes) (N L : ℕ) (s : Stores) {code line steps : ℕ} {tb ts 
     stores_same : stores tb ts (w' ++ drop (work_units * L) w) ix ≡ stores tb ts w ix
     stores_same = ap (λ (x : List ℕ). stores tb ts x ix) work_same
 
-    pub tells_too_long : length old < count → TellsRests aut68 book N L s v old (decline_code answerTooLong) 0 0 0 (stores tb ts (w' ++ drop (work_units * L) w) ix) new
+    pub tells_too_long : length old < count → TellsRests aut68 book N L s v old (decline_code answer_too_long) 0 0 0 (stores tb ts (w' ++ drop (work_units * L) w) ix) new
     tells_too_long h =
         let t = answer_is in
         let e = t.count_is in

@@ -10,7 +10,7 @@ use Rattle.aut68.specs.Language.{aut68}
 use Rattle.aut68.specs.Sizes.{work_units}
 use Rattle.aut68.specs.Stores.{Stores, stores, limits_of}
 use Rattle.aut68.specs.Bytes.{Bytes}
-use Rattle.aut68.specs.Procedure.Calls.{decline_code, storeTooSmall}
+use Rattle.aut68.specs.Procedure.Calls.{decline_code, store_too_small}
 use Rattle.aut68.specs.Procedure.Run.{Ending, run, recorded_at}
 use Rattle.aut68.specs.Demands.{Determined}
 use Rattle.outcomes.specs.declared.answers.AnswerNumbers.{AnswerNumbers}
@@ -46,7 +46,7 @@ module _ (book : Bytes) (N L : ℕ) (s : Stores) where
         }
 
     -- the sheet is shorter than the list
-    sheet_declined : code ≡ 0 → length old < length pairs → c ≡ decline_code storeTooSmall → l ≡ 0 → n ≡ 0 → k ≡ 0 → new ≡ old → ComparesSheet book N L s cells pairs old c l n k s' new
+    sheet_declined : code ≡ 0 → length old < length pairs → c ≡ decline_code store_too_small → l ≡ 0 → n ≡ 0 → k ≡ 0 → new ≡ old → ComparesSheet book N L s cells pairs old c l n k s' new
     unfolding decline_code
     sheet_declined a h e f g z u =
         record {

@@ -4,7 +4,7 @@ use Rattle.aut68.specs.Language.{aut68}
 use Rattle.aut68.specs.Sizes.{work_units}
 use Rattle.aut68.specs.Stores.{Stores, limits_of}
 use Rattle.aut68.specs.Bytes.{Bytes}
-use Rattle.aut68.specs.Procedure.Calls.{decline_code, storeTooSmall}
+use Rattle.aut68.specs.Procedure.Calls.{decline_code, store_too_small}
 use Rattle.aut68.specs.Procedure.Run.{run}
 use Rattle.aut68.specs.Demands.{Determined}
 use Rattle.cells.specs.Posts.{cleared}
@@ -20,7 +20,7 @@ EndsWith o code line steps = (o.code ≡ code) × (o.line ≡ line) × (o.steps 
 pub data Opens (book : Bytes) (N L : ℕ) (s : Stores) (pairs places : ℕ) (o : Opened) (s' : Stores) : Type 0 where
   is_refused : (code line steps : ℕ) → Determined (run aut68 book (limits_of N L s)) L s code line steps s' → code ≢ 0 → EndsWith o code line steps
       → Opens book N L s pairs places o s'
-  is_short : (code line steps : ℕ) → Determined (run aut68 book (limits_of N L s)) L s code line steps s' → code ≡ 0 → places < pairs → EndsWith o (decline_code storeTooSmall) 0 0
+  is_short : (code line steps : ℕ) → Determined (run aut68 book (limits_of N L s)) L s code line steps s' → code ≡ 0 → places < pairs → EndsWith o (decline_code store_too_small) 0 0
       → Opens book N L s pairs places o s'
   is_open : (code line steps : ℕ) → Determined (run aut68 book (limits_of N L s)) L s code line steps s' → code ≡ 0 → pairs ≤ places
       → (o.code ≡ 0) × (o.line ≡ 0) × (o.steps ≡ 0) × (o.length ≡ counted pairs) → o.lines ≡ line → o.pairs ≡ pairs → Opens book N L s pairs places o s'

@@ -23,7 +23,7 @@ use Rattle.heads.specs.Posts.{HeadPost}
 use Rattle.heads.specs.declared.heads.Head.{Head}
 use Rattle.reduction.specs.Frames.{Framed, at_framed, framed_frame}
 use Rattle.reduction.specs.Posts.{StepPost}
-use Rattle.agreement.specs.Which.{Which, theLeft, theRight, pick, step_in}
+use Rattle.agreement.specs.Which.{Which, the_left, the_right, pick, step_in}
 use Rattle.sides.specs.Posts.{Side, Pair, Placed, SaysIdentical, Chooses, Turned, identically, to_parts, onward, too_far, spent, Turns}
 use Rattle.agreement.specs.Sides.{next_same}
 use Rattle.sides.proofs.Choosing.{number, next_choice, Choice, neither, chosen, choice}
@@ -64,39 +64,39 @@ record Chosen (ls : Lines) (l r : ℕ) (hl hr : Head) (side : ℕ) (e f : Expr) 
 
 side_of : {ls : Lines} {limit k : ℕ} {w : List ℕ} {l r : ℕ} {e f : Expr} (s : Which) → Pair ls limit k w l r e f
     → Side ls limit k w (pick s l r) (pick s e f)
-side_of theLeft P = P.left
-side_of theRight P = P.right
+side_of the_left P = P.left
+side_of the_right P = P.right
 
 -- one side is another expression now
 pair_of : {ls : Lines} {limit k : ℕ} {w : List ℕ} {l r : ℕ} (s : Which) (e f g : Expr) → Side ls limit k w (pick s l r) g
     → Side ls limit k w (pick s r l) (pick s f e) → Pair ls limit k w l r (pick s g e) (pick s f g)
-pair_of theLeft e f g x y = record { left = x; right = y }
-pair_of theRight e f g x y = record { left = y; right = x }
+pair_of the_left e f g x y = record { left = x; right = y }
+pair_of the_right e f g x y = record { left = y; right = x }
 
 sizes_of : (s : Which) (e f g : Expr) {n m n' : ℕ} → n' ≡ size g → n ≡ size e → m ≡ size f
     → (pick s n' n ≡ size (pick s g e)) × (pick s m n' ≡ size (pick s f g))
-sizes_of theLeft e f g v x y = (v, y)
-sizes_of theRight e f g v x y = (x, v)
+sizes_of the_left e f g v x y = (v, y)
+sizes_of the_right e f g v x y = (x, v)
 
 side_below : {limit n l r : ℕ} (s : Which) → Placed limit n l r → pick s l r + limit ≤ unit_at limit scratch_unit
-side_below theLeft p = omega (arith, p.next, p.below)
-side_below theRight p = p.below
+side_below the_left p = omega (arith, p.next, p.below)
+side_below the_right p = p.below
 
 head_of_side : {ls : Lines} {l r : ℕ} {hl hr : Head} {side : ℕ} {e f : Expr} (s : Which) → Chosen ls l r hl hr side e f
     → HeadIs ls (pick s l r) (pick s hl hr).kind (pick s hl hr).at (pick s hl hr).kept (pick s hl hr).line (pick s e f)
-head_of_side theLeft c = c.head_left
-head_of_side theRight c = c.head_right
+head_of_side the_left c = c.head_left
+head_of_side the_right c = c.head_right
 
 step_of_side : (ls : Lines) (s : Which) (e f : Expr) → pick s (head_step ls e) (head_step ls f) ≡ head_step ls (pick s e f)
-step_of_side ls theLeft e f = refl
-step_of_side ls theRight e f = refl
+step_of_side ls the_left e f = refl
+step_of_side ls the_right e f = refl
 
 -- the side that the number is, of two that it may be
-the_side : {side : ℕ} (s t : Which) → (side ≡ number (pick s theRight theLeft) → ⊥) → side ≡ number t → t ≡ s
-the_side theLeft theLeft n q = refl
-the_side theLeft theRight n q = absurd (n q)
-the_side theRight theLeft n q = absurd (n q)
-the_side theRight theRight n q = refl
+the_side : {side : ℕ} (s t : Which) → (side ≡ number (pick s the_right the_left) → ⊥) → side ≡ number t → t ≡ s
+the_side the_left the_left n q = refl
+the_side the_left the_right n q = absurd (n q)
+the_side the_right the_left n q = absurd (n q)
+the_side the_right the_right n q = refl
 
 module _ (ts : List ℕ) (limit budget : ℕ) {tb w : List ℕ} {l n r m : ℕ} {hl hr : Head} {side : ℕ} (D : Decided tb w l n r m hl hr side) where
   choices : (ls : Lines) (k : ℕ) (e f : Expr) → Book ls limit tb ts → Pair ls limit k w l r e f → n ≡ size e → m ≡ size f → Chosen ls l r hl hr side e f
@@ -120,8 +120,8 @@ module _ (ts : List ℕ) (limit budget : ℕ) {tb w : List ℕ} {l n r m : ℕ} 
   }
     where
       zero_none : (s : Which) → side ≡ number s → ⊥
-      zero_none theLeft q = omega arith
-      zero_none theRight q = omega arith
+      zero_none the_left q = omega arith
+      zero_none the_right q = omega arith
 
       go : (ls : Lines) (k : ℕ) (e f : Expr) → Pair ls limit k w l r e f → Chosen ls l r hl hr side e f → Turned ls limit k w l r e f budget 1 n m budget
       go ls k e f P c = by c.choice_is
@@ -150,14 +150,14 @@ module _ (ts : List ℕ) (limit budget : ℕ) {tb w : List ℕ} {l n r m : ℕ} 
 
   -- it starts no earlier than the left side
   behind : (s : Which) → l ≤ r → l ≤ (pick s hl hr).at
-  behind theLeft h = omega (arith, D.first.placed)
-  behind theRight h = omega (arith, D.second.placed)
+  behind the_left h = omega (arith, D.first.placed)
+  behind the_right h = omega (arith, D.second.placed)
 
   -- the other side lies where it did
   stays : {ls : Lines} {k : ℕ} {w' : List ℕ} (s : Which) (e f : Expr)
       → Framed (unit_at limit scratch_unit) (pick s hl hr).at ((pick s hl hr).at - (pick s hl hr).kept + limit) w w' → Placed limit (length w) l r
       → Pair ls limit k w l r e f → Side ls limit k w' (pick s r l) (pick s f e)
-  stays theLeft e f F p P = record {
+  stays the_left e f F p P = record {
     known = P.right.known;
     small = P.right.small;
     rest = _;
@@ -165,7 +165,7 @@ module _ (ts : List ℕ) (limit budget : ℕ) {tb w : List ℕ} {l n r m : ℕ} 
         at_framed F (omega (arith, p.below, P.right.small, size_is_length f)) (inr (omega (arith, p.next, D.first.placed)))
         P.right.at;
   }
-  stays theRight e f F p P = record {
+  stays the_right e f F p P = record {
     known = P.left.known;
     small = P.left.small;
     rest = _;
@@ -175,7 +175,7 @@ module _ (ts : List ℕ) (limit budget : ℕ) {tb w : List ℕ} {l n r m : ℕ} 
   }
 
   module _ (s : Which) {w' : List ℕ} {n' : ℕ} (S : StepPost tb ts w w' limit (pick s hl hr) n') (z : side ≡ 0 → ⊥)
-      (z' : side ≡ number (pick s theRight theLeft) → ⊥) (o : 0 < budget) where
+      (z' : side ≡ number (pick s the_right the_left) → ⊥) (o : 0 < budget) where
     frame_step : l ≤ r → l ≤ unit_at limit scratch_unit → Outside l (length w) w w'
     frame_step h t = framed_frame S.framed (behind s h) t
 

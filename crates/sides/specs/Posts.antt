@@ -4,8 +4,8 @@ use Rattle.aut68.specs.Sizes.{work_units, nesting}
 use Rattle.aut68.specs.Language.{aut68}
 use Rattle.aut68.specs.Expr.{Expr, size, cells, identical}
 use Rattle.aut68.specs.Lines.{Lines}
-use Rattle.aut68.specs.Procedure.Answer.{done, stop, tooLarge, outOfBudget}
-use Rattle.aut68.specs.Procedure.Compare.{same, byParts, next, Comparison, compare_parts, sides}
+use Rattle.aut68.specs.Procedure.Answer.{done, stop, too_large, out_of_budget}
+use Rattle.aut68.specs.Procedure.Compare.{same, by_parts, next, Comparison, compare_parts, sides}
 use Rattle.calculus.specs.Resolved.{KnownCategory}
 use Rattle.cells.specs.Cells.{Wf, At, Outside, parts_after}
 use Rattle.cells.specs.Layout.{unit_at, scratch_unit}
@@ -76,7 +76,7 @@ pub record SaysShapes (tb w : List ℕ) (l r : ℕ) (answer : Bool) (parts : ℕ
 -- would leave a side too large, or is past the budget.
 pub data Turned (ls : Lines) (limit k : ℕ) (w' : List ℕ) (l r : ℕ) (e f : Expr) (b state n m b' : ℕ) : Type 0 where
   identically : state ≡ 0 → b' ≡ b → next ls e f ≡ same → Turned ls limit k w' l r e f b state n m b'
-  to_parts : state ≡ 1 → b' ≡ b → next ls e f ≡ byParts → Pair ls limit k w' l r e f → Turned ls limit k w' l r e f b state n m b'
+  to_parts : state ≡ 1 → b' ≡ b → next ls e f ≡ by_parts → Pair ls limit k w' l r e f → Turned ls limit k w' l r e f b state n m b'
   onward : (s : Which) (g : Expr) → state ≡ 2 → b' + 1 ≡ b → next ls e f ≡ step_in s g → size g ≤ limit → Pair ls limit k w' l r (pick s g e) (pick s f g)
       → n ≡ size (pick s g e) → m ≡ size (pick s f g) → Turned ls limit k w' l r e f b state n m b'
   too_far : (s : Which) (g : Expr) → state ≡ 10 → b' ≡ b → 0 < b → next ls e f ≡ step_in s g → limit < size g → Turned ls limit k w' l r e f b state n m b'
@@ -99,8 +99,8 @@ pub data Goes (ls : Lines) (limit k : ℕ) (w' : List ℕ) (l r : ℕ) (e f : Ex
   identically : state ≡ 0 → ((inner : Comparison) → sides aut68 ls limit inner e f b ≡ done tt b') → Goes ls limit k w' l r e f b state b'
   to_parts : (e' f' : Expr) → state ≡ 1 → Pair ls limit k w' l r e' f'
       → ((inner : Comparison) → sides aut68 ls limit inner e f b ≡ compare_parts aut68 inner e' f' b') → Goes ls limit k w' l r e f b state b'
-  too_far : state ≡ 10 → ((inner : Comparison) → sides aut68 ls limit inner e f b ≡ stop tooLarge b') → Goes ls limit k w' l r e f b state b'
-  spent : state ≡ 11 → ((inner : Comparison) → sides aut68 ls limit inner e f b ≡ stop outOfBudget b') → Goes ls limit k w' l r e f b state b'
+  too_far : state ≡ 10 → ((inner : Comparison) → sides aut68 ls limit inner e f b ≡ stop too_large b') → Goes ls limit k w' l r e f b state b'
+  spent : state ≡ 11 → ((inner : Comparison) → sides aut68 ls limit inner e f b ≡ stop out_of_budget b') → Goes ls limit k w' l r e f b state b'
 
 -- the expressions at a and b, put at l and r as the sides, after all head steps
 pub record Settles (tb ts w : List ℕ) (limit budget a b l r : ℕ) (w' : List ℕ) (state rest : ℕ) : Type 0 where

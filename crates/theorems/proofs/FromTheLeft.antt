@@ -13,7 +13,7 @@ use Rattle.aut68.specs.Language.{Language}
 use Rattle.aut68.specs.Stores.{Limits}
 use Rattle.aut68.specs.Bytes.{Bytes, lines}
 use Rattle.aut68.specs.Paragraphs.{State, start}
-use Rattle.aut68.specs.Procedure.Answer.{code_of, tooLarge, unbalanced}
+use Rattle.aut68.specs.Procedure.Answer.{code_of, too_large, unbalanced}
 use Rattle.aut68.specs.Procedure.Run.{Ending, turned_away, accepted, refused_at, state_of, code_at, recorded_at, nothing, run}
 use Rattle.aut68.specs.Rules.Derivation.{Derived, no_more}
 use Rattle.aut68.specs.Demands.{WrongCode, Wrong, Accepted, Admitted, GetsTo, ByItsBytes, ByItsNames, FromTheLeft}
@@ -70,7 +70,7 @@ module _ (language : Language) (book : Bytes) (m : Limits) where
             (subst (λ y. Said j y bytes (code_of r) (length past)) (sym all) (subst (λ i. Said j past bytes (code_of r) i) o it))
 
   -- a piece reported so is one that the run got to
-  reported : {e : Ending} → Admitted language book m → (x : LinesEnd language m start m.budget (lines book) e) → WrongCode (code_at e) ⊎ (code_at e ≡ code_of tooLarge)
+  reported : {e : Ending} → Admitted language book m → (x : LinesEnd language m start m.budget (lines book) e) → WrongCode (code_at e) ⊎ (code_at e ≡ code_of too_large)
       → GetsTo language book m (passed_before language book m x) (passed_before language book m x) ⊎ ((code_at e ≡ code_of unbalanced) × (passed_before language book m x ≡ length (lines book)))
   unfolding code_at passed_before code_of
   reported a (all_pass x e) (inl c) = absurd (accepted_undecided c)
@@ -145,7 +145,7 @@ module _ (language : Language) (book : Bytes) (m : Limits) where
       nothing_derived (unfit q) = no_more
       nothing_derived too_long = no_more
 
-      not_early : {e : Ending} → Early language e → WrongCode (code_at e) ⊎ (code_at e ≡ code_of tooLarge) → ⊥
+      not_early : {e : Ending} → Early language e → WrongCode (code_at e) ⊎ (code_at e ≡ code_of too_large) → ⊥
       not_early x (inl c) = early_undecided language x c
       not_early (unfit (inl i)) (inr c) = let z = ap code_of i in omega arith
       not_early (unfit (inr i)) (inr c) = let z = ap code_of i in omega arith

@@ -8,7 +8,7 @@ use Rattle.aut68.specs.Language.{Language}
 use Rattle.aut68.specs.Stores.{Limits}
 use Rattle.aut68.specs.Bytes.{Bytes}
 use Rattle.aut68.specs.Paragraphs.{State, start}
-use Rattle.aut68.specs.Procedure.Answer.{done, stop, Refusal, code_of, unknownName}
+use Rattle.aut68.specs.Procedure.Answer.{done, stop, Refusal, code_of, unknown_name}
 use Rattle.aut68.specs.Procedure.Parse.{signed}
 use Rattle.aut68.specs.Procedure.CheckLine.{check_line}
 use Rattle.aut68.specs.Procedure.CheckPiece.{PassedPiece, check_piece}
@@ -17,7 +17,7 @@ use Rattle.aut68.specs.Rules.NameFaults.{IndicatorFault, FirstName, Unknown}
 use Rattle.aut68.specs.Rules.Derivation.{Derived}
 use Rattle.aut68.specs.Demands.{ByItsNames}
 use Rattle.lookup.specs.Answers.{stop≢done, stop_reason}
-use Rattle.lookup.specs.NameFaults.{NameRefusal, unknown, outOfContext, miscounted, refusal_for, FaultFor}
+use Rattle.lookup.specs.NameFaults.{NameRefusal, unknown, out_of_context, miscounted, refusal_for, FaultFor}
 use Rattle.lookup.specs.DerivedBooks.{distinct_names, right_contexts}
 use Rattle.reading.specs.Signs.{ordinary_starts}
 use Rattle.reading.specs.Stages.{Unread, is_malformed, is_taken, no_indicator, no_name, is_large, indicator_unread, name_unread, unread_stops}
@@ -32,19 +32,19 @@ use Rattle.theorems.proofs.NamesStop.{name_stops}
 name_code : (n : NameRefusal) → (4 < code_of (refusal_for n)) × ((code_of (refusal_for n) < 7) ⊎ (12 < code_of (refusal_for n)))
 unfolding code_of
 name_code unknown = (omega arith, inl (omega arith))
-name_code outOfContext = (omega arith, inr (omega arith))
+name_code out_of_context = (omega arith, inr (omega arith))
 name_code miscounted = (omega arith, inl (omega arith))
 
 names_apart : (k n : NameRefusal) → code_of (refusal_for k) ≡ code_of (refusal_for n) → k ≡ n
 unfolding code_of
 names_apart unknown unknown e = refl
-names_apart unknown outOfContext e = absurd (omega arith)
+names_apart unknown out_of_context e = absurd (omega arith)
 names_apart unknown miscounted e = absurd (omega arith)
-names_apart outOfContext unknown e = absurd (omega arith)
-names_apart outOfContext outOfContext e = refl
-names_apart outOfContext miscounted e = absurd (omega arith)
+names_apart out_of_context unknown e = absurd (omega arith)
+names_apart out_of_context out_of_context e = refl
+names_apart out_of_context miscounted e = absurd (omega arith)
 names_apart miscounted unknown e = absurd (omega arith)
-names_apart miscounted outOfContext e = absurd (omega arith)
+names_apart miscounted out_of_context e = absurd (omega arith)
 names_apart miscounted miscounted e = refl
 
 -- a paragraph line is refused by 3, 4, 12 or 17 only
@@ -56,9 +56,9 @@ unfolding SignCode code_of
 name_not_sign unknown (inl h) = omega arith
 name_not_sign unknown (inr (inl h)) = omega arith
 name_not_sign unknown (inr (inr h)) = omega arith
-name_not_sign outOfContext (inl h) = omega arith
-name_not_sign outOfContext (inr (inl h)) = omega arith
-name_not_sign outOfContext (inr (inr h)) = omega arith
+name_not_sign out_of_context (inl h) = omega arith
+name_not_sign out_of_context (inr (inl h)) = omega arith
+name_not_sign out_of_context (inr (inr h)) = omega arith
 name_not_sign miscounted (inl h) = omega arith
 name_not_sign miscounted (inr (inl h)) = omega arith
 name_not_sign miscounted (inr (inr h)) = omega arith
@@ -90,7 +90,7 @@ module _ (language : Language) (st : State) (bytes : Bytes) where
 
   module _ {past : List Bytes} (D : Derived language start past st) (m : Limits) (b : ℕ) where
     -- one with such an indicator or name is refused with its code
-    indicator_stops : IndicatorFault language st bytes → check_line language st m bytes b ≡ stop unknownName b
+    indicator_stops : IndicatorFault language st bytes → check_line language st m bytes b ≡ stop unknown_name b
     indicator_stops x = unread_stops language st m bytes b (indicator_unread language st m.limit bytes (distinct_names D) x)
 
     faulty_stops : (n : NameRefusal) → Faulty n → check_line language st m bytes b ≡ stop (refusal_for n) b
@@ -120,7 +120,7 @@ module _ (language : Language) (st : State) (bytes : Bytes) where
   said {k} {code} {passed} h =
       record {
         is_unknown = (λ z. indicator_or_name ((h unknown).0 z), λ x. (h unknown).1 (known_as x));
-        is_not_in_context = (λ z. its_name outOfContext (omega arith) ((h outOfContext).0 z), λ x. (h outOfContext).1 (inr x));
+        is_not_in_context = (λ z. its_name out_of_context (omega arith) ((h out_of_context).0 z), λ x. (h out_of_context).1 (inr x));
         is_miscounted = (λ z. its_name miscounted (omega arith) ((h miscounted).0 z), λ x. (h miscounted).1 (inr x));
       }
     where
@@ -132,8 +132,8 @@ module _ (language : Language) (st : State) (bytes : Bytes) where
       known_as (inl x) = inl (refl, x)
       known_as (inr x) = inr x
 
-      its_name : (n : NameRefusal) → code_of unknownName < code_of (refusal_for n) → Faulty n → FirstName language st bytes (FaultFor n)
-      its_name n l (inl (e, x)) = let z : code_of unknownName ≡ code_of (refusal_for n) = ap (λ i. code_of (refusal_for i)) e in absurd (omega arith)
+      its_name : (n : NameRefusal) → code_of unknown_name < code_of (refusal_for n) → Faulty n → FirstName language st bytes (FaultFor n)
+      its_name n l (inl (e, x)) = let z : code_of unknown_name ≡ code_of (refusal_for n) = ap (λ i. code_of (refusal_for i)) e in absurd (omega arith)
       its_name n l (inr x) = x
 
   module _ {past : List Bytes} (D : Derived language start past st) (m : Limits) (b : ℕ) where

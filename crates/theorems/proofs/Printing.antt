@@ -10,7 +10,7 @@ use Rattle.aut68.specs.Stores.{Stores, limits_of}
 use Rattle.aut68.specs.Bytes.{Bytes, lines, joined}
 use Rattle.aut68.specs.Paragraphs.{start}
 use Rattle.aut68.specs.Pages.{pages, read_back, without_spaces}
-use Rattle.aut68.specs.Procedure.Calls.{decline_code, storeTooSmall}
+use Rattle.aut68.specs.Procedure.Calls.{decline_code, store_too_small}
 use Rattle.aut68.specs.Procedure.Run.{Ending, run, state_of, recorded_at, over}
 use Rattle.aut68.specs.Rules.Derivation.{Derived}
 use Rattle.aut68.specs.Demands.{Accepted, Determined}
@@ -56,7 +56,7 @@ module _ (language : Language) (book : Bytes) (N L : ℕ) (s : Stores) where
 
     module _ (accept : code ≡ 0) {old : Bytes} where
       -- the pages do not fit
-      pub prints_too_small : length old < length (pages book) → PrintsPages language book N L s old (decline_code storeTooSmall) 0 0 0 s' old
+      pub prints_too_small : length old < length (pages book) → PrintsPages language book N L s old (decline_code store_too_small) 0 0 0 s' old
       unfolding decline_code
       prints_too_small h =
           record {

@@ -8,7 +8,7 @@ use Rattle.aut68.specs.Lines.{Lines}
 use Rattle.aut68.specs.Paragraphs.{Place, State, outside, start}
 use Rattle.aut68.specs.Rules.Derivation.{Derived}
 use Rattle.aut68.specs.Rules.Orders.{Permutation}
-use Rattle.aut68.specs.Procedure.Answer.{code_of, unknownName}
+use Rattle.aut68.specs.Procedure.Answer.{code_of, unknown_name}
 use Rattle.aut68.specs.Procedure.Run.{run, state_of, code_at, line_at, recorded_at}
 use Rattle.aut68.specs.Demands.{Accepted, Verdict, RightInOrder, NoParagraphs, NewOrders}
 use Rattle.lookup.specs.Former.{FormerDerived, no_more, former_book}
@@ -39,7 +39,7 @@ module _ (language : Language) where
   abbrev pub RightInCompletedOrder : List Bytes → Lines → List Bytes → ℕ → ℕ → Type 0
   RightInCompletedOrder old ms new code line =
       ((code ≡ 0) ↔ CompletedOrder language old ms [] new)
-      × (¬ CompletedOrder language old ms [] new → (k : ℕ) × CompletedFirst language old ms [] new k × (code ≡ code_of unknownName) × (line ≡ k))
+      × (¬ CompletedOrder language old ms [] new → (k : ℕ) × CompletedFirst language old ms [] new k × (code ≡ code_of unknown_name) × (line ≡ k))
 
   pub right_in_every_completed_order : (old new : List Bytes) (st : State) (m : Limits)
       → Derived language start old st

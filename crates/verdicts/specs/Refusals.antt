@@ -11,12 +11,12 @@ use Rattle.aut68.specs.Source.{SourceLine}
 use Rattle.aut68.specs.Lines.{Line}
 use Rattle.aut68.specs.Paragraphs.{State, start}
 use Rattle.aut68.specs.Rules.Derivation.{Derived}
-use Rattle.aut68.specs.Procedure.Answer.{done, stop, Refusal, code_of, duplicate, unknownName, wrongArity, tooLarge, outOfSpace, notInContext}
+use Rattle.aut68.specs.Procedure.Answer.{done, stop, Refusal, code_of, duplicate, unknown_name, wrong_arity, too_large, out_of_space, not_in_context}
 use Rattle.aut68.specs.Procedure.Parse.{Placed, a_line}
 use Rattle.aut68.specs.Procedure.CheckLine.{check_line, check_written, check_middle}
 use Rattle.lookup.specs.Answers.{Finding, no_function, no_type, differ, large, spent, judged_stop}
 use Rattle.lookup.specs.DerivedBooks.{distinct_names, right_contexts}
-use Rattle.lookup.specs.NameFaults.{unknown, outOfContext, miscounted}
+use Rattle.lookup.specs.NameFaults.{unknown, out_of_context, miscounted}
 use Rattle.reading.specs.Sound.{parse_sound}
 use Rattle.reading.specs.Readings.{Reading}
 use Rattle.reading.specs.Stages.{check_stopped, Halted, unread, Unread, is_malformed, is_taken, no_indicator, no_name, is_large, no_room, in_category, in_middle}
@@ -62,7 +62,7 @@ module _ (language : Language) (st : State) {past : List Bytes} (D : Derived lan
 
       go : Halted language st limits bytes b r b' → Unread language st limits.limit bytes r
       go (unread u p) = u
-      go (no_room i p a) = let z : code_of r ≡ code_of outOfSpace = ap code_of i in absurd (clash c (omega arith) (omega arith))
+      go (no_room i p a) = let z : code_of r ≡ code_of out_of_space = ap code_of i in absurd (clash c (omega arith) (omega arith))
       go (in_category a f) = let (p, q) = written_code a b f in absurd (clash c p (omega arith))
       go (in_middle {c = m} a f g) = let (p, q) = middle_code a m g in absurd (clash c p (omega arith))
 
@@ -77,8 +77,8 @@ module _ (language : Language) (st : State) {past : List Bytes} (D : Derived lan
       read : Unread language st limits.limit bytes r → ⊥
       read (is_malformed i n) = n _ (parse_sound language (length bytes) bytes e).1
       read (is_taken i w j) = let z : code_of duplicate ≡ 3 = code i in omega arith
-      read (no_indicator i f) = let z : code_of unknownName ≡ 3 = code i in omega arith
-      read (no_name unknown i f) = let z : code_of unknownName ≡ 3 = code (sym i) in omega arith
-      read (no_name outOfContext i f) = let z : code_of notInContext ≡ 3 = code (sym i) in omega arith
-      read (no_name miscounted i f) = let z : code_of wrongArity ≡ 3 = code (sym i) in omega arith
-      read (is_large i) = let z : code_of tooLarge ≡ 3 = code i in omega arith
+      read (no_indicator i f) = let z : code_of unknown_name ≡ 3 = code i in omega arith
+      read (no_name unknown i f) = let z : code_of unknown_name ≡ 3 = code (sym i) in omega arith
+      read (no_name out_of_context i f) = let z : code_of not_in_context ≡ 3 = code (sym i) in omega arith
+      read (no_name miscounted i f) = let z : code_of wrong_arity ≡ 3 = code (sym i) in omega arith
+      read (is_large i) = let z : code_of too_large ≡ 3 = code i in omega arith

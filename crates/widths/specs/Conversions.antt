@@ -10,7 +10,7 @@ use Rattle.std.proofs.Math.Seq.{append_snoc, take-append_seam, take-length}
 use Rattle.std.proofs.lemmas.List.{set_at}
 use borrow.Author.Tests.{leb-true, le-leb, le-ltb, lt-ltb}
 use Rattle.aut68.specs.Widths.{fits_width, conversion, Converted, declined, written, Converts}
-use Rattle.aut68.specs.Procedure.Calls.{Decline, storeTooSmall, cellTooLarge, decline_code}
+use Rattle.aut68.specs.Procedure.Calls.{Decline, store_too_small, cell_too_large, decline_code}
 use Rattle.aut68.specs.Procedure.Run.{over}
 
 -- ---- a loop that copies
@@ -59,11 +59,11 @@ abbrev pub most_cells : ℕ → ℕ
 most_cells room = min room 4294967295
 
 module _ (values : ℕ) (source old : List ℕ) where
-  too_small : most_cells (length old) < length source → conversion values source old ≡ some storeTooSmall
+  too_small : most_cells (length old) < length source → conversion values source old ≡ some store_too_small
   unfolding conversion
   too_small h = go (leb (length source) (length old)) refl
     where
-      go : (t : Bool) → leb (length source) (length old) ≡ t → conversion values source old ≡ some storeTooSmall
+      go : (t : Bool) → leb (length source) (length old) ≡ t → conversion values source old ≡ some store_too_small
       go false e = rw (e, conversion)
       go true e = rw (e, le-ltb (length source) 4294967296 (omega (arith, leb-true (length source) (length old) e)), conversion)
 
@@ -71,9 +71,9 @@ module _ (values : ℕ) (source old : List ℕ) where
     enough : (leb (length source) (length old) && ltb (length source) 4294967296) ≡ true
     enough = ap₂ ◌&&◌ (le-leb (length source) (length old) (omega arith)) (lt-ltb (length source) 4294967296 (omega arith))
 
-    too_large : fits_width values source ≡ false → conversion values source old ≡ some cellTooLarge
+    too_large_lem : fits_width values source ≡ false → conversion values source old ≡ some cell_too_large
     unfolding conversion
-    too_large f = rw (enough, f, conversion)
+    too_large_lem f = rw (enough, f, conversion)
 
     fitting : fits_width values source ≡ true → conversion values source old ≡ none
     unfolding conversion
@@ -97,14 +97,14 @@ module _ (values : ℕ) (source old : List ℕ) where
     back = λ e. absurd (z e);
   }
 
-  pub converts_too_small : most_cells (length old) < length source → Converts values source old (decline_code storeTooSmall) 0 0 0 old
+  pub converts_too_small : most_cells (length old) < length source → Converts values source old (decline_code store_too_small) 0 0 0 old
   unfolding decline_code
   converts_too_small h = not_written (too_small values source old h) λ e. omega arith
 
   module _ (room : length source ≤ most_cells (length old)) where
-    pub converts_too_large : fits_width values source ≡ false → Converts values source old (decline_code cellTooLarge) 0 0 0 old
+    pub converts_too_large : fits_width values source ≡ false → Converts values source old (decline_code cell_too_large) 0 0 0 old
     unfolding decline_code
-    converts_too_large f = not_written (too_large values source old room f) λ e. omega arith
+    converts_too_large f = not_written (too_large_lem values source old room f) λ e. omega arith
 
     pub converts_written : fits_width values source ≡ true → {new : List ℕ} → new ≡ over source old → Converts values source old 0 0 0 (length source) new
     converts_written f e =

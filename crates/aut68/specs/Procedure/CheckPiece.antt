@@ -5,7 +5,7 @@ use Rattle.aut68.specs.Stores.{Limits}
 use Rattle.aut68.specs.Language.{Language}
 use Rattle.aut68.specs.Bytes.{Bytes, same_bytes}
 use Rattle.aut68.specs.Paragraphs.{Place, State, opening, closed_to}
-use Rattle.aut68.specs.Procedure.Answer.{Act, ◌>>=◌, give, refuse, ensure, aside, duplicate, outOfSpace, unbalanced}
+use Rattle.aut68.specs.Procedure.Answer.{Act, ◌>>=◌, give, refuse, ensure, aside, duplicate, out_of_space, unbalanced}
 use Rattle.aut68.specs.Procedure.Parse.{a_sign_line, signed}
 use Rattle.aut68.specs.Procedure.Lookup.{unused}
 use Rattle.aut68.specs.Procedure.CheckLine.{Passed, check_line}
@@ -15,7 +15,7 @@ unfoldable pub check_opening : Language → State → Bytes → Act ℕ Place
 check_opening language st bytes = do
   p ← aside (a_sign_line language 43 bytes)
   _ ← ensure (unused p st) duplicate
-  _ ← ensure (ltb (length st.place.opened) open_limit) outOfSpace
+  _ ← ensure (ltb (length st.place.opened) open_limit) out_of_space
   give (opening p st.place)
 
 -- the place behind `-p`; "17, a closing not of the innermost open paragraph"

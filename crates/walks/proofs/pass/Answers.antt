@@ -8,10 +8,10 @@ use Rattle.walks.proofs.pass.Goals.{then-deep-eq0, else-deep-eq0}
 pub returns-then-k-eq-PLUS : goal.returns-then-k-eq-PLUS
 returns-then-k-eq-PLUS c =
     elim c.if-deep-eq0.branch [
-      then-deep-eq0 w ↦ passed_opening c.sign_of-k.ensures c.if-k-eq-PLUS.true
-        (λ e t. w.found-is ∙ w.titled-found.ensures t) (λ n. absurd (n w.if-deep-eq0.true))
-    | else-deep-eq0 w ↦ passed_opening c.sign_of-k.ensures c.if-k-eq-PLUS.true
-        (λ e. absurd (w.if-deep-eq0.false e)) (λ n. w.found-is)
+      | then-deep-eq0 w ↦ passed_opening c.sign_of-k.ensures c.if-k-eq-PLUS.true
+          (λ e t. w.found-is ∙ w.titled-found.ensures t) (λ n. absurd (n w.if-deep-eq0.true))
+      | else-deep-eq0 w ↦ passed_opening c.sign_of-k.ensures c.if-k-eq-PLUS.true
+          (λ e. absurd (w.if-deep-eq0.false e)) (λ n. w.found-is)
     ]
 
 pub returns-then-deep-gt0 : goal.returns-then-deep-gt0

@@ -3,8 +3,8 @@ use mathlib.Core.Path.{◌≡◌, refl, sym, ap, ◌∙◌}
 use mathlib.Core.List.{List, [], ◌∷◌}
 use Prim.Native.Nat.{ℕ}
 use lib.ListN.{get_or}
-use Rattle.aut68.specs.Procedure.Answer.{Refusal, code_of, workTooSmall, limitOutOfRange, malformed, duplicate, unknownName}
-use Rattle.aut68.specs.Procedure.Answer.{wrongArity, notFunction, not_type, mismatch, tooLarge, outOfBudget, outOfSpace, notInContext, unbalanced}
+use Rattle.aut68.specs.Procedure.Answer.{Refusal, code_of, work_too_small, limit_out_of_range, malformed, duplicate, unknown_name}
+use Rattle.aut68.specs.Procedure.Answer.{wrong_arity, not_function, not_type, mismatch, too_large, out_of_budget, out_of_space, not_in_context, unbalanced}
 use Rattle.constants.proofs.codes.reason_of.Statement.{statement}
 use Rattle.constants.proofs.codes.reason_of.Tie as tie
 
@@ -12,20 +12,20 @@ use Rattle.constants.proofs.codes.reason_of.Tie as tie
 abbrev refusals : List Refusal
 refusals =
     unbalanced
-    ∷ workTooSmall
-    ∷ limitOutOfRange
+    ∷ work_too_small
+    ∷ limit_out_of_range
     ∷ malformed
     ∷ duplicate
-    ∷ unknownName
-    ∷ wrongArity
-    ∷ notFunction
+    ∷ unknown_name
+    ∷ wrong_arity
+    ∷ not_function
     ∷ not_type
     ∷ mismatch
-    ∷ tooLarge
-    ∷ outOfBudget
-    ∷ outOfSpace
+    ∷ too_large
+    ∷ out_of_budget
+    ∷ out_of_space
     ∷ unbalanced
-    ∷ notInContext
+    ∷ not_in_context
     ∷ unbalanced
     ∷ unbalanced
     ∷ unbalanced
@@ -33,19 +33,19 @@ refusals =
 
 undone : (x : Refusal) → get_or refusals (code_of x) unbalanced ≡ x
 unfolding code_of
-undone workTooSmall = refl
-undone limitOutOfRange = refl
+undone work_too_small = refl
+undone limit_out_of_range = refl
 undone malformed = refl
 undone duplicate = refl
-undone unknownName = refl
-undone wrongArity = refl
-undone notFunction = refl
+undone unknown_name = refl
+undone wrong_arity = refl
+undone not_function = refl
 undone not_type = refl
 undone mismatch = refl
-undone tooLarge = refl
-undone outOfBudget = refl
-undone outOfSpace = refl
-undone notInContext = refl
+undone too_large = refl
+undone out_of_budget = refl
+undone out_of_space = refl
+undone not_in_context = refl
 undone unbalanced = refl
 
 -- an arm, for the number k
@@ -58,19 +58,19 @@ unfolding code_of
 last c =
     let (((((((((((((_, t₁), t₂), t₃), t₄), t₅), t₆), t₇), t₈), t₉), t₁₀), t₁₁), t₁₂), t₁₃) = c.in_default.in_default-own.rest in
     λ x. elim x as (λ k. c.args.code ≡ code_of k → unbalanced ≡ k) [
-      | workTooSmall ↦ λ e. absurd (t₁ e)
-      | limitOutOfRange ↦ λ e. absurd (t₂ e)
+      | work_too_small ↦ λ e. absurd (t₁ e)
+      | limit_out_of_range ↦ λ e. absurd (t₂ e)
       | malformed ↦ λ e. absurd (t₃ e)
       | duplicate ↦ λ e. absurd (t₄ e)
-      | unknownName ↦ λ e. absurd (t₅ e)
-      | wrongArity ↦ λ e. absurd (t₆ e)
-      | notFunction ↦ λ e. absurd (t₇ e)
+      | unknown_name ↦ λ e. absurd (t₅ e)
+      | wrong_arity ↦ λ e. absurd (t₆ e)
+      | not_function ↦ λ e. absurd (t₇ e)
       | not_type ↦ λ e. absurd (t₈ e)
       | mismatch ↦ λ e. absurd (t₉ e)
-      | tooLarge ↦ λ e. absurd (t₁₀ e)
-      | outOfBudget ↦ λ e. absurd (t₁₁ e)
-      | outOfSpace ↦ λ e. absurd (t₁₂ e)
-      | notInContext ↦ λ e. absurd (t₁₃ e)
+      | too_large ↦ λ e. absurd (t₁₀ e)
+      | out_of_budget ↦ λ e. absurd (t₁₁ e)
+      | out_of_space ↦ λ e. absurd (t₁₂ e)
+      | not_in_context ↦ λ e. absurd (t₁₃ e)
       | unbalanced ↦ λ e. refl
     ]
 

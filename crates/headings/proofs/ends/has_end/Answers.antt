@@ -23,8 +23,8 @@ pub loop-j-preserved : goal.loop-j-preserved
 loop-j-preserved c = (
   omega arith,
   elim c.if-part-j-eq10.branch [
-    then-part-j-eq10 w ↦ λ e. absurd (cc (sym w.found-is ∙ e))
-  | else-part-j-eq10 w ↦ λ e. below_more _ _ (c.loop-j.invariant.1 (sym w.found-is ∙ e)) w.if-part-j-eq10.false
+    | then-part-j-eq10 w ↦ λ e. absurd (cc (sym w.found-is ∙ e))
+    | else-part-j-eq10 w ↦ λ e. below_more _ _ (c.loop-j.invariant.1 (sym w.found-is ∙ e)) w.if-part-j-eq10.false
   ],
 )
 

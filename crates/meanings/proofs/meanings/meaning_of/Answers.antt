@@ -1,7 +1,7 @@
 use native.Mathlib.Omega.{arith}
 use borrow.Author.Rules.{rules}
 use mathlib.Core.Path.{refl}
-use Rattle.aut68.specs.Procedure.Answer.{code_of, unknownName, notInContext}
+use Rattle.aut68.specs.Procedure.Answer.{code_of, unknown_name, not_in_context}
 use Rattle.aut68.specs.Procedure.Resolve.{answered}
 use Rattle.meanings.specs.Meanings.{told}
 use Rattle.meanings.proofs.MeaningLaws.{means_bound, means_nothing_lem, means_variable, means_constant}
@@ -34,8 +34,8 @@ returns-else-kind-eq0 c =
 
 pub returns-in-NoLine : goal.returns-in-NoLine
 unfolding told answered code_of
-returns-in-NoLine c = means_nothing_lem c.if-b-lt-NESTING.false (rw c.in-NoLine.is at c.look_up.ensures) {x = unknownName} refl refl
+returns-in-NoLine c = means_nothing_lem c.if-b-lt-NESTING.false (rw c.in-NoLine.is at c.look_up.ensures) {x = unknown_name} refl refl
 
 pub returns-in-NotInForce : goal.returns-in-NotInForce
 unfolding told answered code_of
-returns-in-NotInForce c = means_nothing_lem c.if-b-lt-NESTING.false (rw c.in-NotInForce.is at c.look_up.ensures) {x = notInContext} refl refl
+returns-in-NotInForce c = means_nothing_lem c.if-b-lt-NESTING.false (rw c.in-NotInForce.is at c.look_up.ensures) {x = not_in_context} refl refl

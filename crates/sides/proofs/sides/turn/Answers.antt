@@ -1,7 +1,7 @@
 -- `turn`: identical sides, no step, no budget, or a step in the chosen side. cN is c, N steps before.
 use native.Mathlib.Omega.{arith}
 use Rattle.sides.proofs.Steps.{Decided, turn_same, turn_parts, turn_spent, turn_step, turn_large}
-use Rattle.agreement.specs.Which.{theLeft, theRight}
+use Rattle.agreement.specs.Which.{the_left, the_right}
 use borrow.Author.Rules.{rules}
 use Rattle.sides.proofs.sides.turn.Goals.{After-choose-side}
 use Rattle.sides.proofs.sides.turn.Goals as goal
@@ -31,20 +31,20 @@ returns-then-budget-eq0 c = turn_spent _ _ _ (decided (goal.at.returns-then-budg
 
 pub returns-then-left-limit : goal.returns-then-left-limit
 returns-then-left-limit c =
-    turn_large _ _ _ (decided (goal.at.returns-then-left-limit c).After-choose-side) theLeft c.step-left.ensures (λ x. omega (arith, c.if-side-eq1.true))
+    turn_large _ _ _ (decided (goal.at.returns-then-left-limit c).After-choose-side) the_left c.step-left.ensures (λ x. omega (arith, c.if-side-eq1.true))
     (λ x. omega (arith, c.if-side-eq1.true)) (omega (arith, c.if-budget-eq0.false)) c.if-left-limit.true
 
 pub returns-then-side-eq1 : goal.returns-then-side-eq1
 returns-then-side-eq1 c =
-    turn_step _ _ _ (decided (goal.at.returns-then-side-eq1 c).After-choose-side) theLeft c.step-left.ensures (λ x. omega (arith, c.if-side-eq1.true))
+    turn_step _ _ _ (decided (goal.at.returns-then-side-eq1 c).After-choose-side) the_left c.step-left.ensures (λ x. omega (arith, c.if-side-eq1.true))
     (λ x. omega (arith, c.if-side-eq1.true)) (omega (arith, c.if-budget-eq0.false)) c.if-left-limit.false (omega (arith, c.if-budget-eq0.false))
 
 pub returns-then-right-limit : goal.returns-then-right-limit
 returns-then-right-limit c =
-    turn_large _ _ _ (decided (goal.at.returns-then-right-limit c).After-choose-side) theRight c.step-right.ensures c.if-side-eq0.false c.if-side-eq1.false
+    turn_large _ _ _ (decided (goal.at.returns-then-right-limit c).After-choose-side) the_right c.step-right.ensures c.if-side-eq0.false c.if-side-eq1.false
     (omega (arith, c.if-budget-eq0.false)) c.if-right-limit.true
 
 pub returns : goal.returns
 returns c =
-    turn_step _ _ _ (decided (goal.at.returns c).After-choose-side) theRight c.step-right.ensures c.if-side-eq0.false c.if-side-eq1.false
+    turn_step _ _ _ (decided (goal.at.returns c).After-choose-side) the_right c.step-right.ensures c.if-side-eq0.false c.if-side-eq1.false
     (omega (arith, c.if-budget-eq0.false)) c.if-right-limit.false (omega (arith, c.if-budget-eq0.false))
