@@ -1,7 +1,7 @@
 -- The published sizes, each under one name. The code has the same numbers in crate `constants`.
 use Rattle.std.specs.Prelude.{ℕ}
 
--- A term cell is cellFactor × number + kind, and below cellValues.
+-- A term cell is cell_factor × number + kind, and below cell_values.
 abbrev pub cell_factor : ℕ
 cell_factor = 8
 
@@ -27,7 +27,7 @@ smallest_limit = 16
 abbrev pub largest_limit : ℕ
 largest_limit = 4096
 
--- The working store has workUnits × L cells.
+-- The working store has work_units × L cells.
 abbrev pub work_units : ℕ
 work_units = 128
 

@@ -1,5 +1,5 @@
 -- Shelves in cells of another width (paper 6), and what is claimed of the calls that convert them, as types. A width is told by how many
--- values its cells have: cellValues, or narrowValues for shelves stored before.
+-- values its cells have: cell_values, or narrow_values for shelves stored before.
 use Rattle.std.specs.Prelude.{◌≡◌, Bool, true, false, ◌&&◌, ℕ, ◌≤◌, List, [], ◌∷◌, leb, ltb, length, take}
 use Rattle.std.proofs.Math.Option.{Option, none, some}
 use Rattle.aut68.specs.Procedure.Calls.{Decline, store_too_small, cell_too_large, decline_code}

@@ -81,7 +81,7 @@ fn at_end(p: Progress, depth: usize) -> Progress
     stopped(p, UNBALANCED, p.budget)
 }
 
-// The lines of the book, one after the other, up to the first that is refused (checkLines). The rows stay linked.
+// The lines of the book, one after the other, up to the first that is refused (check_lines). The rows stay linked.
 pub fn check_linked(
     book: &[u8],
     table: &mut [u32],
@@ -128,7 +128,7 @@ pub fn check_linked(
     at_end(p, o.depth)
 }
 
-// The lines of the book, one after the other, up to the first that is refused (checkLines).
+// The lines of the book, one after the other, up to the first that is refused (check_lines).
 pub fn check_lines(
     book: &[u8],
     table: &mut [u32],

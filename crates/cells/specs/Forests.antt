@@ -101,7 +101,7 @@ module _ (X : ℕ → Type 0) (C : ℕ → ℕ → Type 0) where
   formed_parts (app a b) w = (w.0, (w.1, tt))
   formed_parts (abs p t) w = (w.0, (w.1, tt))
 
--- the same as partsAfter, by kind and number
+-- the same as parts_after, by kind and number
 unfoldable pub parts_of_kind : List ℕ → ℕ → ℕ → ℕ
 parts_of_kind tb k v = elim (eqb k 3) [ true ↦ row_cell tb v at_context | false ↦ elim (eqb k 4) [ true ↦ 2 | false ↦ elim (eqb k 5) [ true ↦ 2 | false ↦ 0 ] ] ]
 

@@ -1,4 +1,4 @@
--- The working store of workUnits × limit cells, in units of `limit` cells:
+-- The working store of work_units × limit cells, in units of `limit` cells:
 --     0   13  slots of name lookup
 --    13    9  the note of paragraphs, behind the slots' last cell; unit 22 is free
 --    23    1  the context of the line that is read; then, with unit 22 and the cell ahead of it, the lines that the line names
@@ -61,7 +61,7 @@ unit_below limit {j} {k} l =
     let h : (j + 1) * limit ≤ k * limit = mul-le-mul_right limit (omega arith) in
     omega (arith, h, add-mul j 1 limit)
 
--- every unit of the store lies inside its workUnits × limit cells
+-- every unit of the store lies inside its work_units × limit cells
 pub unit_inside : (limit : ℕ) {k : ℕ} → k < work_units → unit_at limit k + limit ≤ work_units * limit
 unfolding unit_at
 unit_inside limit l = unit_below limit l

@@ -37,7 +37,7 @@ pub fn stopped(p: Progress, code: u32, budget: u32) -> Progress
     }
 }
 
-// A line that was read and has room (checkWritten, checkMiddle). Its cells are exchanged with the next free term cells; they
+// A line that was read and has room (check_written, check_middle). Its cells are exchanged with the next free term cells; they
 // stay there if its categories pass, and its row is written. If not, they are exchanged back.
 fn check_stored(
     table: &mut [u32],
@@ -85,7 +85,7 @@ fn note_line(book: &[u8], table: &mut [u32], lines: usize, w: &mut [Cell], limit
     link(table, lines, before);
 }
 
-// The ordinary line from p.at up to `next` (checkLine), behind the first p.lines lines. Passed: its row, its cells and its entry are written, and
+// The ordinary line from p.at up to `next` (check_line), behind the first p.lines lines. Passed: its row, its cells and its entry are written, and
 // every other cell of table, terms and index is as it was. Refused: table, terms and index are as they were. The rows are linked.
 pub fn check_line(
     book: &[u8],

@@ -20,7 +20,7 @@ pub struct Compared {
     pub budget: u32,
 }
 
-// The expressions at a and b of w, a pair that may go `deeper` levels deeper (compareAt): NESTING for a first pair; with none it is
+// The expressions at a and b of w, a pair that may go `deeper` levels deeper (compare_at): NESTING for a first pair; with none it is
 // large.
 #[cycle(compare_compare_parts)]
 pub fn compare(
@@ -65,7 +65,7 @@ pub fn compare(
     }
 }
 
-// The parts of the sides at l and r, from left to right, one level deeper (compareParts): 9 where the shapes differ.
+// The parts of the sides at l and r, from left to right, one level deeper (compare_parts): 9 where the shapes differ.
 #[cycle(compare_compare_parts)]
 fn compare_parts(
     table: &[u32],

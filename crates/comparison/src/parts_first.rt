@@ -8,7 +8,7 @@ use cells::{side_at, skip};
 use constants::{Cell, LARGEST_LIMIT, MISMATCH, NESTING, TOO_LARGE};
 use sides::{identical, open_pair, shapes_of, turn};
 
-// The expressions at a and b of w, a pair that may go `deeper` levels deeper (partsFirstAt): NESTING for a first pair; with none it is
+// The expressions at a and b of w, a pair that may go `deeper` levels deeper (parts_first_at): NESTING for a first pair; with none it is
 // large.
 #[cycle(attempt_compare_parts_first)]
 pub fn compare_parts_first(
@@ -80,7 +80,7 @@ pub fn compare_parts_first(
     }
 }
 
-// The parts of the sides at l and r, from left to right, one level deeper (compareParts, by the second comparison): 9 where the shapes
+// The parts of the sides at l and r, from left to right, one level deeper (compare_parts, by the second comparison): 9 where the shapes
 // differ.
 #[cycle(attempt_compare_parts_first)]
 fn attempt(

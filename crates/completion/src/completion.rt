@@ -19,7 +19,7 @@ fn line_up(table: &[u32], c: usize, n: usize) -> usize
     up
 }
 
-// The last variable that is left out where the constant of line v is written with `count` arguments, fewer than it takes (leftOut);
+// The last variable that is left out where the constant of line v is written with `count` arguments, fewer than it takes (left_out);
 // 0: it is not in the context that ends with line `indicator`, which is noted in w, so they cannot be put in.
 pub fn last_left_out(table: &[u32], w: &[Cell], indicator: usize, v: usize, count: usize) -> usize
     ensures { LastLeftOut table.now w.now indicator v count result }

@@ -35,7 +35,7 @@ pub fn refused(code: u32, at: usize, to: usize) -> Reading
     }
 }
 
-// Does a byte of this kind open an expression (opensExpression): NAME, LESS, BRACKET?
+// Does a byte of this kind open an expression (opens_expression): NAME, LESS, BRACKET?
 pub fn opens(k: u8) -> bool
     ensures { result ≡ opens_kind k }
 {
@@ -114,7 +114,7 @@ fn with(a: Reading, to: usize, fault: u32) -> Reading
 }
 
 // The arguments a of a name that means m, at nesting depth `depth`, their cells from `first` on: those left out put in front, with 6
-// as the fault where that cannot be (leftOut). A wrong count stands at its name, so it goes before a fault in the arguments.
+// as the fault where that cannot be (left_out). A wrong count stands at its name, so it goes before a fault in the arguments.
 pub fn completed(
     table: &[u32],
     indicator: usize,

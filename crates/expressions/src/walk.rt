@@ -9,7 +9,7 @@ use constants::{Cell, NESTING};
 use meanings::binding;
 use symbols::{kind_at, name_at, spaces, symbol, used_plain_first};
 
-// The expression that stands next (anExpression, resolve), with the bindings and the nesting levels around it as the scope.
+// The expression that stands next (an_expression, resolve), with the bindings and the nesting levels around it as the scope.
 // It goes on at byte `from` and cell `to`, with the first fault so far; numbers, not a Reading: a struct just built is slow to copy.
 // Falls: NESTING - depth.
 #[cycle(abstraction_application_arguments_expression_named)]

@@ -16,7 +16,7 @@ pub struct Prefix {
     pub len: usize,
 }
 
-// The indicator, if a name stands at the line's start (anIndicator).
+// The indicator, if a name stands at the line's start (an_indicator).
 fn prefix_of(line: &[u8], kinds: &[u8; 256]) -> Prefix
     ensures { PrefixRead kinds.now line.now result }
 {

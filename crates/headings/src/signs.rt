@@ -11,7 +11,7 @@ pub fn sign_of(line: &[u8], kinds: &[u8; 256]) -> u8
     kind_at(line, kinds, start)
 }
 
-// The name of the paragraph line with the sign of kind k (aSignLine): length 0 where it is malformed.
+// The name of the paragraph line with the sign of kind k (a_sign_line): length 0 where it is malformed.
 pub fn sign_line(line: &[u8], kinds: &[u8; 256], k: u8) -> Name
     ensures { SignRead kinds.now line.now k result.start result.len }
 {

@@ -1,4 +1,4 @@
--- Marks on numbers: bit v % cellMarks of cell v / cellMarks.
+-- Marks on numbers: bit v % cell_marks of cell v / cell_marks.
 use Rattle.std.specs.Prelude.{◌≡◌, ◌≢◌, Bool, true, List, ℕ, ◌*◌, ◌/◌, ◌%◌, ◌^◌, ◌<◌, eqb, length, get_or}
 
 -- how many marks a cell has

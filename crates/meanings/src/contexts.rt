@@ -43,7 +43,7 @@ pub fn note_context(table: &[u32], w: &mut [Cell], last: usize)
     }
 }
 
-// Is line v in the context that ends with line `last` (member, contextAt)? An indicator stands before its line, so the
+// Is line v in the context that ends with line `last` (member, context_at)? An indicator stands before its line, so the
 // chain falls.
 fn on_chain(table: &[u32], last: usize, v: usize) -> bool
     ensures { OnChain table.now last v result }

@@ -18,7 +18,7 @@ fn wide(x: u32) -> usize
     x as usize
 }
 
-// The number of bindings between a plain name and its innermost binding (placeFrom); NESTING: it is not bound.
+// The number of bindings between a plain name and its innermost binding (place_from); NESTING: it is not bound.
 pub fn binding(line: &[u8], scope: Scope, word: &[u8]) -> usize
     ensures { BindingFound line.now scope (plain word.now) result }
 {
@@ -49,7 +49,7 @@ pub enum Sought {
     NotInForce { number: usize },
 }
 
-// What a used name that is not bound stands for (lookUp), by what w notes of lines, paragraphs and the context. The title is empty for
+// What a used name that is not bound stands for (look_up), by what w notes of lines, paragraphs and the context. The title is empty for
 // a plain name.
 pub fn look_up(
     book: &[u8],

@@ -68,7 +68,7 @@ fn is_innermost(book: &[u8], o: Open, word: &[u8]) -> bool
     part_is(book, start, len, word)
 }
 
-// The line opens the paragraph whose name is that part of the book (checkOpening).
+// The line opens the paragraph whose name is that part of the book (check_opening).
 fn open_line(
     book: &[u8],
     kinds: &[u8; 256],
@@ -105,7 +105,7 @@ fn open_line(
     }
 }
 
-// It closes the paragraph with that name (checkClosing).
+// It closes the paragraph with that name (check_closing).
 fn close_line(book: &[u8], w: &mut [Cell], start: usize, len: usize, next: usize, o: Open) -> Moved
     requires { (start + len ≤ length book.now) × (next ≤ length book.now) × (length book.now ≤ book_limit) }
     ensures { (ks tb : List ℕ) (lines : ℕ) → NamePost 45 ks book.now tb lines w.old w.new start len next o result.code result.open }
@@ -127,7 +127,7 @@ fn close_line(book: &[u8], w: &mut [Cell], start: usize, len: usize, next: usize
     }
 }
 
-// The paragraph line from `at` up to `next`, its sign of kind k, behind the first `lines` lines (checkPiece): the note of the place
+// The paragraph line from `at` up to `next`, its sign of kind k, behind the first `lines` lines (check_piece): the note of the place
 // follows it.
 pub fn paragraph_line(
     book: &[u8],

@@ -164,7 +164,7 @@ fn put_line(line: &[u8], number: usize, page: &mut [u8]) -> usize
     to
 }
 
-// Does the text of a line begin with `+` or `-`, as that of a paragraph line does (beginsSigned)?
+// Does the text of a line begin with `+` or `-`, as that of a paragraph line does (begins_signed)?
 fn is_signed(line: &[u8]) -> bool
     ensures { result ≡ begins_signed (text_of line.now) }
 {

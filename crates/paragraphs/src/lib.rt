@@ -16,7 +16,7 @@ pub fn current(w: &[Cell]) -> usize
     number_at(w, cell_at(w, DEPTH))
 }
 
-// The paragraph with this name, h being its hash, that was opened in the i-th open paragraph from outside (paragraphIn); 0: none. A
+// The paragraph with this name, h being its hash, that was opened in the i-th open paragraph from outside (paragraph_in); 0: none. A
 // paragraph that is not noted is looked for in the book.
 fn paragraph_in(
     book: &[u8],

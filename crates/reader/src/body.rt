@@ -6,7 +6,7 @@ use constants::Cell;
 use expressions::{Reading, expression, put, refused};
 use symbols::{same_word, spaces, symbol, word_end};
 
-// The middle's kind by the word that stands next (aMiddle): 0 EB, 1 PN, else 2.
+// The middle's kind by the word that stands next (a_middle): 0 EB, 1 PN, else 2.
 pub fn middle_kind(line: &[u8], kinds: &[u8; 256], at: usize) -> u32
     requires { at ≤ length line.now }
     ensures { MiddleKind kinds.now line.now at result }
@@ -22,7 +22,7 @@ pub fn middle_kind(line: &[u8], kinds: &[u8; 256], at: usize) -> u32
     2
 }
 
-// The middle (aMiddle), its cells from index `to` on. kind 0 or 1: past the word, no cells.
+// The middle (a_middle), its cells from index `to` on. kind 0 or 1: past the word, no cells.
 fn middle(
     line: &[u8],
     kinds: &[u8; 256],
@@ -55,7 +55,7 @@ fn middle(
     )
 }
 
-// The written category (anExpression at its end), its cells from r.to on.
+// The written category (an_expression at its end), its cells from r.to on.
 fn category(
     line: &[u8],
     kinds: &[u8; 256],

@@ -18,7 +18,7 @@ use headings::{Head, heading};
 use meanings::note_context;
 use paragraphs::{current, find_used, is_taken};
 
-// The indicator's line (indicatorLine): 0 if empty, LINE_LIMIT where it is no EB line.
+// The indicator's line (indicator_line): 0 if empty, LINE_LIMIT where it is no EB line.
 fn indicator_line(
     line: &[u8],
     kinds: &[u8; 256],
@@ -90,7 +90,7 @@ fn bad_line(code: u32) -> Line
     }
 }
 
-// The line: form, indicator, identifier, names, sizes, in that order of refusals (readLine). Of the units of w, the last two
+// The line: form, indicator, identifier, names, sizes, in that order of refusals (read_line). Of the units of w, the last two
 // get the cells of middle and category, the one before them the line's context; what is noted of the state lies below.
 fn read_into(
     line: &[u8],

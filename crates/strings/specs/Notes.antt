@@ -2,7 +2,7 @@
 use Rattle.std.specs.Prelude.{◌≡◌, ◌⊎◌, Bool, true, false, List, ℕ, suc, ◌+◌, ◌-◌, ◌≤◌, ◌<◌, length, get_or}
 use Rattle.strings.specs.Levels.{levels_at}
 
--- the numbers that a cell can have: cellValues / cellFactor
+-- the numbers that a cell can have: cell_values / cell_factor
 abbrev pub numbers : ℕ
 numbers = 536870912
 

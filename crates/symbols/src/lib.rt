@@ -45,7 +45,7 @@ pub fn symbol(line: &[u8], kinds: &[u8; 256], at: usize, k: u8) -> usize
     i + 1
 }
 
-// The end of the longest run of name bytes from `at` on (wordOf, afterWord).
+// The end of the longest run of name bytes from `at` on (wordOf, after_word).
 pub fn word_end(line: &[u8], kinds: &[u8; 256], at: usize) -> usize
     ensures { WordEnd kinds.now line.now at result }
 {
@@ -60,7 +60,7 @@ pub fn word_end(line: &[u8], kinds: &[u8; 256], at: usize) -> usize
     i
 }
 
-// The four bytes of s from i on, as a number (fourAt).
+// The four bytes of s from i on, as a number (four_at).
 pub fn four(s: &[u8], i: usize) -> usize
     requires { i + 4 ≤ length s.now }
     ensures { (result ≡ four_at s.now i) × (result < 4294967296) }
@@ -93,7 +93,7 @@ pub fn four_at(s: &[u8], i: usize) -> usize
     byte_at(s, i) + 256 * byte_at(s, i + 1) + 65536 * byte_at(s, i + 2)
 }
 
-// Are the bytes of a and b the same (sameBytes)? Four at once; the last four may overlap those before.
+// Are the bytes of a and b the same (same_bytes)? Four at once; the last four may overlap those before.
 pub fn same_bytes(a: &[u8], b: &[u8]) -> bool
     ensures { result ≡ same_bytes a.now b.now }
 {
@@ -154,7 +154,7 @@ pub struct Name {
     pub len: usize,
 }
 
-// The name that stands next, after spaces (aName): 1 to 32 name bytes and none of the three words; length 0 where none does.
+// The name that stands next, after spaces (a_name): 1 to 32 name bytes and none of the three words; length 0 where none does.
 pub fn name_at(line: &[u8], kinds: &[u8; 256], at: usize) -> Name
     ensures { NameAt kinds.now line.now at result.start result.len }
 {
@@ -192,7 +192,7 @@ pub struct UsedName {
     pub len: usize,
 }
 
-// The name that stands next, with the paragraph's name and the point before it, if any (aUsed).
+// The name that stands next, with the paragraph's name and the point before it, if any (a_used).
 pub fn used_at(line: &[u8], kinds: &[u8; 256], at: usize) -> UsedName
     ensures { UsedAt kinds.now line.now at result.title result.size result.start result.len }
 {

@@ -13,7 +13,7 @@ use Rattle.cells.specs.Cells.{Formed, RightCount, Wf, Wfs, At, Below, Outside}
 unfoldable pub no_room : ℕ
 no_room = cell_values
 
--- A result made from index `to` on in at most `room` cells: the answer r is its size, or noRoom exactly where it has more
+-- A result made from index `to` on in at most `room` cells: the answer r is its size, or no_room exactly where it has more
 -- cells than the room; its cells are written as far as the room goes, and every other cell is as it was.
 pub record Made (room : ℕ) (e : Expr) (r to : ℕ) (w w' : List ℕ) : Type 0 where
   pub fits : size e ≤ room → r ≡ size e
@@ -30,7 +30,7 @@ argument_at (cons a xs) (suc i) = argument_at xs i
 abbrev pub Numbered : List ℕ → List ℕ → Exprs → ℕ → Type 0
 Numbered tb vs xs v = argument_for v vs xs ≡ argument_at xs (row_cell tb v at_context)
 
--- whatever the cells are: no cell outside the room is changed, and the answer is at most the room, or noRoom
+-- whatever the cells are: no cell outside the room is changed, and the answer is at most the room, or no_room
 pub record Confined (w w' : List ℕ) (to room r : ℕ) : Type 0 where
   pub outside : Outside to (to + room) w w'
   pub answers : (r ≤ room) ⊎ (r ≡ no_room)

@@ -13,7 +13,7 @@ use headings::{line_end, sign_line, sign_of};
 use kinds::{MINUS, PLUS};
 use symbols::same_bytes;
 
-// Is the word the name of the paragraph that the line opens (titleOf)?
+// Is the word the name of the paragraph that the line opens (title_of)?
 fn titled(line: &[u8], kinds: &[u8; 256], word: &[u8]) -> bool
     ensures { KindsTable kinds.now → result ≡ same_bytes word.now (title_of line.now) }
 {
@@ -64,7 +64,7 @@ fn pass(line: &[u8], kinds: &[u8; 256], word: &[u8], deep: usize, count: usize) 
     }
 }
 
-// The number of the first paragraph with this name that is opened directly between the bytes `from` and `to` (childFrom), q paragraphs
+// The number of the first paragraph with this name that is opened directly between the bytes `from` and `to` (child_from), q paragraphs
 // having been opened before them; 0: none.
 pub fn walk(book: &[u8], kinds: &[u8; 256], from: usize, to: usize, q: usize, word: &[u8]) -> usize
     ensures { Walked kinds.now book.now from to q word.now result }
