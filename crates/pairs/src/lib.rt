@@ -12,7 +12,7 @@ use outcomes::{AnswerNumbers, answer_numbers};
 
 // Two strings in one lent slice of cells, by the start and the length of each, and the budget for their comparison; C callers lend them so.
 #[repr(C)]
-#[derive(Drop)]
+#[derive(Clone, Copy)]
 pub struct Pair {
     pub left: u32,
     pub left_length: u32,
