@@ -13,7 +13,7 @@ use storage::{Room, has_room, put_row, sum};
 
 // Where the check of a book is. code: 0, or the refusal of the piece behind `lines` lines. at: the next byte. lines, used, entries: the rows, the
 // term cells and the index cells of the lines that passed. budget: what is left of it.
-#[derive(Drop)]
+#[derive(Clone, Copy)]
 pub struct Progress {
     pub code: u32,
     pub at: usize,

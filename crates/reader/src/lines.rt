@@ -61,7 +61,7 @@ fn indicator_line(
 // A line that was read. code: 0, or its first refusal. first, len: its identifier in the line. indicator: its indicator's line
 // (0 if empty). context: its context length. kind: 0 EB, 1 PN, 2 abbreviation. middle: cells of the middle. size: cells of
 // middle and category. paragraph: the number of its paragraph.
-#[derive(Drop)]
+#[derive(Clone, Copy)]
 pub struct Line {
     pub code: u32,
     pub first: usize,

@@ -1,3 +1,4 @@
+-- The remaining cells fall: category 4n + 1, application and abstraction 4n of the same cells, arguments 4n + 2 of fewer.
 use mathlib.Core.Path.{◌≡◌, refl, sym, ap, ◌∙◌}
 use native.Mathlib.Omega.{arith}
 use borrow.Author.Rules.{rules}

@@ -1,3 +1,4 @@
+-- The levels fall: compare 2n, compare_parts 2n + 1 of one level less.
 use native.Mathlib.Omega.{arith}
 use Prim.Native.Nat.{ℕ, ◌+◌, ◌*◌, ◌<◌}
 use mathlib.Core.Path.{refl, ◌∙◌}

@@ -1,4 +1,4 @@
--- `check_cells`: one check after the other. cN is c, N steps before.
+-- `check_cells`: one check after the other.
 use Rattle.categories.proofs.LineChecks.{cells_refused, cells_checked}
 use borrow.Author.Rules.{rules}
 use Rattle.categories.proofs.checks.check_cells.Goals as goal

@@ -1,4 +1,4 @@
--- `check_middle`: the middle's category, compared with the written one. cN is c, N steps before.
+-- `check_middle`: the middle's category, compared with the written one.
 use mathlib.Core.Path.{refl}
 use native.Mathlib.Omega.{arith}
 use Rattle.categories.proofs.LineChecks.{middle_none, middle_past, middle_refused, middle_compared}

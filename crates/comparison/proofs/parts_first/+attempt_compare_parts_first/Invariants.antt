@@ -1,3 +1,4 @@
+-- The levels fall: compare_parts_first 2n, attempt 2n + 1 of one level less; in the loop the budget falls.
 use native.Mathlib.Omega.{arith}
 use Prim.Native.Nat.{ℕ, ◌+◌, ◌*◌, ◌≤◌, ◌<◌}
 use mathlib.Core.Path.{refl, ◌∙◌}

@@ -25,12 +25,6 @@ offset_bounds-w-from c = omega arith
 pub bounds-w-from : goal.bounds-w-from
 bounds-w-from c = omega arith
 
-pub add-count-requires : goal.add-count-requires
-add-count-requires c =
-    let a = c.args in
-    let L = c.loop-i in
-    (omega arith, omega arith, λ e. omega arith)
-
 pub overflow_add-i : goal.overflow_add-i
 overflow_add-i c = omega arith
 

@@ -1,4 +1,4 @@
--- `head_of`: past each `<A>`, until a contraction or the head. cN is c, N steps before.
+-- `head_of`: past each `<A>`, until a contraction or the head.
 use mathlib.Core.Path.{◌≡◌, refl}
 use Prim.Native.Nat.{◌+◌, ◌-◌, ◌≤◌}
 use native.Mathlib.Omega.{arith}

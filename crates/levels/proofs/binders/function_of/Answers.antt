@@ -1,4 +1,4 @@
--- `function_of`: head steps of what was found, or its refusal. cN is c, N steps before.
+-- `function_of`: head steps of what was found, or its refusal.
 use Rattle.levels.proofs.Functions.{function_refused, function_found}
 use borrow.Author.Rules.{rules}
 use Rattle.levels.proofs.binders.function_of.Goals as goal

@@ -1,4 +1,4 @@
--- `over_binding`: `type` stays; before anything else `[x,P]` is put. cN is c, N steps before.
+-- `over_binding`: `type` stays; before anything else `[x,P]` is put.
 use native.Mathlib.Omega.{arith}
 use Rattle.cells.specs.Layout.{unit_at}
 use Rattle.levels.proofs.Bindings.{over_refused, over_types, over_unlimited, over_large, over_made}

@@ -1,4 +1,4 @@
--- `made`: what lies in the result unit is moved to the level's unit, or is too large. cN is c, N steps before.
+-- `made`: what lies in the result unit is moved to the level's unit, or is too large.
 use mathlib.Core.Path.{refl}
 use native.Mathlib.Omega.{arith}
 use Rattle.levels.proofs.Making.{made_too_large, made_moved}

@@ -1,4 +1,4 @@
--- `bound`: the domain is copied, lifted and moved to the level's unit. cN is c, N steps before.
+-- `bound`: the domain is copied, lifted and moved to the level's unit.
 use mathlib.Core.Path.{refl}
 use native.Mathlib.Omega.{arith}
 use Rattle.levels.proofs.LeafLaws.{bound_none, bound_found}

@@ -1,4 +1,4 @@
--- `stored`: the category on the line is copied to the level's unit. cN is c, N steps before.
+-- `stored`: the category on the line is copied to the level's unit.
 use mathlib.Core.Path.{refl}
 use native.Mathlib.Omega.{arith}
 use Rattle.levels.proofs.LeafLaws.{stored_none, stored_found}

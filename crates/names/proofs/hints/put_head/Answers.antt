@@ -10,8 +10,5 @@ returns-then-at-w c = no_head (λ i l. let e = c.slot_at-at.ensures.0 in omega a
 pub returns-then-v-ge-CELL_VALUES : goal.returns-then-v-ge-CELL_VALUES
 returns-then-v-ge-CELL_VALUES c = no_head (λ i l. omega arith)
 
-pub overflow_cast-was : goal.overflow_cast-was
-overflow_cast-was c = omega (arith, c.slice_known-2-1.given c.slot_at-at.result)
-
 pub returns : goal.returns
 returns c = head_put c.slot_at-at.ensures.0 refl refl

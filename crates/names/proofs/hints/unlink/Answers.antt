@@ -21,9 +21,6 @@ offset_bounds-table-at c = omega arith
 pub bounds-table-at : goal.bounds-table-at
 bounds-table-at c = omega arith
 
-pub overflow_cast-size : goal.overflow_cast-size
-overflow_cast-size c = omega (arith, c.slice_known-1.given c.loop-v.at)
-
 pub overflow_cast-table : goal.overflow_cast-table
 overflow_cast-table c = omega arith
 

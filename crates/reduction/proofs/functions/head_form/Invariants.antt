@@ -1,4 +1,4 @@
--- `head_form`: head steps while there is one and the budget lasts. cN is c, N steps before.
+-- `head_form`: head steps while there is one and the budget lasts.
 use Prim.Native.Nat.{◌+◌}
 use native.Mathlib.Omega.{arith}
 use Rattle.cells.specs.Layout.{unit_at, scratch_unit}

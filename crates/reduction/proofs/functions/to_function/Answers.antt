@@ -1,4 +1,4 @@
--- `to_function`: the head form, by its shape. cN is c, N steps before.
+-- `to_function`: the head form, by its shape.
 use mathlib.Core.Path.{refl}
 use Rattle.reduction.proofs.FormLaws.{function_refused, function_other, function_abstraction}
 use borrow.Author.Rules.{rules}

@@ -1,4 +1,4 @@
--- `contracted`: the body with the argument put in. cN is c, N steps before.
+-- `contracted`: the body with the argument put in.
 use native.Mathlib.Omega.{arith}
 use Rattle.reduction.proofs.PutLaws.{contracted_none, contracted_no_function, contracted_law}
 use borrow.Author.Rules.{rules}

@@ -1,4 +1,4 @@
--- `step`: what is made replaces the redex, if it fits. cN is c, N steps before.
+-- `step`: what is made replaces the redex, if it fits.
 use mathlib.Core.Path.{refl, sym, ◌∙◌}
 use native.Mathlib.Omega.{arith}
 use Rattle.reduction.proofs.StepLaws.{step_no_limit, step_no_place, step_refused, step_made, in_place_refused, in_place_made}

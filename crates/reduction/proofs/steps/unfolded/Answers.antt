@@ -1,4 +1,4 @@
--- `unfolded`: the middle with the arguments put in. cN is c, N steps before.
+-- `unfolded`: the middle with the arguments put in.
 use mathlib.Core.Path.{refl}
 use native.Mathlib.Omega.{arith}
 use Rattle.reduction.proofs.PutLaws.{unfolded_none, unfolded_law}

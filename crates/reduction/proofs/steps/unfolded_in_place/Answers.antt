@@ -1,4 +1,4 @@
--- `unfolded_in_place`: the middle is copied over the constant. cN is c, N steps before.
+-- `unfolded_in_place`: the middle is copied over the constant.
 use native.Mathlib.Omega.{arith}
 use Rattle.reduction.proofs.PutLaws.{in_place_none, in_place_law}
 use borrow.Author.Rules.{rules}

@@ -1,4 +1,4 @@
--- `settle`: identical expressions, else the sides put in place and turns until no step follows. cN is c, N steps before.
+-- `settle`: identical expressions, else the sides put in place and turns until no step follows.
 use mathlib.Core.Path.{◌∙◌}
 use Prim.Native.Nat.{◌*◌}
 use native.Mathlib.Omega.{arith}

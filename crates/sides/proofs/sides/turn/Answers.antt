@@ -1,4 +1,4 @@
--- `turn`: identical sides, no step, no budget, or a step in the chosen side. cN is c, N steps before.
+-- `turn`: identical sides, no step, no budget, or a step in the chosen side.
 use native.Mathlib.Omega.{arith}
 use Rattle.sides.proofs.Steps.{Decided, turn_same, turn_parts, turn_spent, turn_step, turn_large}
 use Rattle.agreement.specs.Which.{the_left, the_right}

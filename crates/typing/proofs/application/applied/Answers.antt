@@ -1,4 +1,4 @@
--- `applied`: A's category compared with the domain, then A put into the body. cN is c, N steps before.
+-- `applied`: A's category compared with the domain, then A put into the body.
 use native.Mathlib.Omega.{arith}
 use Rattle.typing.proofs.Applications.{applied_refused, applied_differs, applied_made}
 use borrow.Author.Rules.{rules}

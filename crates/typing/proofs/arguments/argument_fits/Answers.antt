@@ -1,4 +1,4 @@
--- `argument_fits`: the found category is seen to be the wanted one, or they are compared. cN is c, N steps before.
+-- `argument_fits`: the found category is seen to be the wanted one, or they are compared.
 use mathlib.Core.Path.{refl}
 use native.Mathlib.Omega.{arith}
 use Rattle.typing.proofs.Fitting.{fits_refused, fits_seen, fits_compared}

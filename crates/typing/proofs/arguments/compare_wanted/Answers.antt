@@ -1,4 +1,4 @@
--- `compare_wanted`: the wanted category is made two levels deeper and compared with what was found. cN is c, N steps before.
+-- `compare_wanted`: the wanted category is made two levels deeper and compared with what was found.
 use mathlib.Core.Path.{refl}
 use native.Mathlib.Omega.{arith}
 use Rattle.typing.proofs.Fitting.{wanted_too_large, wanted_compared}

@@ -1,4 +1,4 @@
--- `stored_fits`: the category on its line is seen to be the wanted one, or they are compared. cN is c, N steps before.
+-- `stored_fits`: the category on its line is seen to be the wanted one, or they are compared.
 use mathlib.Core.Path.{refl}
 use borrow.Author.Rules.{rules}
 use Rattle.typing.proofs.Fitting.{stored_fits_same, stored_fits_refused, stored_fits_compared}

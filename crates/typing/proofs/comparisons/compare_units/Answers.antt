@@ -1,4 +1,4 @@
--- `compare_units`: both sides lie below the comparison's units. cN is c, N steps before.
+-- `compare_units`: both sides lie below the comparison's units.
 use Rattle.typing.proofs.Comparing.{units_compared}
 use borrow.Author.Rules.{rules}
 use Rattle.typing.proofs.comparisons.compare_units.Goals as goal
