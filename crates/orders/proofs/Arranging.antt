@@ -116,7 +116,7 @@ module _ (language : Language) where
             (within_all : (x : Paragraph) → Member x st.place.paragraphs → Member x all.place.paragraphs) where
           unused_here : Unused st l.identifier
           unused_here = record {
-            no_line = λ {v = u} h. line_fresh ρ order distinct (λ v k i. origin i) B.known (stands_is_line s) fresh refl (sym stays) h;
+            no_line = λ {v = u} h. line_fresh st ρ order distinct (λ v k i. origin i) B.known (stands_is_line s) fresh refl (sym stays) h;
             no_paragraph = λ {n} h. distinct.kinds v l _ (stands_is_line s) (within_all _ h.is_paragraph) refl stays;
           }
 

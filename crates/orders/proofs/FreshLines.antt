@@ -8,7 +8,7 @@ use Rattle.aut68.specs.Renumbering.{renumber_line}
 use Rattle.aut68.specs.Rules.Names.{IsLine, Member, LineIn}
 use Rattle.lookup.specs.Identifiers.{Distinct}
 
-module _ {all st : State} (ρ : ℕ → ℕ) (order : List ℕ) (distinct : Distinct all)
+module _ {all : State} (st : State) (ρ : ℕ → ℕ) (order : List ℕ) (distinct : Distinct all)
     (origin : (v : ℕ) (k : Line) → IsLine st.earlier v k → (x : ℕ) × Member x order × (k ≡ renumber_line ρ (line_of all.earlier x)))
     (known : (x : ℕ) → Member x order → IsLine all.earlier x (line_of all.earlier x)) where
   -- no line that has passed has the name of an old line that has not, in its paragraph
