@@ -5,7 +5,7 @@ ghost use Rattle.std.specs.Prelude.{◌≤◌};
 
 // budget, limit: of the check. table, terms, work, index: cells of the four stores. last: the seventh number, which each test program has
 // for itself. next: the index behind it.
-#[derive(Drop)]
+#[derive(Clone, Copy)]
 pub struct Header {
     pub budget: u32,
     pub limit: u32,
@@ -18,7 +18,7 @@ pub struct Header {
 }
 
 // asks: it is asked what `line` rests on, with `room` cells for the answer. start: where the book begins.
-#[derive(Drop)]
+#[derive(Clone, Copy)]
 pub struct Question {
     pub asks: bool,
     pub line: u32,
@@ -27,7 +27,7 @@ pub struct Question {
 }
 
 // A number, and the index behind the byte that ends it.
-#[derive(Drop)]
+#[derive(Clone, Copy)]
 pub struct Scanned {
     pub value: u64,
     pub next: usize,
