@@ -27,7 +27,7 @@ use Rattle.lookup.specs.Answers.{stop_then}
 use Rattle.lookup.specs.DerivedBooks.{right_contexts, distinct_names}
 use Rattle.calculus.specs.Resolved.{resolved_known, category_known}
 use Rattle.reading.specs.PieceStages.{check_line_lem}
-use Rattle.inclusion.specs.Derivations.{line_middle, line_category, category_ends_lem}
+use Rattle.inclusion.proofs.Derivations.{line_middle, line_category, category_ends_lem}
 use Rattle.cells.specs.Layout.{names_at, line_unit, reader_units}
 use Rattle.cells.specs.Forests.{size_is_length}
 use Rattle.cells.specs.Links.{link_factor, unlinked, unlinked_long}
