@@ -1,1 +1,2 @@
 pub mod HeadLaws
+pub mod LinesBelow

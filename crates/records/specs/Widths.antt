@@ -13,7 +13,7 @@ use Rattle.inclusion.specs.Books.{built_right}
 use Rattle.inclusion.proofs.Derivations.{derived_built}
 use Rattle.cells.specs.Cells.{Below}
 use Rattle.cells.specs.Widths.{below_append, below_fits}
-use Rattle.heads.specs.Depths.{line_below}
+use Rattle.heads.proofs.LinesBelow.{line_below}
 use Rattle.records.specs.Reached.{Reached}
 use Rattle.records.specs.Runs.{run_reached}
 
