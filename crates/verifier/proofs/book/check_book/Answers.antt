@@ -10,8 +10,7 @@ use Rattle.theorems.proofs.Checks.{checks}
 use Rattle.theorems.proofs.Admission.{ending_code}
 use Rattle.outcomes.specs.declared.Outcome.{Outcome}
 use Rattle.outcomes.specs.Outcomes.{code_of_outcome, line_of_outcome, steps_of_outcome, IsCode, HasNumbers}
-use Rattle.verifier.proofs.book.check_book.Statement.{statement}
-use Rattle.verifier.proofs.book.check_book.Tie as tie
+use Rattle.verifier.proofs.book.check_book.Goals as goal
 
 -- an outcome with the numbers of an ending
 told : {e : Ending} {L : ℕ} {s s' : Stores} {o : Outcome} {code line steps : ℕ} → Determined e L s code line steps s' → HasNumbers o code line steps
@@ -27,28 +26,5 @@ told {e} d h =
       index_is = d.index_is;
     }
 
-admit-requires : tie.Need-admit-requires
-admit-requires c κs = search rules
-
-outcome-of-requires : tie.Need-outcome-of-requires
-outcome-of-requires c κs = search rules
-
-same_length : tie.Need-same-length
-same_length c = search rules
-
-same-length-2 : tie.Need-same-length-2
-same-length-2 c = search rules
-
-same-length-3 : tie.Need-same-length-3
-same-length-3 c = search rules
-
-same-length-4 : tie.Need-same-length-4
-same-length-4 c = search rules
-
-returns : tie.Need-returns
-returns c = checks aut68 _ _ _ _ (told c.before.before.before.before.before.before.before.before.before.admit.ensures c.outcome-of.ensures)
-
-pub check_book_spec : {M : Type 1} → statement M
-check_book_spec =
-    tie.close
-    (tie.spec admit-requires outcome-of-requires same_length same-length-2 same-length-3 same-length-4 returns)
+pub returns : goal.returns
+returns c = checks aut68 _ _ _ _ (told c.admit-a.ensures c.outcome_of.ensures)
