@@ -1,8 +1,8 @@
 -- The outcomes of the cases of specs/Outcomes.antt, each table computed in one theorem.
-use Rattle.std.specs.Prelude.{◌≡◌, refl, ℕ, zero, suc, true}
-use mathlib.Core.List.{List, [], ◌∷◌, ◌++◌}
+use Rattle.std.specs.Prelude.{◌≡◌, refl, true}
+use mathlib.Core.List.{◌++◌}
 use Rattle.aut68.specs.Language.{aut68}
-use Rattle.aut68.specs.Stores.{lending, before_line}
+use Rattle.aut68.specs.Stores.{lending}
 use Rattle.aut68.specs.Rules.Grammar
 use Rattle.aut68.specs.Procedure.Answer
 use Rattle.aut68.specs.Bytes
@@ -23,7 +23,7 @@ use Rattle.aut68.specs.Procedure.Category
 use Rattle.aut68.specs.Procedure.CheckLine
 use Rattle.aut68.specs.Procedure.CheckPiece
 use Rattle.aut68.specs.Procedure.Run
-use Rattle.aut68.specs.Cases.{Case, bytes_of, sample, ends_as, holds, all_hold, same_numbers, records_as, keeps_as, keeps, all_keep, under, within, usual}
+use Rattle.aut68.specs.Cases.{bytes_of, sample, ends_as, holds, all_hold, same_numbers, records_as, keeps_as, keeps, all_keep, under, within, usual}
 use Rattle.aut68.specs.Telling.{sums, sum_rows, sum_cells, telling_omitted, telling_paragraphs, naturals, families, telling_qe}
 use Rattle.aut68.specs.Indexed.{sample_rows, sample_cells, sample_index, with_index, index_cells}
 use Rattle.aut68.specs.ClosedBlocks.{blocks, closed_blocks}

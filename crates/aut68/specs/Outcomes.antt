@@ -2,36 +2,13 @@
 -- those of papers 1, 7 and 13, under two more; those with the cells of the index, under a fourth; those of closed blocks, under a fifth;
 -- the lines that a book of three records; pairs under both comparisons; and the pages of books. The other worked cases are computed in crate
 -- `worked`: an edit of a definition, tried by the gate, has to compute all that stands here.
-use Rattle.std.specs.Prelude.{◌≡◌, refl, ℕ, zero, suc, true}
+use Rattle.std.specs.Prelude.{ℕ, zero, suc}
 use mathlib.Core.List.{List, [], ◌∷◌, ◌++◌}
 use Rattle.aut68.specs.Language.{aut68}
 use Rattle.aut68.specs.Stores.{lending, before_line}
-use Rattle.aut68.specs.Rules.Grammar
-use Rattle.aut68.specs.Procedure.Answer
-use Rattle.aut68.specs.Bytes
-use Rattle.aut68.specs.Source
-use Rattle.aut68.specs.Procedure.Parse
 use Rattle.aut68.specs.Expr
-use Rattle.aut68.specs.Substitution
 use Rattle.aut68.specs.Lines
-use Rattle.aut68.specs.Paragraphs
-use Rattle.aut68.specs.Index
-use Rattle.aut68.specs.Pages
-use Rattle.aut68.specs.Procedure.Lookup
-use Rattle.aut68.specs.Procedure.Resolve
-use Rattle.aut68.specs.Procedure.HeadStep
-use Rattle.aut68.specs.Procedure.Compare
-use Rattle.aut68.specs.Procedure.PartsFirst
-use Rattle.aut68.specs.Procedure.Category
-use Rattle.aut68.specs.Procedure.CheckLine
-use Rattle.aut68.specs.Procedure.CheckPiece
-use Rattle.aut68.specs.Procedure.Run
-use Rattle.aut68.specs.Cases.{Case, bytes_of, sample, ends_as, holds, all_hold, same_numbers, records_as, keeps_as, keeps, all_keep, under, within, usual}
-use Rattle.aut68.specs.Telling.{sums, sum_rows, sum_cells, telling_omitted, telling_paragraphs, naturals, families, telling_qe}
-use Rattle.aut68.specs.Indexed.{sample_rows, sample_cells, sample_index, with_index, index_cells}
-use Rattle.aut68.specs.ClosedBlocks.{blocks, closed_blocks}
-use Rattle.aut68.specs.ComparisonCases.{compared_lines, around, answers_as, compares_as, all_compare, pair, compared_pairs}
-use Rattle.aut68.specs.Printed.{printed, prints_as, all_print, printed_pages}
+use Rattle.aut68.specs.Cases.{Case, bytes_of, sample, under, within, usual}
 
 -- ---- the twelve rows of the table; the row of code 2 has two calls, that of code 12 one for the table and two for the line limit
 

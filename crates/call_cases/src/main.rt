@@ -12,7 +12,7 @@
 
 mod lists;
 mod sheet_cases;
-mod strings;
+mod string_cases;
 
 use constants::{Cell, ROW_WIDTH, WORK_UNITS};
 use outcomes::answer_numbers;
@@ -59,7 +59,7 @@ fn call<W: Write>(
         if q.line == 3 {
             return sheet_cases::compare(out, h, q, text, table, terms, work, index);
         }
-        return strings::compare(out, h, q, text, table, terms, work, index);
+        return string_cases::compare(out, h, q, text, table, terms, work, index);
     }
     print(out, h, text, table, terms, work, index, page)
 }

@@ -2,7 +2,7 @@
 ghost use Rattle.std.specs.Prelude.{◌+◌, ◌≤◌};
 
 use crate::lists::compare_list;
-use crate::strings::numbers;
+use crate::string_cases::numbers;
 use constants::Cell;
 use outcomes::AnswerNumbers;
 use pairs::Pair;

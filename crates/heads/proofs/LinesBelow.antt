@@ -1,17 +1,15 @@
 -- The cells of a line among fewer than n lines.
-use Rattle.std.specs.Prelude.{◌≡◌, refl, ℕ, suc, ◌+◌, ◌-◌, ◌*◌, ◌≤◌, ◌<◌, length}
+use Rattle.std.specs.Prelude.{◌≡◌, refl, ℕ, ◌*◌, ◌≤◌, ◌<◌, length}
 use native.Mathlib.Omega.{arith}
 use Rattle.aut68.specs.Sizes.{cell_factor}
-use Rattle.aut68.specs.Expr.{Expr, Exprs, type, prop, var, bound, const, app, abs, nil, cons, size, sizes, cells, cellss}
+use Rattle.aut68.specs.Expr.{Expr, cells}
 use Rattle.aut68.specs.Lines.{Line, Lines, Kind, variable, primitive, abbreviation, kind_cells, line_cells}
 use Rattle.aut68.specs.Rules.Names.{IsLine}
-use Rattle.aut68.specs.Rules.Resolved.{Scoped, AllScoped, ConstantOf, VariableLine}
-use Rattle.lookup.specs.LineNumbers.{line_within}
-use Rattle.calculus.specs.Scoped.{ScopedCategory, scoped_category}
+use Rattle.calculus.specs.Scoped.{scoped_category}
 use Rattle.calculus.specs.Resolved.{KnownCategory, ResolvedLines, resolved_known, known_line}
 use Rattle.cells.specs.Cells.{Below}
 use Rattle.cells.specs.Widths.{below_append}
-use Rattle.cells.specs.Forests.{size_positive, size_is_length}
+use Rattle.cells.specs.Forests.{size_is_length}
 use Rattle.heads.specs.Depths.{deep_size, lines_below}
 
 -- the cells of a line whose middle and category have at most n

@@ -1,17 +1,16 @@
 -- How deep abstractions nest in an expression, and that its cells are numbers of a width, by how many lines there are.
-use Rattle.std.specs.Prelude.{◌≡◌, refl, ℕ, suc, ◌+◌, ◌-◌, ◌*◌, ◌≤◌, ◌<◌, length}
+use Rattle.std.specs.Prelude.{ℕ, suc, ◌+◌, ◌-◌, ◌*◌, ◌≤◌, ◌<◌, length}
 use native.Mathlib.Omega.{arith}
 use Rattle.aut68.specs.Sizes.{cell_factor}
 use Rattle.aut68.specs.Expr.{Expr, Exprs, type, prop, var, bound, const, app, abs, nil, cons, size, sizes, cells, cellss}
-use Rattle.aut68.specs.Lines.{Line, Lines, Kind, variable, primitive, abbreviation, kind_cells, line_cells}
-use Rattle.aut68.specs.Rules.Names.{IsLine}
+use Rattle.aut68.specs.Lines.{Lines}
 use Rattle.aut68.specs.Rules.Resolved.{Scoped, AllScoped, ConstantOf, VariableLine}
 use Rattle.lookup.specs.LineNumbers.{line_within}
-use Rattle.calculus.specs.Scoped.{ScopedCategory, scoped_category}
-use Rattle.calculus.specs.Resolved.{KnownCategory, ResolvedLines, resolved_known, known_line}
+use Rattle.calculus.specs.Scoped.{ScopedCategory}
+use Rattle.calculus.specs.Resolved.{KnownCategory}
 use Rattle.cells.specs.Cells.{Below}
 use Rattle.cells.specs.Widths.{below_append}
-use Rattle.cells.specs.Forests.{size_positive, size_is_length}
+use Rattle.cells.specs.Forests.{size_positive}
 
 -- abstractions nest at most d deep
 unfoldable mutual

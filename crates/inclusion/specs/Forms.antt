@@ -4,7 +4,7 @@ use Rattle.std.proofs.Common.{subst, sym, ◌∙◌, inl, inr}
 use Rattle.std.proofs.Math.Option.{none}
 use Rattle.aut68.specs.Language.{Language, aut68, aut_qe, extended}
 use Rattle.aut68.specs.Sizes.{nesting}
-use Rattle.aut68.specs.Procedure.Answer.{done, ensure, Refusal, not_type, too_large}
+use Rattle.aut68.specs.Procedure.Answer.{ensure, Refusal, not_type, too_large}
 use Rattle.aut68.specs.Expr.{Expr, type, prop, abs, is_type, ends_in_type, ends_in_prop, Shape, shape, abstraction, other}
 use Rattle.aut68.specs.Lines.{Lines}
 use Rattle.aut68.specs.Rules.Steps.{Reduces, Equal}
@@ -14,8 +14,7 @@ use Rattle.aut68.specs.Rules.Categories
 use Rattle.aut68.specs.Procedure.HeadStep.{head_step, left}
 use Rattle.aut68.specs.Procedure.Category.{Function, parts, to_function, serves_as_type, opens}
 use Rattle.lookup.specs.Answers.{Judged, is_done, is_stop, Finding, no_function, large, judged_then}
-use Rattle.calculus.specs.Star.{Star, done, more}
-use Rattle.calculus.specs.Star
+use Rattle.calculus.specs.Star.{Star}
 use Rattle.calculus.specs.Equality.{abs_steps, equal_after}
 use Rattle.calculus.specs.Shapes.{shape_abs, false_not_true}
 use Rattle.calculus.specs.HeadForms.{Neutral, head_none, shape_other, normal_neutral, never_abs, hneutral, neutral_not_abs}

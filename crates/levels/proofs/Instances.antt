@@ -20,7 +20,7 @@ use Rattle.calculus.specs.Known.{known_wanted}
 use Rattle.cells.specs.Cells.{Formed, RightCount, Wfs, Below, copy_cells}
 use Rattle.cells.specs.Layout.{levels, unit_at, level_unit, result_unit, result_ends}
 use Rattle.cells.specs.Forests.{sizes_is_length}
-use Rattle.cells.specs.Results.{then_refused, then_passed, passed}
+use Rattle.cells.specs.Results.{then_refused, then_passed}
 use Rattle.cells.specs.Stores.{outside_same, at_before}
 use Rattle.cells.specs.CopyLaws.{copy_outside}
 use Rattle.terms.specs.Made.{Numbered, ArgumentsLie, Made, InstantiatePost}

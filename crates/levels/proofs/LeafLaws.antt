@@ -7,7 +7,7 @@ use native.Mathlib.Omega.{arith}
 use native.Mathlib.Numerals.{add-one}
 use lib.ListN.{length, get_or, take, drop}
 use Rattle.aut68.specs.Sizes.{largest_limit, work_units, nesting, at_category, at_end}
-use Rattle.aut68.specs.Expr.{Expr, size, cells}
+use Rattle.aut68.specs.Expr.{Expr, cells}
 use Rattle.aut68.specs.Substitution.{lift}
 use Rattle.aut68.specs.Lines.{Lines, row_cell}
 use Rattle.aut68.specs.Rules.Categories.{DomainAt, innermost, outside}

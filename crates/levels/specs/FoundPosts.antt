@@ -4,7 +4,7 @@
 use Rattle.std.specs.Prelude.{◌≡◌, Bool, List, ℕ, ◌*◌, ◌≤◌, length}
 use Rattle.aut68.specs.Sizes.{largest_limit, work_units}
 use Rattle.aut68.specs.Procedure.Answer.{Answer, and_then, ensure, not_type}
-use Rattle.aut68.specs.Expr.{Expr, abs, size, is_type}
+use Rattle.aut68.specs.Expr.{Expr, abs, is_type}
 use Rattle.aut68.specs.Lines.{Lines}
 use Rattle.aut68.specs.Procedure.Category.{Function, made}
 use Rattle.calculus.specs.Resolved.{KnownCategory}

@@ -1,7 +1,7 @@
 -- The category on a line, and that of a bound variable.
 use Rattle.std.specs.Prelude.{List, ℕ, ◌*◌, ◌≤◌, suc, length}
 use Rattle.aut68.specs.Sizes.{work_units}
-use Rattle.aut68.specs.Expr.{Expr, size}
+use Rattle.aut68.specs.Expr.{Expr}
 use Rattle.aut68.specs.Lines.{Line, Lines}
 use Rattle.aut68.specs.Rules.Names.{IsLine}
 use Rattle.aut68.specs.Procedure.Category.{made}

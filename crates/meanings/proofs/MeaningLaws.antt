@@ -10,7 +10,6 @@ use lib.ListN.{length}
 use Rattle.aut68.specs.Bytes.{Bytes}
 use Rattle.aut68.specs.Lines.{Line, Lines, Kind, variable, primitive, abbreviation, line_of, kind_number, row_cell}
 use Rattle.aut68.specs.Paragraphs.{State}
-use Rattle.aut68.specs.Source.{Used}
 use Rattle.aut68.specs.Procedure.Lookup.{number_of}
 use Rattle.aut68.specs.Procedure.Answer.{Refusal, code_of}
 use Rattle.aut68.specs.Procedure.Resolve.{refused, member, answered, look_up, sought, wanted, context_at}

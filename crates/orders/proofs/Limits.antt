@@ -15,7 +15,7 @@ use Rattle.aut68.specs.Procedure.Answer.{Answer, stop, aside, done, out_of_space
 use Rattle.aut68.specs.Procedure.CheckLine.{read_line, store, check_line}
 use Rattle.aut68.specs.Procedure.CheckPiece.{PassedPiece, check_opening, closing, check_closing, check_piece}
 use Rattle.aut68.specs.Procedure.Run.{Recorded, state_of, Ending, accepted, refused_at, code_at, line_at, steps_at, table_end, terms_end, index_end, at_end, check_lines, nothing, run}
-use Rattle.aut68.specs.Demands.{Verdict, SameResult, LargerLimits, Admitted}
+use Rattle.aut68.specs.Demands.{Verdict, SameResult, Admitted}
 use Rattle.lookup.specs.Runs.{run_admitted, verdict_admitted, verdict_decides}
 use Rattle.lookup.specs.Answers.{Decides, Kept, Grows, grows_give, grows_refuse, grows_then, grows_ensure, grows_test, grows_aside}
 use Rattle.lookup.specs.Answers.{space_undecided, stays_same, stays_then, stays_size}

@@ -1,6 +1,6 @@
 -- The line limit as a parameter: what is said before line n is said under every larger line limit.
 use Rattle.std.proofs.Math.Path.{◌≡◌, refl}
-use Rattle.std.proofs.Common.{ap, inl, inr}
+use Rattle.std.proofs.Common.{ap}
 use Rattle.std.specs.Prelude.{Bool, ◌&&◌}
 use Rattle.std.proofs.Math.Bool.{true, false}
 use mathlib.Core.List.{List, [], ◌∷◌}
@@ -19,7 +19,7 @@ use Rattle.aut68.specs.Procedure.Answer.{Answer, done, stop, and_then, ◌>>=◌
 use Rattle.aut68.specs.Procedure.CheckLine.{read_line, room, store, check_categories, check_line}
 use Rattle.aut68.specs.Procedure.CheckPiece.{PassedPiece, passed_line, moved_to, check_piece}
 use Rattle.aut68.specs.Procedure.Run.{Recorded, state_of, Ending, refused_at, one_more, elsewhere, after_piece, at_end, check_lines, nothing, run}
-use Rattle.aut68.specs.Demands.{Verdict, FormerEndings}
+use Rattle.aut68.specs.Demands.{Verdict}
 use Rattle.lookup.specs.Runs.{verdict_admitted}
 use Rattle.reading.specs.PieceKinds.{PieceKind, an_opening, a_closing, ordinary, kind_of, opening_checked, closing_checked, ordinary_checked}
 use Rattle.orders.proofs.Limits.{same_ending_lem}

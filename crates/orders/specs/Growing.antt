@@ -10,7 +10,7 @@ use Prim.Native.Nat.{ℕ, zero, suc, ◌+◌, ◌≤◌}
 use Rattle.std.proofs.Math.Dec.{leb}
 use Rattle.aut68.specs.Language.{Language, aut68, aut_qe}
 use Rattle.aut68.specs.Sizes.{nesting}
-use Rattle.aut68.specs.Expr.{Expr, Exprs, type, prop, var, bound, const, app, abs, nil, cons, snoc, size, is_sort, Shape, shape, abstraction, other, parts, over_binding}
+use Rattle.aut68.specs.Expr.{Expr, Exprs, type, prop, var, bound, const, app, abs, nil, cons, snoc, size, is_sort, Shape, shape, abstraction, other, over_binding}
 use Rattle.aut68.specs.Substitution.{lift, substitute, instantiate}
 use Rattle.aut68.specs.Lines.{Line, Lines, Kind, variable, primitive, abbreviation}
 use Rattle.aut68.specs.Procedure.Answer.{Act, done, ◌>>=◌, refuse, not_function, not_type, too_large}

@@ -12,7 +12,7 @@ use Rattle.aut68.specs.Sizes.{largest_limit, work_units}
 use Rattle.aut68.specs.Expr.{Expr, type, prop, var, bound, const, app, abs, nil, cons, size, cells, first_cell, count_exprs, Shape, shape, abstraction, other}
 use Rattle.aut68.specs.Lines.{Lines}
 use Rattle.aut68.specs.Procedure.Answer.{Refusal, done, stop, and_then, code_of, not_function, too_large, out_of_budget}
-use Rattle.aut68.specs.Procedure.HeadStep.{Head, no_step, head_step, left}
+use Rattle.aut68.specs.Procedure.HeadStep.{no_step, head_step, left}
 use Rattle.aut68.specs.Procedure.Category.{head_form, parts, to_function}
 use Rattle.calculus.specs.Scoped.{ScopedCategory}
 use Rattle.aut68.specs.Rules.Resolved.{Known}

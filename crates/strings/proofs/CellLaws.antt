@@ -2,17 +2,16 @@
 use mathlib.Core.Path.{◌≡◌, refl, sym, ap, ◌∙◌, subst}
 use mathlib.Core.Logic.{◌≢◌}
 use mathlib.Core.List.{List, [], ◌∷◌, ◌++◌}
-use Prim.Native.Nat.{ℕ, zero, suc, ◌+◌, ◌-◌, ◌*◌, ◌%◌, ◌/◌, ◌≤◌, ◌<◌}
+use Prim.Native.Nat.{ℕ, suc, ◌+◌, ◌-◌, ◌%◌, ◌/◌, ◌≤◌, ◌<◌}
 use native.Mathlib.Omega.{arith}
 use lib.ListN.{length, get_or, drop, length-append, length-drop}
 use lib.Seq.{drop-cons, drop-length}
 use Rattle.aut68.specs.Sizes.{cell_factor, at_kind}
 use Rattle.aut68.specs.Lines.{Line, Lines, Kind, variable, primitive, abbreviation, kind_number, row_cell}
 use Rattle.aut68.specs.Rules.Names.{IsLine}
-use Rattle.aut68.specs.Rules.Resolved.{VariableLine, ConstantOf}
 use Rattle.cells.specs.Cells.{parts_after}
 use Rattle.cells.specs.Rows.{Rows}
-use Rattle.lookup.specs.LineNumbers.{line_unique, line_at_lem, variable≢abbreviation, primitive≢variable, abbreviation≢variable}
+use Rattle.lookup.specs.LineNumbers.{line_unique, line_at_lem, primitive≢variable, abbreviation≢variable}
 use Rattle.strings.specs.Levels.{part_levels, levels_past, levels_at, RightCell, a_variable, a_bound, a_constant, an_application, an_abstraction, Holds}
 use Rattle.strings.specs.Posts.{KindOf, no_line, is_line}
 use Rattle.strings.proofs.ReadLaws.{levels_long}

@@ -3,19 +3,19 @@ use mathlib.Core.Path.{◌≡◌, refl, sym, ap, ap₂, ◌∙◌, subst}
 use mathlib.Core.Logic.{◌⊎◌, inl, inr}
 use mathlib.Core.Bool.{Bool, true, false}
 use mathlib.Core.List.{List, [], ◌∷◌, ◌++◌, append_assoc, append-nil}
-use Prim.Native.Nat.{ℕ, zero, suc, ◌+◌, ◌*◌, ◌%◌, ◌/◌, ◌≤◌, ◌<◌}
+use Prim.Native.Nat.{ℕ, zero, suc, ◌+◌, ◌*◌, ◌%◌, ◌/◌, ◌<◌}
 use native.Mathlib.Omega.{arith}
 use lib.Dec.{eqb}
-use lib.ListN.{length, get_or, replicate, length-append, length-replicate}
+use lib.ListN.{length, replicate, length-replicate}
 use borrow.Author.Tests.{eqb-true}
 use Rattle.aut68.specs.Sizes.{cell_factor, at_context}
 use Rattle.aut68.specs.Expr.{Expr, Exprs, type, prop, var, bound, const, app, abs, nil, cons, cells, cellss, count_exprs}
-use Rattle.aut68.specs.Lines.{Line, Lines, row_cell}
+use Rattle.aut68.specs.Lines.{Lines, row_cell}
 use Rattle.aut68.specs.Rules.Resolved.{Scoped, AllScoped, VariableLine, ConstantOf, Known}
-use Rattle.aut68.specs.Rules.Strings.{Reads, Whole}
+use Rattle.aut68.specs.Rules.Strings.{Whole}
 use Rattle.cells.specs.Cells.{parts_after}
 use Rattle.cells.specs.Rows.{Rows}
-use Rattle.cells.specs.Forests.{kind_of, number_of, parts_of_kind, cells_one, count_join, join, cells_join}
+use Rattle.cells.specs.Forests.{kind_of, number_of, parts_of_kind, cells_one}
 use Rattle.strings.specs.Levels.{part_levels, RightCell, a_variable, a_bound, a_constant, an_application, an_abstraction, Holds}
 
 -- ---- the parts of a cell, by its kind and number

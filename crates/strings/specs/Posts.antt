@@ -1,5 +1,5 @@
 -- What the functions on strings say.
-use Rattle.std.specs.Prelude.{◌≡◌, Bool, true, false, List, ℕ, suc, ◌+◌, ◌<◌, length, get_or}
+use Rattle.std.specs.Prelude.{◌≡◌, Bool, true, List, ℕ, suc, ◌+◌, ◌<◌, length, get_or}
 use Rattle.aut68.specs.Lines.{Line, Lines, kind_number}
 use Rattle.aut68.specs.Rules.Names.{IsLine}
 use Rattle.aut68.specs.Rules.Strings.{Whole}

@@ -1,6 +1,6 @@
 -- Two strings compared over an accepted book (paper 9): what is judged of them is right, kept under larger budgets and limits, and one answer
 -- of both comparisons.
-use Rattle.std.specs.Prelude.{◌≡◌, refl, ◌≢◌, Bool, not, List, [], ℕ, ◌-◌, ◌≤◌, length}
+use Rattle.std.specs.Prelude.{◌≡◌, refl, ◌≢◌, Bool, not, List, [], ℕ, ◌-◌, ◌≤◌}
 use Rattle.std.proofs.Math.Path.{sym, ap₂, subst}
 use Rattle.std.proofs.Common.{ap, ◌∙◌, inl, inr, append-nil, arith}
 use Rattle.std.proofs.Math.Logic.{⊎_elim}
@@ -8,12 +8,11 @@ use Rattle.std.proofs.Math.Bool.{true, false}
 use Rattle.aut68.specs.Language.{aut68}
 use Rattle.aut68.specs.Stores.{Stores, limits_of}
 use Rattle.aut68.specs.Bytes.{Bytes, lines}
-use Rattle.aut68.specs.Expr.{Expr, type, cells}
+use Rattle.aut68.specs.Expr.{Expr, cells}
 use Rattle.aut68.specs.Lines.{Lines}
 use Rattle.aut68.specs.Procedure.Answer.{Answer, done, stop, code_in, rest_in, code_of, mismatch}
 use Rattle.aut68.specs.Procedure.Calls.{decline_code}
 use Rattle.aut68.specs.Procedure.Run.{Ending, run, code_at, recorded_at, state_of}
-use Rattle.aut68.specs.Rules.Resolved.{Known}
 use Rattle.aut68.specs.Rules.Steps.{Equal}
 use Rattle.aut68.specs.Rules.Strings.{Reads, Whole}
 use Rattle.aut68.specs.Comparing.{FindsEquality, KeepsAnswers, Ends, BothComparisons, ComparisonsAgree}

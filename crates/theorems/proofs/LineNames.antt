@@ -18,9 +18,9 @@ use Rattle.aut68.specs.Rules.Derivation.{Derived}
 use Rattle.aut68.specs.Demands.{ByItsNames}
 use Rattle.lookup.specs.Answers.{stop≢done, stop_reason}
 use Rattle.lookup.specs.NameFaults.{NameRefusal, unknown, out_of_context, miscounted, refusal_for, FaultFor}
-use Rattle.lookup.specs.DerivedBooks.{distinct_names, right_contexts}
+use Rattle.lookup.specs.DerivedBooks.{distinct_names}
 use Rattle.reading.specs.Signs.{ordinary_starts}
-use Rattle.reading.specs.Stages.{Unread, is_malformed, is_taken, no_indicator, no_name, is_large, indicator_unread, name_unread, unread_stops}
+use Rattle.reading.specs.Stages.{Unread, is_malformed, is_taken, no_indicator, no_name, is_large, indicator_unread, unread_stops}
 use Rattle.reading.specs.PieceStages.{PassedBy, opening_passed, closing_passed, line_passed, piece_passed, StoppedBy, opening_stopped, closing_stopped, line_stopped, piece_stopped}
 use Rattle.reading.specs.PieceStages.{Unopened, too_many, unopened, Unclosed, not_innermost, unclosed}
 use Rattle.verdicts.specs.Refusals.{unread_by_code}

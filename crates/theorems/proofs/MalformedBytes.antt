@@ -5,7 +5,7 @@ use Rattle.aut68.specs.Language.{Language}
 use Rattle.aut68.specs.Stores.{Limits}
 use Rattle.aut68.specs.Bytes.{Bytes}
 use Rattle.aut68.specs.Paragraphs.{State}
-use Rattle.aut68.specs.Procedure.Answer.{stop, Refusal, code_of, malformed, too_large}
+use Rattle.aut68.specs.Procedure.Answer.{stop, Refusal, code_of, malformed}
 use Rattle.aut68.specs.Procedure.Parse.{signed}
 use Rattle.aut68.specs.Procedure.CheckLine.{check_line}
 use Rattle.aut68.specs.Rules.Grammar.{IsSign}

@@ -4,7 +4,7 @@ use Rattle.aut68.specs.Language.{Language}
 use Rattle.aut68.specs.Stores.{Limits}
 use Rattle.aut68.specs.Bytes.{Bytes}
 use Rattle.aut68.specs.Paragraphs.{State, start}
-use Rattle.aut68.specs.Procedure.Answer.{stop, unknown_name}
+use Rattle.aut68.specs.Procedure.Answer.{stop}
 use Rattle.aut68.specs.Procedure.CheckLine.{check_line}
 use Rattle.aut68.specs.Rules.NameFaults.{FirstName}
 use Rattle.aut68.specs.Rules.Derivation.{Derived}

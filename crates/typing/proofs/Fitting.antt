@@ -14,7 +14,7 @@ use Rattle.aut68.specs.Lines.{Line, Lines, row_cell}
 use Rattle.aut68.specs.Rules.Names.{IsLine}
 use Rattle.aut68.specs.Procedure.Compare.{compare, Comparison, same, next, sides, compare_at}
 use Rattle.aut68.specs.Rules.Resolved.{Scoped, VariableOf}
-use Rattle.aut68.specs.Procedure.Answer.{done, stop}
+use Rattle.aut68.specs.Procedure.Answer.{done}
 use Rattle.calculus.specs.Resolved.{KnownCategory}
 use Rattle.calculus.specs.Known.{known_wanted}
 use Rattle.cells.specs.Cells.{At, AnyVariable, Outside}

@@ -1,5 +1,5 @@
 -- The pieces of a book before the one at which it is refused.
-use Rattle.std.specs.Prelude.{◌≡◌, ℕ, suc, List, ◌∷◌, ◌++◌, length, take, []}
+use Rattle.std.specs.Prelude.{◌≡◌, ℕ, List, ◌∷◌, ◌++◌, length, take}
 use Rattle.std.proofs.Common.{ap, sym, ◌∙◌, take_at}
 use Rattle.aut68.specs.Bytes.{Bytes}
 

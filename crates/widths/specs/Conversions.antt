@@ -3,13 +3,13 @@ use Rattle.std.specs.Prelude.{◌≡◌, Bool, ◌&&◌, List, [], ◌∷◌, �
 use Rattle.std.proofs.Math.Path.{refl}
 use Rattle.std.proofs.Common.{sym, ap, ap₂, ◌∙◌, add-one, length-set, take-suc, drop-cons, length-take-le}
 use Rattle.std.proofs.Math.Bool.{true, false}
-use Rattle.std.proofs.Math.Option.{Option, none, some}
+use Rattle.std.proofs.Math.Option.{none, some}
 use native.Mathlib.Omega.{arith}
 use Rattle.std.proofs.Math.Dec.{leb}
 use Rattle.std.proofs.Math.Seq.{append_snoc, take-append_seam, take-length}
 use Rattle.std.proofs.lemmas.List.{set_at}
 use borrow.Author.Tests.{leb-true, le-leb, le-ltb, lt-ltb}
-use Rattle.aut68.specs.Widths.{fits_width, conversion, Converted, declined, written, Converts}
+use Rattle.aut68.specs.Widths.{fits_width, conversion, declined, written, Converts}
 use Rattle.aut68.specs.Procedure.Calls.{Decline, store_too_small, cell_too_large, decline_code}
 use Rattle.aut68.specs.Procedure.Run.{over}
 

@@ -3,10 +3,10 @@
 use Rattle.std.specs.Prelude.{ℕ, zero, suc, Bool, true, false, eqb, leb}
 use Rattle.aut68.specs.Sizes.{nesting}
 use Rattle.aut68.specs.Language.{aut68}
-use Rattle.aut68.specs.Procedure.Answer.{Act, Answer, done, stop, refuse, Refusal, code_of, mismatch, too_large, out_of_budget}
+use Rattle.aut68.specs.Procedure.Answer.{Act, Answer, done, stop, refuse, Refusal, code_of, too_large, out_of_budget}
 use Rattle.aut68.specs.Expr.{Expr, size}
 use Rattle.aut68.specs.Lines.{Lines}
-use Rattle.aut68.specs.Procedure.Compare.{Next, same, by_parts, step_left, step_right, next, Comparison, compare_parts}
+use Rattle.aut68.specs.Procedure.Compare.{same, by_parts, step_left, step_right, next, Comparison, compare_parts}
 
 -- 9, 'categories differ'
 unfoldable pub differs : Refusal → Bool

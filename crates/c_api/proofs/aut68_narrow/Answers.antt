@@ -1,5 +1,4 @@
 -- `c_api::aut68_narrow` promises what `narrow` does: the numbers of its answer are those of the outcome.
-use borrow.Author.Rules.{rules}
 use Rattle.c_api.proofs.EqualNumbers.{equal_numbers}
 use Rattle.c_api.proofs.aut68_narrow.Goals as goal
 

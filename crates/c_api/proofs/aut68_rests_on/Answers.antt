@@ -2,7 +2,6 @@
 use mathlib.Core.Path.{◌≡◌}
 use Prim.Native.Nat.{ℕ}
 use mathlib.Core.List.{List}
-use borrow.Author.Rules.{rules}
 use Rattle.aut68.specs.Language.{aut68}
 use Rattle.aut68.specs.Stores.{Stores}
 use Rattle.aut68.specs.Resting.{TellsRests}

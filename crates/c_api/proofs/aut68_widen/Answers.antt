@@ -1,5 +1,4 @@
 -- `c_api::aut68_widen` promises what `widen` does: the numbers of its answer are those of the outcome.
-use borrow.Author.Rules.{rules}
 use Rattle.c_api.proofs.EqualNumbers.{equal_numbers}
 use Rattle.c_api.proofs.aut68_widen.Goals as goal
 

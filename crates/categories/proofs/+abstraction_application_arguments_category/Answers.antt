@@ -1,15 +1,13 @@
-use mathlib.Core.Path.{◌≡◌, refl, sym, ap, ◌∙◌}
+use mathlib.Core.Path.{◌≡◌, refl, sym, ◌∙◌}
 use native.Mathlib.Omega.{arith}
-use borrow.Author.Rules.{rules}
-use mathlib.Core.Logic.{⊎_elim}
 use lib.ListN.{length}
 use Rattle.categories.proofs.KindLaws.{category_deep, category_empty, by_variable_lem, by_bound_lem, by_alone, by_constant_lem, by_application_lem, by_abstraction_lem, by_nothing}
 use Rattle.categories.proofs.ArgumentLaws.{argument_none, argument_stored, argument_other}
 use Rattle.categories.proofs.BinderLaws.{application_refused, application_made, abstraction_refused, abstraction_past, abstraction_made}
 use Rattle.categories.proofs.Within.{part, part_length, part_first}
 use Rattle.categories.proofs.Strings.{ArgumentPost}
-use Rattle.categories.proofs.Turns.{Turns, turns_start, turns_more, turns_stop, turns_end}
-use Prim.Native.Nat.{ℕ, ◌+◌, ◌*◌, ◌-◌, ◌≤◌, ◌<◌}
+use Rattle.categories.proofs.Turns.{turns_start, turns_more, turns_stop, turns_end}
+use Prim.Native.Nat.{ℕ}
 use Rattle.categories.proofs.+abstraction_application_arguments_category.Goals as goal
 use Rattle.categories.proofs.+abstraction_application_arguments_category.Goals.{arguments-Joined-is_stored, arguments-then-is_stored, arguments-else-is_stored}
 

@@ -2,7 +2,6 @@
 use mathlib.Core.Path.{◌≡◌}
 use Prim.Native.Nat.{◌-◌}
 use lib.ListN.{length}
-use borrow.Author.Rules.{rules}
 use Rattle.columns.proofs.put_lines.Given as goal
 
 abbrev pub invariant-loop-v : goal.invariant-loop-v

@@ -1,11 +1,9 @@
 use native.Mathlib.Omega.{arith}
-use Prim.Native.Nat.{ℕ, ◌+◌, ◌*◌, ◌<◌}
+use Prim.Native.Nat.{ℕ, ◌+◌}
 use mathlib.Core.Path.{refl, ◌∙◌}
-use Rattle.aut68.specs.Language.{aut68}
-use Rattle.aut68.specs.Procedure.Compare.{compare_at}
 use Rattle.comparison.proofs.Depths.{no_levels, many_levels, no_units, Opened, side_small}
 use Rattle.comparison.proofs.Pairs.{compare_at_none, compare_ended, compare_parted}
-use Rattle.comparison.proofs.Parts.{PartsInvariant, shapes_differ, parts_start, parts_done, parts_stopped, parts_next}
+use Rattle.comparison.proofs.Parts.{shapes_differ, parts_start, parts_done, parts_stopped, parts_next}
 use Rattle.comparison.proofs.+compare_compare_parts.Goals as goal
 use Rattle.comparison.proofs.+compare_compare_parts.Goals.{compare-After-side_at-l}
 

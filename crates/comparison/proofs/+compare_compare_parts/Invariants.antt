@@ -1,12 +1,8 @@
 -- The levels fall: compare 2n, compare_parts 2n + 1 of one level less.
-use native.Mathlib.Omega.{arith}
-use Prim.Native.Nat.{ℕ, ◌+◌, ◌*◌, ◌<◌}
-use mathlib.Core.Path.{refl, ◌∙◌}
+use Prim.Native.Nat.{◌+◌, ◌*◌}
 use Rattle.aut68.specs.Language.{aut68}
 use Rattle.aut68.specs.Procedure.Compare.{compare_at}
-use Rattle.comparison.proofs.Depths.{no_levels, many_levels, no_units, Opened, side_small}
-use Rattle.comparison.proofs.Pairs.{compare_at_none, compare_ended, compare_parted}
-use Rattle.comparison.proofs.Parts.{PartsInvariant, shapes_differ, parts_start, parts_done, parts_stopped, parts_next}
+use Rattle.comparison.proofs.Parts.{PartsInvariant}
 use Rattle.comparison.proofs.+compare_compare_parts.Given as goal
 
 abbrev pub decreases-compare : goal.decreases-compare

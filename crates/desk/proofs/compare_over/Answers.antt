@@ -1,7 +1,6 @@
 -- `compare_over`: a refusal is passed on; else the strings are judged, and the working store is cleared (Calling).
 use mathlib.Core.Path.{sym}
 use lib.Seq.{length-take-le}
-use borrow.Author.Rules.{rules}
 use Rattle.aut68.specs.Language.{aut68}
 use Rattle.theorems.proofs.Admission.{refusal_code, work_fits}
 use Rattle.theorems.proofs.Desk.{strings_refused}

@@ -1,6 +1,4 @@
 -- `compare_by`: one of the two comparisons, from depth 1 on.
-use borrow.Author.Rules.{rules}
-use Rattle.judging.specs.Posts.{levels_of, ComparesOne}
 use Rattle.judging.proofs.Judging.{as_second, as_first}
 use Rattle.judging.proofs.compare_by.Goals as goal
 

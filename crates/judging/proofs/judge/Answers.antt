@@ -2,7 +2,6 @@
 use mathlib.Core.Path.{◌∙◌}
 use mathlib.Core.Logic.{inl, inr}
 use native.Mathlib.Omega.{arith}
-use borrow.Author.Rules.{rules}
 use Rattle.aut68.specs.Procedure.Answer.{code_of}
 use Rattle.aut68.specs.Procedure.Calls.{decline_code}
 use Rattle.judging.proofs.Judging.{left_not_whole, right_not_whole, judged_large, judged_compared}

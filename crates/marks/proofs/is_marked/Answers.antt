@@ -1,7 +1,6 @@
 -- `is_marked`: the cell's digit.
 use mathlib.Core.Path.{sym}
 use native.Mathlib.Omega.{arith}
-use borrow.Author.Rules.{rules}
 use Rattle.marks.specs.Marks.{marked}
 use Rattle.marks.specs.BitLaws.{digit_is_bit}
 use Rattle.marks.specs.MarkLaws.{past_marked}

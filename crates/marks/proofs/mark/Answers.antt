@@ -1,6 +1,5 @@
 -- `mark`: one bit is set in one cell.
 use native.Mathlib.Omega.{arith}
-use borrow.Author.Rules.{rules}
 use Rattle.marks.specs.MarkLaws.{mark_past, mark_cell}
 use Rattle.marks.proofs.mark.Goals as goal
 

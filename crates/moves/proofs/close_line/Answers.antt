@@ -1,4 +1,3 @@
-use borrow.Author.Rules.{rules}
 use Rattle.moves.proofs.LineLaws.{name_another, name_closed}
 use Rattle.moves.proofs.close_line.Goals as goal
 

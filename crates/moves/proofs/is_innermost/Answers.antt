@@ -1,4 +1,3 @@
-use borrow.Author.Rules.{rules}
 use Rattle.moves.proofs.TitleLaws.{innermost_none, innermost_deep, innermost_told}
 use Rattle.moves.proofs.is_innermost.Goals as goal
 

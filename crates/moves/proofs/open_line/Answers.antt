@@ -1,4 +1,3 @@
-use borrow.Author.Rules.{rules}
 use Rattle.moves.proofs.LineLaws.{name_taken, name_deep, name_opened}
 use Rattle.moves.proofs.open_line.Goals as goal
 

@@ -1,4 +1,3 @@
-use borrow.Author.Rules.{rules}
 use Rattle.moves.proofs.TitleLaws.{one_opened}
 use Rattle.moves.proofs.opened.Goals as goal
 

@@ -1,4 +1,3 @@
-use borrow.Author.Rules.{rules}
 use Rattle.moves.proofs.ReadLaws.{line_malformed, line_closes, line_opens}
 use Rattle.moves.proofs.paragraph_line.Goals as goal
 

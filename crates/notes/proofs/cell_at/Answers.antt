@@ -2,7 +2,6 @@ use mathlib.Core.Path.{refl, sym}
 use Prim.Native.Nat.{◌+◌, ◌/◌}
 use native.Mathlib.Omega.{arith}
 use lib.ListN.{length, get_or-eq_default}
-use borrow.Author.Rules.{rules}
 use Rattle.notes.proofs.cell_at.Goals as goal
 
 pub returns-then-i-w : goal.returns-then-i-w

@@ -1,5 +1,4 @@
 use Rattle.notes.proofs.EntryLaws.{chain_is_lem}
-use borrow.Author.Rules.{rules}
 use Rattle.notes.proofs.chain.Goals as goal
 
 pub returns : goal.returns

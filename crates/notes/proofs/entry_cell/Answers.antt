@@ -1,7 +1,6 @@
 use mathlib.Core.Path.{ap, ◌∙◌}
 use lib.ListN.{length, get_or}
 use Prim.Native.Nat.{ℕ, ◌+◌, ◌*◌, ◌/◌}
-use borrow.Author.Rules.{rules}
 use Rattle.notes.proofs.entry_cell.Goals as goal
 
 pub returns : goal.returns

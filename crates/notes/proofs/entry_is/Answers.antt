@@ -1,6 +1,5 @@
 use mathlib.Core.Path.{sym, ◌∙◌}
 use Rattle.notes.proofs.EntryLaws.{entry_not, entry_compared}
-use borrow.Author.Rules.{rules}
 use Rattle.notes.proofs.entry_is.Goals as goal
 
 pub returns-then-around-q : goal.returns-then-around-q

@@ -1,5 +1,5 @@
 use native.Mathlib.Omega.{arith}
-use Rattle.notes.proofs.OpenLaws.{AmongOuter, among_all, among_none, among_this, among_others}
+use Rattle.notes.proofs.OpenLaws.{among_all, among_none, among_this, among_others}
 use Rattle.notes.proofs.is_open.Goals as goal
 
 pub loop-i-init : goal.loop-i-init

@@ -1,5 +1,4 @@
-use native.Mathlib.Omega.{arith}
-use Rattle.notes.proofs.OpenLaws.{AmongOuter, among_all, among_none, among_this, among_others}
+use Rattle.notes.proofs.OpenLaws.{AmongOuter}
 use Rattle.notes.proofs.is_open.Given as goal
 
 abbrev pub invariant-loop-i : goal.invariant-loop-i

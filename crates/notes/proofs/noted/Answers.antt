@@ -1,5 +1,4 @@
 use Rattle.notes.proofs.EntryLaws.{noted_few, noted_many}
-use borrow.Author.Rules.{rules}
 use Rattle.notes.proofs.noted.Goals as goal
 
 pub returns-then-count-most : goal.returns-then-count-most

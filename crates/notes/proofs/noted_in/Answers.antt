@@ -1,5 +1,5 @@
 use native.Mathlib.Omega.{arith}
-use Rattle.notes.proofs.EntryLaws.{SearchingEntry, search_starts, no_more, out_of_it, this_one_lem, not_down, search_next}
+use Rattle.notes.proofs.EntryLaws.{search_starts, no_more, out_of_it, this_one_lem, not_down, search_next}
 use Rattle.notes.proofs.noted_in.Goals as goal
 
 pub overflow_add-chain : goal.overflow_add-chain

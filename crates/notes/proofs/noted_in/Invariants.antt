@@ -1,5 +1,4 @@
-use native.Mathlib.Omega.{arith}
-use Rattle.notes.proofs.EntryLaws.{SearchingEntry, search_starts, no_more, out_of_it, this_one_lem, not_down, search_next}
+use Rattle.notes.proofs.EntryLaws.{SearchingEntry}
 use Rattle.notes.proofs.noted_in.Given as goal
 
 abbrev pub invariant-loop-k : goal.invariant-loop-k

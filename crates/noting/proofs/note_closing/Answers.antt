@@ -1,4 +1,3 @@
-use borrow.Author.Rules.{rules}
 use Rattle.noting.proofs.ClosingLaws.{closing_post}
 use Rattle.noting.proofs.note_closing.Goals as goal
 

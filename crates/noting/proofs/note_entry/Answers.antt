@@ -1,5 +1,4 @@
 use native.Mathlib.Omega.{arith}
-use borrow.Author.Rules.{rules}
 use Rattle.noting.proofs.EntryLaws.{entry_full, entry_post}
 use Rattle.noting.proofs.note_entry.Goals as goal
 

@@ -1,5 +1,4 @@
 use mathlib.Core.Path.{refl}
-use borrow.Author.Rules.{rules}
 use Rattle.noting.proofs.OpeningLaws.{opening_post}
 use Rattle.noting.proofs.note_opening.Goals as goal
 

@@ -1,4 +1,3 @@
-use borrow.Author.Rules.{rules}
 use Rattle.noting.proofs.PutLaws.{put_set}
 use Rattle.noting.proofs.put_cell.Goals as goal
 

@@ -1,6 +1,5 @@
 -- `numbers_of`: the code of a refusal is its reason's.
 use mathlib.Core.Path.{sym, ap, ◌∙◌}
-use borrow.Author.Rules.{rules}
 use Rattle.outcomes.specs.Outcomes.{code_of_outcome, line_of_outcome, steps_of_outcome}
 use Rattle.outcomes.proofs.numbers_of.Goals as goal
 

@@ -1,7 +1,6 @@
 -- `outcome_of`: the reason is that of the code.
 use mathlib.Core.Path.{refl, sym, ap, ◌∙◌}
 use mathlib.Core.Logic.{⊎_elim}
-use borrow.Author.Rules.{rules}
 use Rattle.aut68.specs.Procedure.Answer.{code_of}
 use Rattle.outcomes.proofs.outcome_of.Goals as goal
 

@@ -1,8 +1,5 @@
-use Prim.Native.Nat.{◌-◌}
 use native.Mathlib.Omega.{arith}
-use borrow.Author.Rules.{rules}
-use lib.ListN.{length}
-use Rattle.page_rows.proofs.CountLaws.{RowsSoFar, count_start, count_line, count_end}
+use Rattle.page_rows.proofs.CountLaws.{count_start, count_line, count_end}
 use Rattle.page_rows.proofs.count_rows.Goals as goal
 
 pub loop-at-init : goal.loop-at-init

@@ -1,8 +1,6 @@
 use Prim.Native.Nat.{◌-◌}
-use native.Mathlib.Omega.{arith}
-use borrow.Author.Rules.{rules}
 use lib.ListN.{length}
-use Rattle.page_rows.proofs.CountLaws.{RowsSoFar, count_start, count_line, count_end}
+use Rattle.page_rows.proofs.CountLaws.{RowsSoFar}
 use Rattle.page_rows.proofs.count_rows.Given as goal
 
 abbrev pub invariant-loop-at : goal.invariant-loop-at

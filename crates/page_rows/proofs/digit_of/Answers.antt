@@ -1,4 +1,3 @@
-use borrow.Author.Rules.{rules}
 use borrow.Author.Tests.{le-leb, lt-leb}
 use Rattle.aut68.specs.Pages.{digit}
 use Rattle.page_rows.proofs.digit_of.Goals as goal

@@ -1,10 +1,7 @@
-use mathlib.Core.Path.{◌≡◌, refl, sym, ◌∙◌}
+use mathlib.Core.Path.{◌≡◌}
 use Prim.Native.Nat.{◌-◌, ◌≤◌}
-use native.Mathlib.Omega.{arith}
-use borrow.Author.Rules.{rules}
 use lib.ListN.{length, drop}
 use Rattle.aut68.specs.Pages.{text_of}
-use Rattle.page_rows.proofs.TextLaws.{unprinted_at, left_at, left_none}
 use Rattle.page_rows.proofs.first_text.Given as goal
 
 abbrev pub invariant-loop-i : goal.invariant-loop-i

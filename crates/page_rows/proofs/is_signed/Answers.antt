@@ -1,5 +1,4 @@
 use mathlib.Core.Path.{sym}
-use borrow.Author.Rules.{rules}
 use borrow.Author.Tests.{eq-eqb, ne_eqb}
 use Rattle.page_rows.proofs.TextLaws.{signed_left, none_left}
 use Rattle.page_rows.proofs.is_signed.Goals as goal

@@ -1,8 +1,6 @@
 use native.Mathlib.Omega.{arith}
-use borrow.Author.Rules.{rules}
-use lib.ListN.{length, drop, length-take, length-drop}
-use Rattle.aut68.specs.Pages.{text_of}
-use Rattle.page_rows.proofs.PageLaws.{LineSoFar, line_start, row_fits, line_row, less_left, line_end_lem}
+use lib.ListN.{length-take, length-drop}
+use Rattle.page_rows.proofs.PageLaws.{line_start, row_fits, line_row, less_left, line_end_lem}
 use Rattle.page_rows.proofs.put_line.Goals as goal
 
 pub loop-at-init : goal.loop-at-init

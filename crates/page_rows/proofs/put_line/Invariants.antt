@@ -1,8 +1,6 @@
-use native.Mathlib.Omega.{arith}
-use borrow.Author.Rules.{rules}
-use lib.ListN.{length, drop, length-take, length-drop}
+use lib.ListN.{length, drop}
 use Rattle.aut68.specs.Pages.{text_of}
-use Rattle.page_rows.proofs.PageLaws.{LineSoFar, line_start, row_fits, line_row, less_left, line_end_lem}
+use Rattle.page_rows.proofs.PageLaws.{LineSoFar}
 use Rattle.page_rows.proofs.put_line.Given as goal
 
 abbrev pub invariant-loop-at : goal.invariant-loop-at

@@ -1,5 +1,4 @@
 use native.Mathlib.Omega.{arith}
-use borrow.Author.Rules.{rules}
 use lib.ListN.{length-set}
 use Rattle.aut68.specs.Pages.{numbered}
 use Rattle.page_rows.proofs.RowLaws.{columns_put}

@@ -1,9 +1,8 @@
 use Prim.Native.Nat.{◌-◌}
 use native.Mathlib.Omega.{arith}
-use borrow.Author.Rules.{rules}
-use lib.ListN.{length, take, drop, length-take, length-drop}
+use lib.ListN.{take, drop, length-take, length-drop}
 use Rattle.page_rows.proofs.CountLaws.{Counted, counted_either}
-use Rattle.page_rows.proofs.PageLaws.{PagesSoFar, pages_start, line_fits, pages_line, pages_end}
+use Rattle.page_rows.proofs.PageLaws.{pages_start, line_fits, pages_line, pages_end}
 use Rattle.page_rows.proofs.put_pages.Goals as goal
 use Rattle.page_rows.proofs.put_pages.Goals.{Joined-is_signed, then-is_signed, else-is_signed}
 use mathlib.Core.Logic.{inl, inr}

@@ -1,9 +1,6 @@
 use Prim.Native.Nat.{◌-◌}
-use native.Mathlib.Omega.{arith}
-use borrow.Author.Rules.{rules}
-use lib.ListN.{length, length-take, length-drop}
-use Rattle.page_rows.proofs.CountLaws.{counted_either}
-use Rattle.page_rows.proofs.PageLaws.{PagesSoFar, pages_start, line_fits, pages_line, pages_end}
+use lib.ListN.{length}
+use Rattle.page_rows.proofs.PageLaws.{PagesSoFar}
 use Rattle.page_rows.proofs.put_pages.Given as goal
 
 abbrev pub invariant-loop-at : goal.invariant-loop-at

@@ -1,6 +1,5 @@
 use mathlib.Core.Path.{refl, sym, ◌∙◌}
 use native.Mathlib.Omega.{arith}
-use borrow.Author.Rules.{rules}
 use lib.ListN.{length-take}
 use Rattle.aut68.specs.Pages.{text_in}
 use Rattle.page_rows.proofs.RowLaws.{row_put_long, unfilled_long, row_put}

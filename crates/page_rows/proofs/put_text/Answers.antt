@@ -1,9 +1,6 @@
 use mathlib.Core.Path.{sym, ◌∙◌}
-use Prim.Native.Nat.{◌-◌}
 use native.Mathlib.Omega.{arith}
-use borrow.Author.Rules.{rules}
-use lib.ListN.{length}
-use Rattle.page_rows.proofs.TextLaws.{TextSoFar, text_start, text_byte_lem, other_byte, text_full, text_ended}
+use Rattle.page_rows.proofs.TextLaws.{text_start, text_byte_lem, other_byte, text_full, text_ended}
 use Rattle.page_rows.proofs.put_text.Goals as goal
 use Rattle.page_rows.proofs.put_text.Goals.{then-is_text+else-n-part, else-is_text}
 

@@ -1,10 +1,6 @@
-use mathlib.Core.Path.{sym, ◌∙◌}
-use mathlib.Core.Logic.{⊎_elim}
 use Prim.Native.Nat.{◌-◌}
-use native.Mathlib.Omega.{arith}
-use borrow.Author.Rules.{rules}
 use lib.ListN.{length}
-use Rattle.page_rows.proofs.TextLaws.{TextSoFar, text_start, text_byte_lem, other_byte, text_full, text_ended}
+use Rattle.page_rows.proofs.TextLaws.{TextSoFar}
 use Rattle.page_rows.proofs.put_text.Given as goal
 
 abbrev pub invariant-loop-i : goal.invariant-loop-i

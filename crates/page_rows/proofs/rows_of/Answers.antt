@@ -1,5 +1,4 @@
 use native.Mathlib.Omega.{arith}
-use borrow.Author.Rules.{rules}
 use Rattle.aut68.specs.Pages.{row_count}
 use Rattle.page_rows.proofs.rows_of.Goals as goal
 

@@ -1,9 +1,6 @@
-use mathlib.Core.Path.{◌≡◌, sym, ap, ◌∙◌}
-use Prim.Native.Nat.{◌+◌, ◌-◌, ◌≤◌}
+use mathlib.Core.Path.{sym, ap, ◌∙◌}
 use native.Mathlib.Omega.{arith}
-use borrow.Author.Rules.{rules}
-use lib.ListN.{length, drop}
-use Rattle.aut68.specs.Pages.{text_of}
+use lib.ListN.{length}
 use Rattle.page_rows.proofs.TextLaws.{printed_at, unprinted_at, no_text}
 use Rattle.page_rows.proofs.text_length.Goals as goal
 use Rattle.page_rows.proofs.text_length.Goals.{then-is_text, else-is_text}

@@ -1,11 +1,7 @@
-use mathlib.Core.Path.{◌≡◌, sym, ap, ◌∙◌}
-use mathlib.Core.Logic.{⊎_elim}
+use mathlib.Core.Path.{◌≡◌}
 use Prim.Native.Nat.{◌+◌, ◌-◌, ◌≤◌}
-use native.Mathlib.Omega.{arith}
-use borrow.Author.Rules.{rules}
 use lib.ListN.{length, drop}
 use Rattle.aut68.specs.Pages.{text_of}
-use Rattle.page_rows.proofs.TextLaws.{printed_at, unprinted_at, no_text}
 use Rattle.page_rows.proofs.text_length.Given as goal
 
 abbrev pub invariant-loop-i : goal.invariant-loop-i

@@ -2,7 +2,6 @@
 use mathlib.Core.Path.{sym}
 use mathlib.Core.Logic.{inl, inr}
 use lib.Seq.{length-take-le}
-use borrow.Author.Rules.{rules}
 use Rattle.pairs.proofs.Marking.{reaches_past, judged_pair}
 use Rattle.pairs.proofs.compare_pair.Goals as goal
 

@@ -1,5 +1,4 @@
-use Rattle.std.proofs.Common.{arith, rules}
-use Rattle.outcomes.specs.declared.answers.AnswerNumbers.{AnswerNumbers}
+use Rattle.std.proofs.Common.{arith}
 use Rattle.pairs.specs.declared.Pair.{Pair}
 use Rattle.pairs.proofs.Marking.{unmarked, marks}
 use Rattle.pairs.proofs.compare_pairs.Goals as goal

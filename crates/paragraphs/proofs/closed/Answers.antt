@@ -1,5 +1,5 @@
 use native.Mathlib.Omega.{arith}
-use Rattle.paragraphs.proofs.SeekLaws.{SeekingClosed, closed_all, closed_here, closed_outward, closed_outside}
+use Rattle.paragraphs.proofs.SeekLaws.{closed_all, closed_here, closed_outward, closed_outside}
 use Rattle.paragraphs.proofs.closed.Goals as goal
 
 pub loop-i-init : goal.loop-i-init

@@ -1,5 +1,4 @@
-use native.Mathlib.Omega.{arith}
-use Rattle.paragraphs.proofs.SeekLaws.{SeekingClosed, closed_all, closed_here, closed_outward, closed_outside}
+use Rattle.paragraphs.proofs.SeekLaws.{SeekingClosed}
 use Rattle.paragraphs.proofs.closed.Given as goal
 
 abbrev pub invariant-loop-i : goal.invariant-loop-i

@@ -1,5 +1,4 @@
 use Rattle.paragraphs.proofs.InLaws.{none_closed, open_yet, closed_there}
-use borrow.Author.Rules.{rules}
 use Rattle.paragraphs.proofs.closed_in.Goals as goal
 
 pub returns-then-n-eq0 : goal.returns-then-n-eq0

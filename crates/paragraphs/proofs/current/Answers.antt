@@ -1,5 +1,4 @@
 use Rattle.paragraphs.proofs.UseLaws.{current_told}
-use borrow.Author.Rules.{rules}
 use Rattle.paragraphs.proofs.current.Goals as goal
 
 pub returns : goal.returns

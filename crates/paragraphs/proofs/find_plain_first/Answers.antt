@@ -1,5 +1,4 @@
 use native.Mathlib.Omega.{arith}
-use borrow.Author.Rules.{rules}
 use Rattle.paragraphs.proofs.SeekLaws.{line_all, line_outside}
 use Rattle.paragraphs.proofs.UseLaws.{used_plain}
 use Rattle.paragraphs.proofs.find_plain_first.Goals as goal

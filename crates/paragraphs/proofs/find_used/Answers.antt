@@ -1,5 +1,4 @@
 use Rattle.paragraphs.proofs.UseLaws.{used_plain, used_nowhere, used_inside}
-use borrow.Author.Rules.{rules}
 use Rattle.paragraphs.proofs.find_used.Goals as goal
 
 pub returns-then-title-eq0 : goal.returns-then-title-eq0

@@ -1,5 +1,4 @@
 use Rattle.paragraphs.proofs.UseLaws.{taken_by_line, taken_by_paragraph}
-use borrow.Author.Rules.{rules}
 use Rattle.paragraphs.proofs.is_taken.Goals as goal
 
 pub returns-then-find-ne0 : goal.returns-then-find-ne0

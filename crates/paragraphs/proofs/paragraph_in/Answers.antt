@@ -1,5 +1,4 @@
 use Rattle.paragraphs.proofs.InLaws.{nothing_behind, in_note, not_in_note, in_book}
-use borrow.Author.Rules.{rules}
 use Rattle.paragraphs.proofs.paragraph_in.Goals as goal
 
 pub returns-then-count-q : goal.returns-then-count-q

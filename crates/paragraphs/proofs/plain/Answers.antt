@@ -1,5 +1,5 @@
 use native.Mathlib.Omega.{arith}
-use Rattle.paragraphs.proofs.SeekLaws.{SeekingLine, line_all, line_here, line_outward, line_outside}
+use Rattle.paragraphs.proofs.SeekLaws.{line_all, line_here, line_outward, line_outside}
 use Rattle.paragraphs.proofs.plain.Goals as goal
 
 pub loop-i-init : goal.loop-i-init

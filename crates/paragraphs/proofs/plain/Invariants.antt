@@ -1,5 +1,4 @@
-use native.Mathlib.Omega.{arith}
-use Rattle.paragraphs.proofs.SeekLaws.{SeekingLine, line_all, line_here, line_outward, line_outside}
+use Rattle.paragraphs.proofs.SeekLaws.{SeekingLine}
 use Rattle.paragraphs.proofs.plain.Given as goal
 
 abbrev pub invariant-loop-i : goal.invariant-loop-i

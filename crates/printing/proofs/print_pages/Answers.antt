@@ -1,6 +1,5 @@
 -- `print_pages`: a refusal is passed on; else the rows are counted, and the pages do not fit or are written.
 use native.Mathlib.Omega.{arith}
-use borrow.Author.Rules.{rules}
 use Rattle.aut68.specs.Language.{aut68}
 use Rattle.aut68.specs.Procedure.Calls.{decline_code}
 use Rattle.theorems.proofs.Admission.{refusal_code, accepted_short}

@@ -1,7 +1,6 @@
 -- `close_sheet`: the working store is cleared where there was a comparison.
 use mathlib.Core.Path.{refl}
 use native.Mathlib.Omega.{arith}
-use borrow.Author.Rules.{rules}
 use Rattle.sheets.proofs.close_sheet.Goals as goal
 
 pub shape_of-work : goal.shape_of-work

@@ -1,7 +1,6 @@
 -- `count`: the two cases of `counted`.
 use mathlib.Core.Path.{◌≡◌, refl}
 use Prim.Native.Nat.{ℕ, ◌≤◌, ◌<◌}
-use borrow.Author.Rules.{rules}
 use borrow.Author.Tests.{le-leb, lt-leb}
 use Rattle.pairs.specs.Sheet.{counted}
 use Rattle.sheets.proofs.count.Goals as goal

@@ -1,9 +1,6 @@
-use mathlib.Core.Path.{◌≡◌, refl}
-use mathlib.Core.Logic.{◌⊎◌, inl, inr}
-use Prim.Native.Nat.{◌-◌, ◌≤◌}
+use mathlib.Core.Path.{refl}
+use mathlib.Core.Logic.{inl, inr}
 use native.Mathlib.Omega.{arith}
-use lib.ListN.{length}
-use Rattle.strings.specs.Notes.{Filled}
 use Rattle.strings.proofs.NoteLaws.{fill_none, fill_more, fill_whole, fill_ends}
 use Rattle.strings.proofs.fill.Goals as goal
 

@@ -1,11 +1,8 @@
 -- `fill`: so far, the cells below index i are filled (NoteLaws).
-use mathlib.Core.Path.{◌≡◌, refl}
-use mathlib.Core.Logic.{◌⊎◌, inl, inr}
+use mathlib.Core.Path.{◌≡◌}
+use mathlib.Core.Logic.{◌⊎◌}
 use Prim.Native.Nat.{◌-◌, ◌≤◌}
-use native.Mathlib.Omega.{arith}
-use lib.ListN.{length}
 use Rattle.strings.specs.Notes.{Filled}
-use Rattle.strings.proofs.NoteLaws.{fill_none, fill_more, fill_whole, fill_ends}
 use Rattle.strings.proofs.fill.Given as goal
 
 abbrev pub invariant-loop-i : goal.invariant-loop-i

@@ -1,6 +1,6 @@
 use mathlib.Core.Path.{refl, sym}
 use mathlib.Core.Bool.{true≢false}
-use Prim.Native.Nat.{◌≤◌, ◌-◌}
+use Prim.Native.Nat.{◌-◌}
 use native.Mathlib.Omega.{arith}
 use Rattle.strings.proofs.WalkLaws.{Walked, walk_starts, walk_at, walk_behind, walk_ends, walked_past, walked_abstraction, walked_other}
 use Rattle.strings.proofs.is_bound.Goals as goal

@@ -1,7 +1,6 @@
 -- `is_noted`: by the note, or by walking back.
 use native.Mathlib.Omega.{arith}
 use Rattle.strings.proofs.NoteLaws.{noted_last}
-use borrow.Author.Rules.{rules}
 use Rattle.strings.proofs.is_noted.Goals as goal
 
 pub returns-then-at-w : goal.returns-then-at-w

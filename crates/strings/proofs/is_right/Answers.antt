@@ -1,8 +1,7 @@
 -- `is_right`: by the cell's kind (CellLaws).
-use mathlib.Core.Path.{refl, sym}
+use mathlib.Core.Path.{sym}
 use mathlib.Core.Bool.{true≢false}
 use native.Mathlib.Omega.{arith}
-use borrow.Author.Rules.{rules}
 use borrow.Author.Tests.{eqb-true, eq-eqb, ltb-true, lt-ltb}
 use Rattle.strings.proofs.CellLaws.{variable_right, right_variable, bound_right, right_bound, constant_right, right_constant, application_right, abstraction_right, right_number, right_kind}
 use Rattle.strings.proofs.is_right.Goals as goal

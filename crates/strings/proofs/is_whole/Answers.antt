@@ -1,13 +1,10 @@
-use mathlib.Core.Path.{◌≡◌, refl, ap}
-use mathlib.Core.List.{List, [], ◌∷◌}
-use Prim.Native.Nat.{ℕ, ◌-◌, ◌≤◌}
+use mathlib.Core.Path.{refl, ap}
+use mathlib.Core.List.{List}
+use Prim.Native.Nat.{ℕ}
 use native.Mathlib.Omega.{arith}
 use lib.ListN.{length, get_or}
-use Rattle.aut68.specs.Lines.{Lines}
-use Rattle.cells.specs.Rows.{Rows}
 use Rattle.strings.specs.Levels.{levels_at}
-use Rattle.strings.specs.Notes.{Notes}
-use Rattle.strings.proofs.CellLaws.{Reached, reached_start, levels_next}
+use Rattle.strings.proofs.CellLaws.{reached_start, levels_next}
 use Rattle.strings.proofs.NoteLaws.{notes_start, notes_next}
 use Rattle.strings.proofs.WholeLaws.{says_type, says_short, says_right, says_wrong, says_left_over, says_ended}
 use Rattle.strings.proofs.is_whole.Goals as goal

@@ -1,17 +1,13 @@
 -- `is_whole`: so many expressions are to come, and what is asked of the whole string is asked of what is left of it (CellLaws).
-use mathlib.Core.Path.{◌≡◌, refl, ap}
-use mathlib.Core.Logic.{⊎_elim}
-use mathlib.Core.List.{List, [], ◌∷◌}
-use Prim.Native.Nat.{ℕ, ◌-◌, ◌≤◌}
-use native.Mathlib.Omega.{arith}
-use lib.ListN.{length, get_or}
+use mathlib.Core.Path.{◌≡◌}
+use mathlib.Core.List.{[], ◌∷◌}
+use Prim.Native.Nat.{◌-◌, ◌≤◌}
+use lib.ListN.{length}
 use Rattle.aut68.specs.Lines.{Lines}
 use Rattle.cells.specs.Rows.{Rows}
 use Rattle.strings.specs.Levels.{levels_at}
 use Rattle.strings.specs.Notes.{Notes}
-use Rattle.strings.proofs.CellLaws.{Reached, reached_start, levels_next}
-use Rattle.strings.proofs.NoteLaws.{notes_start, notes_next}
-use Rattle.strings.proofs.WholeLaws.{says_type, says_short, says_right, says_wrong, says_left_over, says_ended}
+use Rattle.strings.proofs.CellLaws.{Reached}
 use Rattle.strings.proofs.is_whole.Given as goal
 
 abbrev pub invariant-loop-pending : goal.invariant-loop-pending

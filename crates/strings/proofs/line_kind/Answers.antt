@@ -1,6 +1,5 @@
 -- `line_kind`: the row's kind, of a line that there is.
 use mathlib.Core.Path.{refl}
-use Prim.Native.Nat.{ℕ, suc}
 use native.Mathlib.Omega.{arith}
 use Rattle.lookup.specs.LineNumbers.{line_positive, line_within}
 use Rattle.strings.specs.Posts.{no_line}

@@ -1,7 +1,6 @@
 -- `note_parts`: as many notes alike as parts, one of a binding more for a body (NoteLaws).
 use native.Mathlib.Omega.{arith}
 use Rattle.strings.proofs.NoteLaws.{parts_none, parts_alike, parts_bind}
-use borrow.Author.Rules.{rules}
 use Rattle.strings.proofs.note_parts.Goals as goal
 
 pub returns-then-at-w : goal.returns-then-at-w

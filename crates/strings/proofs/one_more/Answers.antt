@@ -1,7 +1,6 @@
 -- `one_more`: one binding more, or more than any bound variable counts.
 use native.Mathlib.Omega.{arith}
 use Rattle.strings.proofs.NoteLaws.{noted_more, noted_many}
-use borrow.Author.Rules.{rules}
 use Rattle.strings.proofs.one_more.Goals as goal
 
 pub returns-then-k-eq4294967295 : goal.returns-then-k-eq4294967295

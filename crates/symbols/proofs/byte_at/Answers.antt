@@ -1,7 +1,6 @@
 use native.Mathlib.Omega.{arith}
 use mathlib.Core.Path.{refl, sym}
 use lib.ListN.{get_or-eq_default}
-use borrow.Author.Rules.{rules}
 use Rattle.symbols.proofs.byte_at.Goals as goal
 
 pub overflow_cast-result : goal.overflow_cast-result

@@ -2,7 +2,6 @@ use native.Mathlib.Omega.{arith}
 use mathlib.Core.Path.{refl}
 use Prim.Native.Nat.{◌+◌}
 use Rattle.symbols.specs.Symbols.{four_at}
-use borrow.Author.Rules.{rules}
 use Rattle.symbols.proofs.four.Goals as goal
 
 pub overflow_cast-a : goal.overflow_cast-a

@@ -1,6 +1,5 @@
 use native.Mathlib.Omega.{arith}
 use Rattle.symbols.proofs.SameLaws.{four_short}
-use borrow.Author.Rules.{rules}
 use Rattle.symbols.proofs.four_at.Goals as goal
 
 pub four-requires : goal.four-requires

@@ -1,4 +1,3 @@
-use borrow.Author.Rules.{rules}
 use mathlib.Core.Path.{sym, ◌∙◌}
 use Rattle.aut68.specs.Bytes.{word_type, word_pn, word_eb}
 use Rattle.symbols.proofs.WordLaws.{reserved_type, reserved_pn, reserved_eb}

@@ -1,4 +1,3 @@
-use borrow.Author.Rules.{rules}
 use native.Mathlib.Omega.{arith}
 use Rattle.symbols.proofs.SymbolLaws.{kind_here, kind_end}
 use Rattle.symbols.proofs.kind_at.Goals as goal

@@ -1,8 +1,6 @@
 use mathlib.Core.Path.{sym, ◌∙◌}
-use Prim.Native.Nat.{◌-◌, ◌+◌, ◌≤◌}
 use native.Mathlib.Omega.{arith}
-use lib.ListN.{length}
-use Rattle.symbols.proofs.SameLaws.{SameSoFar, same_start, same_four_more, same_four_stop, same_four_last, same_last, lengths_differ}
+use Rattle.symbols.proofs.SameLaws.{same_start, same_four_more, same_four_stop, same_four_last, same_last, lengths_differ}
 use Rattle.symbols.proofs.same_bytes.Goals as goal
 
 pub returns-then-a-b : goal.returns-then-a-b

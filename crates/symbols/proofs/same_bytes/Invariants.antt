@@ -1,8 +1,6 @@
-use mathlib.Core.Path.{sym, ◌∙◌}
 use Prim.Native.Nat.{◌-◌, ◌+◌, ◌≤◌}
-use native.Mathlib.Omega.{arith}
 use lib.ListN.{length}
-use Rattle.symbols.proofs.SameLaws.{SameSoFar, same_start, same_four_more, same_four_stop, same_four_last, same_last, lengths_differ}
+use Rattle.symbols.proofs.SameLaws.{SameSoFar}
 use Rattle.symbols.proofs.same_bytes.Given as goal
 
 abbrev pub invariant-loop-i : goal.invariant-loop-i

@@ -1,8 +1,6 @@
 use mathlib.Core.Path.{refl, sym}
-use Prim.Native.Nat.{◌-◌}
 use native.Mathlib.Omega.{arith}
-use lib.ListN.{length}
-use Rattle.symbols.proofs.SameLaws.{SameSoFar, same_start, same_more, same_stop, same_last, lengths_differ}
+use Rattle.symbols.proofs.SameLaws.{same_start, same_more, same_stop, same_last, lengths_differ}
 use Rattle.symbols.proofs.same_word.Goals as goal
 
 pub returns-then-word-fixed : goal.returns-then-word-fixed

@@ -1,7 +1,5 @@
-use Prim.Native.Nat.{◌-◌}
 use native.Mathlib.Omega.{arith}
-use lib.ListN.{length}
-use Rattle.symbols.proofs.SymbolLaws.{SpacesSoFar, spaces_start, spaces_more, spaces_stop, spaces_last}
+use Rattle.symbols.proofs.SymbolLaws.{spaces_start, spaces_more, spaces_stop, spaces_last}
 use Rattle.symbols.proofs.spaces.Goals as goal
 
 pub loop-i-init : goal.loop-i-init

@@ -1,7 +1,6 @@
 use Prim.Native.Nat.{◌-◌}
-use native.Mathlib.Omega.{arith}
 use lib.ListN.{length}
-use Rattle.symbols.proofs.SymbolLaws.{SpacesSoFar, spaces_start, spaces_more, spaces_stop, spaces_last}
+use Rattle.symbols.proofs.SymbolLaws.{SpacesSoFar}
 use Rattle.symbols.proofs.spaces.Given as goal
 
 abbrev pub invariant-loop-i : goal.invariant-loop-i

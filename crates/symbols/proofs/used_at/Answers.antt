@@ -1,4 +1,3 @@
-use borrow.Author.Rules.{rules}
 use native.Mathlib.Omega.{arith}
 use Rattle.symbols.proofs.UsedLaws.{used_outside, used_missing, used_alone, used_pointed}
 use Rattle.symbols.proofs.used_at.Goals as goal

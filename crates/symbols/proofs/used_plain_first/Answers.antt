@@ -1,4 +1,3 @@
-use borrow.Author.Rules.{rules}
 use native.Mathlib.Omega.{arith}
 use Rattle.symbols.proofs.UsedLaws.{name_inside, used_alone}
 use Rattle.symbols.proofs.used_plain_first.Goals as goal

@@ -1,8 +1,6 @@
-use Prim.Native.Nat.{◌-◌}
 use native.Mathlib.Omega.{arith}
 use mathlib.Core.Path.{sym, ◌∙◌}
-use lib.ListN.{length}
-use Rattle.symbols.proofs.WordLaws.{WordSoFar, word_start, word_more, word_stop, word_last}
+use Rattle.symbols.proofs.WordLaws.{word_start, word_more, word_stop, word_last}
 use Rattle.symbols.proofs.word_end.Goals as goal
 
 pub loop-i-init : goal.loop-i-init

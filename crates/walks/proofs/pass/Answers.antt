@@ -1,6 +1,5 @@
 use mathlib.Core.Path.{refl, ◌∙◌}
 use native.Mathlib.Omega.{arith}
-use borrow.Author.Rules.{rules}
 use Rattle.walks.proofs.LineLaws.{passed_opening, passed_other}
 use Rattle.walks.proofs.pass.Goals as goal
 use Rattle.walks.proofs.pass.Goals.{then-deep-eq0, else-deep-eq0}

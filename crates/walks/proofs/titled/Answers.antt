@@ -1,5 +1,4 @@
 use mathlib.Core.Path.{ap, ◌∙◌}
-use borrow.Author.Rules.{rules}
 use Rattle.aut68.specs.Bytes.{same_bytes}
 use Rattle.walks.proofs.LineLaws.{title_read}
 use Rattle.walks.proofs.titled.Goals as goal

@@ -1,8 +1,5 @@
-use Prim.Native.Nat.{◌-◌}
 use native.Mathlib.Omega.{arith}
-use borrow.Author.Rules.{rules}
-use lib.ListN.{length}
-use Rattle.walks.proofs.LoopLaws.{WalkSoFar, so_far_start, so_far_end, so_far_line, so_far_found}
+use Rattle.walks.proofs.LoopLaws.{so_far_start, so_far_end, so_far_line, so_far_found}
 use Rattle.walks.proofs.walk.Goals as goal
 
 pub returns-then-q-ge-CELL_VALUES : goal.returns-then-q-ge-CELL_VALUES

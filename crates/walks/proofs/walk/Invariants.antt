@@ -1,8 +1,6 @@
 use Prim.Native.Nat.{◌-◌}
-use native.Mathlib.Omega.{arith}
-use borrow.Author.Rules.{rules}
 use lib.ListN.{length}
-use Rattle.walks.proofs.LoopLaws.{WalkSoFar, so_far_start, so_far_end, so_far_line, so_far_found}
+use Rattle.walks.proofs.LoopLaws.{WalkSoFar}
 use Rattle.walks.proofs.walk.Given as goal
 
 abbrev pub invariant-loop-at : goal.invariant-loop-at

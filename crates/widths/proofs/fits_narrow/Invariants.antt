@@ -1,10 +1,6 @@
 use Prim.Native.Nat.{ℕ, ◌-◌, ◌<◌, ◌≤◌}
-use mathlib.Core.Path.{sym}
-use native.Mathlib.Omega.{arith}
 use lib.ListN.{length, get_or}
-use borrow.Author.Count.{below_none, below_more}
 use Rattle.aut68.specs.Sizes.{narrow_values}
-use Rattle.widths.specs.Fitting.{fits_each, fits_not}
 use Rattle.widths.proofs.fits_narrow.Given as goal
 
 abbrev pub invariant-loop-i : goal.invariant-loop-i

@@ -1,6 +1,5 @@
 -- `narrow`: the target is too short, or the source is put into it, or a cell is too large.
 use native.Mathlib.Omega.{arith}
-use borrow.Author.Rules.{rules}
 use Rattle.widths.specs.Conversions.{converts_too_small, converts_too_large, converts_written}
 use Rattle.widths.proofs.narrow.Goals as goal
 

@@ -1,10 +1,8 @@
 use mathlib.Core.Path.{refl}
-use Prim.Native.Nat.{◌-◌}
 use native.Mathlib.Omega.{arith}
-use lib.ListN.{length}
 use Rattle.aut68.specs.Sizes.{narrow_values}
 use Rattle.widths.specs.Fitting.{fits_at}
-use Rattle.widths.specs.Conversions.{Copying, converted_none, converted_more, converted_all}
+use Rattle.widths.specs.Conversions.{converted_none, converted_more, converted_all}
 use Rattle.widths.proofs.narrow_cells.Goals as goal
 
 pub loop-i-init : goal.loop-i-init

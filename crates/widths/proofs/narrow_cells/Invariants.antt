@@ -1,10 +1,6 @@
-use mathlib.Core.Path.{refl}
 use Prim.Native.Nat.{◌-◌}
-use native.Mathlib.Omega.{arith}
 use lib.ListN.{length}
-use Rattle.aut68.specs.Sizes.{narrow_values}
-use Rattle.widths.specs.Fitting.{fits_at}
-use Rattle.widths.specs.Conversions.{Copying, converted_none, converted_more, converted_all}
+use Rattle.widths.specs.Conversions.{Copying}
 use Rattle.widths.proofs.narrow_cells.Given as goal
 
 abbrev pub invariant-loop-i : goal.invariant-loop-i

@@ -1,6 +1,5 @@
 -- `widen`: the target is too short, or the source is put into it; each of its cells fits.
 use native.Mathlib.Omega.{arith}
-use borrow.Author.Rules.{rules}
 use Rattle.aut68.specs.Sizes.{cell_values}
 use Rattle.widths.specs.Fitting.{fits_each}
 use Rattle.widths.specs.Conversions.{converts_too_small, converts_written}

@@ -5,7 +5,6 @@ use lib.Seq.{length-take-le}
 use Rattle.aut68.specs.Language.{aut68}
 use Rattle.aut68.specs.Procedure.Answer.{code_of}
 use Rattle.books.proofs.AdmissionLaws.{low_limit, high_limit, little_work, long_book, ended}
-use borrow.Author.Rules.{rules}
 use Rattle.books.proofs.admission.admit.Goals as goal
 
 pub returns-then-most-lt-SMALLEST_LIMIT : goal.returns-then-most-lt-SMALLEST_LIMIT

@@ -1,10 +1,7 @@
-use mathlib.Core.Path.{◌≡◌, refl, ◌∙◌}
-use mathlib.Core.List.{List}
-use Prim.Native.Nat.{ℕ, ◌-◌}
+use mathlib.Core.Path.{refl, ◌∙◌}
+use Prim.Native.Nat.{◌-◌}
 use native.Mathlib.Omega.{arith}
-use lib.ListN.{length}
 use Rattle.aut68.specs.Stores.{stores}
-use Rattle.books.specs.Loop.{Going}
 use Rattle.books.proofs.LoopLaws.{stands_first, going_starts, going_ends, ends_as, going_as, fitting_as}
 use Rattle.books.proofs.PieceLaws.{sign_passes, sign_stops, line_passes, line_stops}
 use Rattle.books.proofs.lines.check_linked.Goals as goal

@@ -1,13 +1,10 @@
 -- `check_linked`: while it goes on, what is recorded decides how the book ends (`Going`). The bytes that are left fall.
-use mathlib.Core.Path.{◌≡◌, refl, ◌∙◌}
+use mathlib.Core.Path.{◌≡◌}
 use mathlib.Core.List.{List}
 use Prim.Native.Nat.{ℕ, ◌-◌}
-use native.Mathlib.Omega.{arith}
 use lib.ListN.{length}
 use Rattle.aut68.specs.Stores.{stores}
 use Rattle.books.specs.Loop.{Going}
-use Rattle.books.proofs.LoopLaws.{stands_first, going_starts, going_ends, ends_as, going_as, fitting_as}
-use Rattle.books.proofs.PieceLaws.{sign_passes, sign_stops, line_passes, line_stops}
 use Rattle.books.proofs.lines.check_linked.Given as goal
 
 abbrev pub invariant-loop-p : goal.invariant-loop-p

@@ -3,7 +3,6 @@ use mathlib.Core.Path.{sym}
 use native.Mathlib.Omega.{arith}
 use lib.Seq.{length-take-le}
 use Rattle.books.proofs.PieceLaws.{moved_part}
-use borrow.Author.Rules.{rules}
 use Rattle.books.proofs.lines.check_signed.Goals as goal
 
 pub returns-then-limit-w : goal.returns-then-limit-w

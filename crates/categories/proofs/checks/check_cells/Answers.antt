@@ -1,6 +1,5 @@
 -- `check_cells`: one check after the other.
 use Rattle.categories.proofs.LineChecks.{cells_refused, cells_checked}
-use borrow.Author.Rules.{rules}
 use Rattle.categories.proofs.checks.check_cells.Goals as goal
 
 pub returns-then-code-ne0 : goal.returns-then-code-ne0

@@ -2,7 +2,6 @@
 use mathlib.Core.Path.{refl}
 use native.Mathlib.Omega.{arith}
 use Rattle.categories.proofs.LineChecks.{middle_none, middle_past, middle_refused, middle_compared}
-use borrow.Author.Rules.{rules}
 use Rattle.categories.proofs.checks.check_middle.Goals as goal
 
 pub returns-then-start-at : goal.returns-then-start-at

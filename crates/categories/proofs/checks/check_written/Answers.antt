@@ -1,6 +1,5 @@
 -- `check_written`: `type`, or an expression whose category is `type`.
 use Rattle.categories.proofs.LineChecks.{written_past, written_is_type, written_found}
-use borrow.Author.Rules.{rules}
 use Rattle.categories.proofs.checks.check_written.Goals as goal
 
 pub returns-then-at-terms : goal.returns-then-at-terms

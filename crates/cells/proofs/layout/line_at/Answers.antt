@@ -1,4 +1,3 @@
-use borrow.Author.Rules.{rules}
 use Rattle.cells.proofs.layout.line_at.Goals as goal
 
 pub returns : goal.returns

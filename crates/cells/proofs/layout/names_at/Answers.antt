@@ -1,5 +1,4 @@
 use native.Mathlib.Omega.{arith}
-use borrow.Author.Rules.{rules}
 use Rattle.cells.specs.Layout.{unit_at}
 use Rattle.cells.proofs.layout.names_at.Goals as goal
 

@@ -1,7 +1,6 @@
 use mathlib.Core.Path.{refl}
 use native.Mathlib.Omega.{arith}
 use Rattle.cells.specs.Layout.{unit_at, unit_small}
-use borrow.Author.Rules.{rules}
 use Rattle.cells.proofs.layout.unit_at.Goals as goal
 
 pub overflow_mul-result : goal.overflow_mul-result

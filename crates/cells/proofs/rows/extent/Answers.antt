@@ -4,7 +4,6 @@ use lib.ListN.{length}
 use Rattle.aut68.specs.Expr.{cons, nil, count_exprs}
 use Rattle.cells.specs.Cells.{AllFormed}
 use Rattle.cells.specs.Forests.{at_inside, at_one, cells_one, cells_long, size_is_length}
-use borrow.Author.Rules.{rules}
 use Rattle.cells.proofs.rows.extent.Goals as goal
 
 pub returns-then-at-s : goal.returns-then-at-s

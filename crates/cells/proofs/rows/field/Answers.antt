@@ -2,7 +2,6 @@ use mathlib.Core.Path.{sym, ap, ◌∙◌}
 use Prim.Native.Nat.{ℕ, ◌+◌, ◌*◌, ◌-◌}
 use native.Mathlib.Omega.{arith}
 use lib.ListN.{get_or}
-use borrow.Author.Rules.{rules}
 use Rattle.aut68.specs.Sizes.{row_width}
 use Rattle.cells.specs.RowLaws.{row_cell_of_none, row_cell_is, row_cell_past}
 use Rattle.cells.proofs.rows.field.Goals as goal

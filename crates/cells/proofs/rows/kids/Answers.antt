@@ -1,7 +1,6 @@
 use native.Mathlib.Omega.{arith}
 use mathlib.Core.Path.{sym, ◌∙◌}
 use Rattle.cells.specs.RowLaws.{parts_after_constant, parts_after_application, parts_after_abstraction, parts_after_other}
-use borrow.Author.Rules.{rules}
 use Rattle.cells.proofs.rows.kids.Goals as goal
 
 pub returns-in-3 : goal.returns-in-3

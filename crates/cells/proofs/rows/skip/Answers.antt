@@ -1,12 +1,7 @@
-use Prim.Native.Nat.{ℕ, ◌-◌, ◌≤◌, ◌<◌}
-use mathlib.Core.Path.{◌≡◌, refl}
-use mathlib.Core.Logic.{◌⊎◌, inl, inr, ⊎_elim}
-use mathlib.Core.List.{List}
+use mathlib.Core.Path.{refl}
+use mathlib.Core.Logic.{inl, inr, ⊎_elim}
 use native.Mathlib.Omega.{arith}
-use lib.ListN.{length}
-use Rattle.aut68.specs.Expr.{Exprs, cellss, count_exprs}
-use Rattle.cells.specs.Cells.{At, Wfs, AnyVariable}
-use Rattle.cells.specs.Forests.{Pending, pass_cell, pending_long}
+use Rattle.cells.specs.Forests.{pass_cell, pending_long}
 use Rattle.cells.specs.RowLaws.{pending_end}
 use Rattle.cells.proofs.rows.skip.Goals as goal
 

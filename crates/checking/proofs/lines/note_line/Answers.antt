@@ -4,7 +4,6 @@ use mathlib.Core.Path.{sym}
 use native.Mathlib.Omega.{arith}
 use lib.Seq.{length-take-le}
 use Rattle.checking.proofs.HintLaws.{not_noted, line_noted}
-use borrow.Author.Rules.{rules}
 use Rattle.checking.proofs.lines.note_line.Goals as goal
 
 pub returns-then-lines-ge-LAST_LINE : goal.returns-then-lines-ge-LAST_LINE

@@ -1,11 +1,10 @@
 use native.Mathlib.Omega.{arith}
-use Prim.Native.Nat.{ℕ, ◌+◌, ◌*◌, ◌≤◌, ◌<◌}
+use Prim.Native.Nat.{ℕ, ◌+◌}
 use mathlib.Core.Path.{refl, ◌∙◌}
-use Rattle.aut68.specs.Procedure.PartsFirst.{parts_first_at}
 use Rattle.sides.proofs.ProgressLaws.{put_in_place}
 use Rattle.comparison.proofs.Depths.{no_levels, many_levels, no_units, Opened, side_small}
-use Rattle.comparison.proofs.Parts.{PartsInvariant, shapes_differ, parts_start, parts_done, parts_stopped, parts_next}
-use Rattle.comparison.proofs.Attempts.{parts_first_none, Passed, passed_none, first_same, pass_same, pass_stands, pass_different, pass_ended, pass_next}
+use Rattle.comparison.proofs.Parts.{shapes_differ, parts_start, parts_done, parts_stopped, parts_next}
+use Rattle.comparison.proofs.Attempts.{parts_first_none, passed_none, first_same, pass_same, pass_stands, pass_different, pass_ended, pass_next}
 use Rattle.comparison.proofs.parts_first.+attempt_compare_parts_first.Goals as goal
 use Rattle.comparison.proofs.parts_first.+attempt_compare_parts_first.Goals.{compare_parts_first-After-side_at-l}
 

@@ -1,4 +1,3 @@
-use borrow.Author.Rules.{rules}
 use Rattle.completion.proofs.LeftOutLaws.{left_out_here, left_out_nowhere}
 use Rattle.completion.proofs.completion.last_left_out.Goals as goal
 

@@ -1,6 +1,4 @@
 use native.Mathlib.Omega.{arith}
-use Prim.Native.Nat.{◌-◌, ◌≤◌}
-use Rattle.completion.specs.Posts.{LineUp}
 use Rattle.completion.proofs.UpLaws.{up_none, up_more, up_all}
 use Rattle.completion.proofs.completion.line_up.Goals as goal
 

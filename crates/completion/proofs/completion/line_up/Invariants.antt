@@ -1,7 +1,5 @@
-use native.Mathlib.Omega.{arith}
 use Prim.Native.Nat.{◌-◌, ◌≤◌}
 use Rattle.completion.specs.Posts.{LineUp}
-use Rattle.completion.proofs.UpLaws.{up_none, up_more, up_all}
 use Rattle.completion.proofs.completion.line_up.Given as goal
 
 abbrev pub invariant-loop-i : goal.invariant-loop-i

@@ -1,5 +1,4 @@
 use native.Mathlib.Omega.{arith}
-use borrow.Author.Rules.{rules}
 use mathlib.Core.Path.{refl}
 use Rattle.completion.proofs.PutInLaws.{no_room, put_in_all}
 use Rattle.completion.proofs.completion.put_in.Goals as goal

@@ -1,6 +1,4 @@
 use native.Mathlib.Omega.{arith}
-use Prim.Native.Nat.{◌+◌, ◌-◌, ◌≤◌}
-use Rattle.completion.specs.Posts.{LineUp, VariablesPut}
 use Rattle.completion.proofs.UpLaws.{up_none, up_more}
 use Rattle.completion.proofs.VariableLaws.{variables_none, variables_more, variables_all}
 use Rattle.completion.proofs.completion.put_variables.Goals as goal

@@ -1,6 +1,4 @@
 use native.Mathlib.Omega.{arith}
-use Prim.Native.Nat.{◌≤◌}
-use Rattle.completion.specs.Posts.{ShiftedUp}
 use Rattle.completion.proofs.ShiftLaws.{shifted_none, shifted_more, shifted_all}
 use Rattle.completion.proofs.completion.shift_up.Goals as goal
 

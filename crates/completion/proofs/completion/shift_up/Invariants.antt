@@ -1,7 +1,5 @@
-use native.Mathlib.Omega.{arith}
 use Prim.Native.Nat.{◌≤◌}
 use Rattle.completion.specs.Posts.{ShiftedUp}
-use Rattle.completion.proofs.ShiftLaws.{shifted_none, shifted_more, shifted_all}
 use Rattle.completion.proofs.completion.shift_up.Given as goal
 
 abbrev pub invariant-loop-i : goal.invariant-loop-i

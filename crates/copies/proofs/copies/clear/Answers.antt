@@ -1,8 +1,7 @@
-use mathlib.Core.Path.{◌≡◌, refl, sym}
-use Prim.Native.Nat.{◌-◌, ◌≤◌}
+use mathlib.Core.Path.{refl, sym}
 use native.Mathlib.Omega.{arith}
-use lib.ListN.{length, length-set}
-use Rattle.cells.specs.CopyLaws.{zeros, zeros_none, zeros_all, zeros_turn, cleared_not}
+use lib.ListN.{length-set}
+use Rattle.cells.specs.CopyLaws.{zeros_none, zeros_all, zeros_turn, cleared_not}
 use Rattle.copies.proofs.copies.clear.Goals as goal
 
 pub loop-i-init : goal.loop-i-init

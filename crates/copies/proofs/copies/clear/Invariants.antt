@@ -1,8 +1,7 @@
-use mathlib.Core.Path.{◌≡◌, refl, sym}
+use mathlib.Core.Path.{◌≡◌}
 use Prim.Native.Nat.{◌-◌, ◌≤◌}
-use native.Mathlib.Omega.{arith}
-use lib.ListN.{length, length-set}
-use Rattle.cells.specs.CopyLaws.{zeros, zeros_none, zeros_all, zeros_turn, cleared_not}
+use lib.ListN.{length}
+use Rattle.cells.specs.CopyLaws.{zeros}
 use Rattle.copies.proofs.copies.clear.Given as goal
 
 abbrev pub invariant-loop-i : goal.invariant-loop-i

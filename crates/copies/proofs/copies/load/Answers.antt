@@ -1,9 +1,8 @@
-use mathlib.Core.Path.{◌≡◌, refl, sym, ◌∙◌}
-use Prim.Native.Nat.{◌+◌, ◌-◌, ◌≤◌}
+use mathlib.Core.Path.{refl, sym, ◌∙◌}
 use native.Mathlib.Omega.{arith}
-use lib.ListN.{length, length-set}
+use lib.ListN.{length-set}
 use borrow.Author.Tests.{leb-true, leb-false}
-use Rattle.cells.specs.CopyLaws.{copied, copied_none, copied_turn, copied_all, copy_no_source, copy_no_target}
+use Rattle.cells.specs.CopyLaws.{copied_none, copied_turn, copied_all, copy_no_source, copy_no_target}
 use Rattle.copies.proofs.copies.load.Goals as goal
 
 pub loop-i-init : goal.loop-i-init

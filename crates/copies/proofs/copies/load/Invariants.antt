@@ -1,9 +1,7 @@
-use mathlib.Core.Path.{◌≡◌, refl, sym, ◌∙◌}
+use mathlib.Core.Path.{◌≡◌}
 use Prim.Native.Nat.{◌+◌, ◌-◌, ◌≤◌}
-use native.Mathlib.Omega.{arith}
-use lib.ListN.{length, length-set}
-use borrow.Author.Tests.{leb-true, leb-false}
-use Rattle.cells.specs.CopyLaws.{copied, copied_none, copied_turn, copied_all, copy_no_source, copy_no_target}
+use lib.ListN.{length}
+use Rattle.cells.specs.CopyLaws.{copied}
 use Rattle.copies.proofs.copies.load.Given as goal
 
 abbrev pub invariant-loop-i : goal.invariant-loop-i

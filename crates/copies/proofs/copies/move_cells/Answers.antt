@@ -1,10 +1,9 @@
-use mathlib.Core.Path.{◌≡◌, refl, sym, ◌∙◌}
-use mathlib.Core.Logic.{◌⊎◌, inl, inr}
-use Prim.Native.Nat.{◌+◌, ◌-◌, ◌≤◌}
+use mathlib.Core.Path.{refl, sym, ◌∙◌}
+use mathlib.Core.Logic.{inl, inr}
 use native.Mathlib.Omega.{arith}
-use lib.ListN.{length, length-set}
+use lib.ListN.{length-set}
 use borrow.Author.Tests.{leb-true, leb-false}
-use Rattle.cells.specs.CopyLaws.{copied, copied_none, copied_turn, copied_all, move_inside, move_apart, move_no_source, move_no_target, moved_next}
+use Rattle.cells.specs.CopyLaws.{copied_none, copied_turn, copied_all, move_inside, move_apart, move_no_source, move_no_target, moved_next}
 use Rattle.copies.proofs.copies.move_cells.Goals as goal
 use Rattle.copies.proofs.copies.move_cells.Goals.{then-to-from+else-to-from-2, else-to-from}
 

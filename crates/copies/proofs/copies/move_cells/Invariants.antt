@@ -1,10 +1,8 @@
-use mathlib.Core.Path.{◌≡◌, refl, sym, ◌∙◌}
-use mathlib.Core.Logic.{◌⊎◌, inl, inr, ⊎_elim}
+use mathlib.Core.Path.{◌≡◌}
+use mathlib.Core.Logic.{◌⊎◌}
 use Prim.Native.Nat.{◌+◌, ◌-◌, ◌≤◌}
-use native.Mathlib.Omega.{arith}
-use lib.ListN.{length, length-set}
-use borrow.Author.Tests.{leb-true, leb-false}
-use Rattle.cells.specs.CopyLaws.{copied, copied_none, copied_turn, copied_all, move_inside, move_apart, move_no_source, move_no_target, moved_next}
+use lib.ListN.{length}
+use Rattle.cells.specs.CopyLaws.{copied}
 use Rattle.copies.proofs.copies.move_cells.Given as goal
 
 abbrev pub invariant-loop-i : goal.invariant-loop-i

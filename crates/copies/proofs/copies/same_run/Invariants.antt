@@ -1,9 +1,6 @@
-use mathlib.Core.Path.{◌≡◌, refl, sym, ◌∙◌}
+use mathlib.Core.Path.{◌≡◌}
 use Prim.Native.Nat.{◌+◌, ◌-◌, ◌≤◌}
-use native.Mathlib.Omega.{arith}
 use lib.ListN.{length, take, drop}
-use borrow.Author.Tests.{leb-true, leb-false}
-use Rattle.cells.specs.SameCells.{same_end, same_differ, same_no_first, same_no_second, equal_more_lem}
 use Rattle.copies.proofs.copies.same_run.Given as goal
 
 abbrev pub invariant-loop-i : goal.invariant-loop-i

@@ -1,13 +1,8 @@
 use mathlib.Core.Path.{◌≡◌, refl, sym, ◌∙◌}
-use mathlib.Core.List.{List}
-use Prim.Native.Nat.{ℕ, ◌+◌, ◌-◌, ◌≤◌, ◌<◌}
+use Prim.Native.Nat.{◌+◌, ◌<◌}
 use native.Mathlib.Omega.{arith}
 use lib.ListN.{length}
-use lib.Seq.{slice}
-use Rattle.cells.specs.Numbers.{numbers_in}
-use Rattle.entries.specs.Collected.{slot_count, Adds}
 use Rattle.entries.specs.CollectedLaws.{adds_start, adds_turn, adds_same}
-use Rattle.entries.proofs.collecting.collect.Invariants.{Passed}
 use Rattle.entries.proofs.collecting.collect.Goals as goal
 use Rattle.entries.proofs.collecting.collect.Goals.{then-names_line, else-names_line}
 

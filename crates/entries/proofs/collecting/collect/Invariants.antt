@@ -1,13 +1,10 @@
-use mathlib.Core.Path.{◌≡◌, refl, sym, ◌∙◌}
-use mathlib.Core.Logic.{⊎_elim}
+use mathlib.Core.Path.{◌≡◌}
 use mathlib.Core.List.{List}
-use Prim.Native.Nat.{ℕ, ◌+◌, ◌-◌, ◌≤◌, ◌<◌}
-use native.Mathlib.Omega.{arith}
+use Prim.Native.Nat.{ℕ, ◌+◌, ◌-◌, ◌≤◌}
 use lib.ListN.{length}
 use lib.Seq.{slice}
 use Rattle.cells.specs.Numbers.{numbers_in}
 use Rattle.entries.specs.Collected.{slot_count, Adds}
-use Rattle.entries.specs.CollectedLaws.{adds_start, adds_turn, adds_same}
 use Rattle.entries.proofs.collecting.collect.Given as goal
 
 -- i cells are passed

@@ -1,8 +1,6 @@
-use mathlib.Core.Path.{◌≡◌, refl}
-use Prim.Native.Nat.{ℕ, ◌+◌, ◌-◌, ◌≤◌, ◌<◌}
+use mathlib.Core.Path.{refl}
 use native.Mathlib.Omega.{arith}
-use lib.ListN.{length, get_or, length-set}
-use Rattle.entries.specs.Collected.{slot_count, no_line, Spared}
+use lib.ListN.{length-set}
 use Rattle.entries.specs.CollectedLaws.{spared_same, spared_then, spared_slot, emptied_turn, emptied}
 use Rattle.entries.proofs.collecting.empty.Goals as goal
 

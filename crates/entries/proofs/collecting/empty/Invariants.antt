@@ -1,9 +1,7 @@
-use mathlib.Core.Path.{◌≡◌, refl}
+use mathlib.Core.Path.{◌≡◌}
 use Prim.Native.Nat.{ℕ, ◌+◌, ◌-◌, ◌≤◌, ◌<◌}
-use native.Mathlib.Omega.{arith}
-use lib.ListN.{length, get_or, length-set}
+use lib.ListN.{length, get_or}
 use Rattle.entries.specs.Collected.{slot_count, no_line, Spared}
-use Rattle.entries.specs.CollectedLaws.{spared_same, spared_then, spared_slot, emptied_turn, emptied}
 use Rattle.entries.proofs.collecting.empty.Given as goal
 
 abbrev pub invariant-loop-i : goal.invariant-loop-i

@@ -1,8 +1,7 @@
-use mathlib.Core.Path.{◌≡◌, refl, sym}
-use Prim.Native.Nat.{suc, ◌+◌, ◌-◌, ◌≤◌}
+use mathlib.Core.Path.{refl, sym}
 use native.Mathlib.Omega.{arith}
-use lib.ListN.{length, length-set}
-use Rattle.cells.specs.CopyLaws.{copied, copied_none, copied_turn}
+use lib.ListN.{length-set}
+use Rattle.cells.specs.CopyLaws.{copied_none, copied_turn}
 use Rattle.entries.specs.EntryLaws.{entry_put}
 use Rattle.entries.proofs.entries.put_entry.Goals as goal
 

@@ -1,9 +1,7 @@
-use mathlib.Core.Path.{◌≡◌, refl, sym}
+use mathlib.Core.Path.{◌≡◌}
 use Prim.Native.Nat.{suc, ◌+◌, ◌-◌, ◌≤◌}
-use native.Mathlib.Omega.{arith}
-use lib.ListN.{length, length-set}
-use Rattle.cells.specs.CopyLaws.{copied, copied_none, copied_turn}
-use Rattle.entries.specs.EntryLaws.{entry_put}
+use lib.ListN.{length}
+use Rattle.cells.specs.CopyLaws.{copied}
 use Rattle.entries.proofs.entries.put_entry.Given as goal
 
 abbrev pub invariant-loop-i : goal.invariant-loop-i

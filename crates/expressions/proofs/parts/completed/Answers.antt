@@ -1,6 +1,5 @@
 use mathlib.Core.Path.{refl}
 use native.Mathlib.Omega.{arith}
-use borrow.Author.Rules.{rules}
 use Rattle.expressions.proofs.CompletedLaws.{completed_refused, completed_faulty, completed_written, completed_too_many, completed_cannot, completed_too_deep, completed_put_in}
 use Rattle.expressions.proofs.parts.completed.Goals as goal
 

@@ -1,6 +1,5 @@
 use Prim.Native.Nat.{◌+◌}
 use native.Mathlib.Omega.{arith}
-use borrow.Author.Rules.{rules}
 use Rattle.symbols.proofs.SymbolLaws.{part}
 use Rattle.expressions.proofs.NamedLaws.{sought_after_fault, sought_meaning}
 use Rattle.expressions.proofs.parts.name_meaning.Goals as goal

@@ -1,5 +1,4 @@
 use native.Mathlib.Omega.{arith}
-use borrow.Author.Rules.{rules}
 use Rattle.headings.proofs.HeadLaws.{heading_no_indicator, heading_no_star, heading_no_name, heading_no_colon, heading_no_equals, heading_read}
 use Rattle.headings.proofs.before_middle.heading.Goals as goal
 

@@ -1,5 +1,4 @@
 use native.Mathlib.Omega.{arith}
-use borrow.Author.Rules.{rules}
 use Rattle.headings.proofs.HeadLaws.{prefix_empty, prefix_malformed, prefix_named}
 use Rattle.headings.proofs.before_middle.prefix_of.Goals as goal
 

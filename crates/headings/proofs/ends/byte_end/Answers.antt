@@ -1,7 +1,5 @@
 use native.Mathlib.Omega.{arith}
-use Prim.Native.Nat.{◌-◌}
-use lib.ListN.{length}
-use Rattle.headings.proofs.LineEndLaws.{NoEndSoFar, no_end_start, no_end_more, line_ends_here, book_ends_here}
+use Rattle.headings.proofs.LineEndLaws.{no_end_start, no_end_more, line_ends_here, book_ends_here}
 use Rattle.headings.proofs.ends.byte_end.Goals as goal
 
 pub loop-i-init : goal.loop-i-init

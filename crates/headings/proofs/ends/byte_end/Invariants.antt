@@ -1,7 +1,6 @@
-use native.Mathlib.Omega.{arith}
 use Prim.Native.Nat.{◌-◌}
 use lib.ListN.{length}
-use Rattle.headings.proofs.LineEndLaws.{NoEndSoFar, no_end_start, no_end_more, line_ends_here, book_ends_here}
+use Rattle.headings.proofs.LineEndLaws.{NoEndSoFar}
 use Rattle.headings.proofs.ends.byte_end.Given as goal
 
 abbrev pub invariant-loop-i : goal.invariant-loop-i

@@ -1,9 +1,6 @@
-use mathlib.Core.Path.{◌≡◌, sym, ◌∙◌}
-use mathlib.Core.Bool.{false}
-use Prim.Native.Nat.{ℕ, ◌-◌, ◌≤◌}
+use mathlib.Core.Path.{sym, ◌∙◌}
 use native.Mathlib.Omega.{arith}
 use borrow.Author.Count.{below_none, below_more}
-use Rattle.headings.specs.Posts.{NoEnd, stride}
 use Rattle.headings.proofs.ends.has_end.Goals as goal
 use Rattle.headings.proofs.ends.has_end.Goals.{then-part-j-eq10, else-part-j-eq10}
 

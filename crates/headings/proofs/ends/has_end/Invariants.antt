@@ -1,9 +1,6 @@
-use mathlib.Core.Path.{◌≡◌, sym, ◌∙◌}
+use mathlib.Core.Path.{◌≡◌}
 use mathlib.Core.Bool.{false}
-use mathlib.Core.Logic.{⊎_elim}
-use Prim.Native.Nat.{ℕ, ◌-◌, ◌≤◌}
-use native.Mathlib.Omega.{arith}
-use borrow.Author.Count.{below_none, below_more}
+use Prim.Native.Nat.{◌-◌, ◌≤◌}
 use Rattle.headings.specs.Posts.{NoEnd, stride}
 use Rattle.headings.proofs.ends.has_end.Given as goal
 

@@ -1,8 +1,6 @@
-use borrow.Author.Rules.{rules}
 use native.Mathlib.Omega.{arith}
-use Prim.Native.Nat.{◌-◌}
-use lib.ListN.{length, length-take, length-drop}
-use Rattle.headings.proofs.LineEndLaws.{NoEndSoFar, no_end_start, no_end_part, line_ends_later, book_ends_here}
+use lib.ListN.{length-take, length-drop}
+use Rattle.headings.proofs.LineEndLaws.{no_end_start, no_end_part, line_ends_later, book_ends_here}
 use Rattle.headings.proofs.ends.line_end.Goals as goal
 
 pub loop-i-init : goal.loop-i-init

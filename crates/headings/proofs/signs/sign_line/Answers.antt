@@ -1,4 +1,3 @@
-use borrow.Author.Rules.{rules}
 use native.Mathlib.Omega.{arith}
 use Rattle.headings.proofs.SignLaws.{sign_missing, sign_unnamed, sign_unended, sign_read}
 use Rattle.headings.proofs.signs.sign_line.Goals as goal

@@ -1,4 +1,3 @@
-use borrow.Author.Rules.{rules}
 use Rattle.headings.proofs.SignLaws.{sign_is_lem}
 use Rattle.headings.proofs.signs.sign_of.Goals as goal
 

@@ -1,9 +1,7 @@
-use mathlib.Core.Path.{◌≡◌, refl}
-use Prim.Native.Nat.{◌+◌, ◌-◌, ◌≤◌}
+use mathlib.Core.Path.{refl}
 use native.Mathlib.Omega.{arith}
-use lib.ListN.{length}
 use Rattle.cells.specs.Forests.{at_inside, size_is_length}
-use Rattle.heads.proofs.HeadLaws.{Search, search_starts, search_inside, search_ends, search_application, applying_inside, search_contracts, search_passes}
+use Rattle.heads.proofs.HeadLaws.{search_starts, search_inside, search_ends, search_application, applying_inside, search_contracts, search_passes}
 use Rattle.heads.proofs.heads.head_of.Goals as goal
 
 pub returns-then-at-w : goal.returns-then-at-w

@@ -1,10 +1,8 @@
 -- `head_of`: past each `<A>`, until a contraction or the head.
-use mathlib.Core.Path.{◌≡◌, refl}
+use mathlib.Core.Path.{◌≡◌}
 use Prim.Native.Nat.{◌+◌, ◌-◌, ◌≤◌}
-use native.Mathlib.Omega.{arith}
 use lib.ListN.{length}
-use Rattle.cells.specs.Forests.{at_inside, size_is_length}
-use Rattle.heads.proofs.HeadLaws.{Search, search_starts, search_inside, search_ends, search_application, applying_inside, search_contracts, search_passes}
+use Rattle.heads.proofs.HeadLaws.{Search}
 use Rattle.heads.proofs.heads.head_of.Given as goal
 
 abbrev pub invariant-loop-i : goal.invariant-loop-i

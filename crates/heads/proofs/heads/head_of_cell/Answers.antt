@@ -1,6 +1,5 @@
 -- `head_of_cell`: an abbreviation is unfolded; nothing else has a head step.
 use mathlib.Core.Path.{refl, sym, ◌∙◌}
-use borrow.Author.Rules.{rules}
 use Rattle.heads.proofs.heads.head_of_cell.Goals as goal
 
 pub returns-then-field-eq2 : goal.returns-then-field-eq2

@@ -1,6 +1,5 @@
 use native.Mathlib.Omega.{arith}
 use Rattle.instances.proofs.ArgumentLaws.{start_none, start_listed, start_past}
-use borrow.Author.Rules.{rules}
 use Rattle.instances.proofs.arguments.argument_at.Goals as goal
 
 pub returns-then-base-w : goal.returns-then-base-w

@@ -1,7 +1,6 @@
 use native.Mathlib.Omega.{arith}
 use Rattle.terms.proofs.LeafLaws.{leaf_cell, leaf_put}
 use Rattle.instances.proofs.InstantiationLaws.{variable_other, variable_itself, variable_argument}
-use borrow.Author.Rules.{rules}
 use Rattle.instances.proofs.arguments.argument_for.Goals as goal
 
 pub returns-then-x-ne1 : goal.returns-then-x-ne1

@@ -1,11 +1,8 @@
-use mathlib.Core.Path.{refl}
-use native.Mathlib.Omega.{arith}
-use lib.ListN.{length, get_or, take, length-set}
+use lib.ListN.{length, take}
 use Rattle.aut68.specs.Sizes.{cell_values}
 use Rattle.terms.specs.Grafts.{Instantiates}
-use Rattle.terms.proofs.WalkLaws.{Inv, start, finish}
-use Rattle.terms.proofs.Turns.{stop_start, stop_source, stop_full, Ready, turn_branch, turn_cell, turn_put, stop_put, stop_domain, stop_body, turn_abstraction}
-use Prim.Native.Nat.{ℕ, ◌-◌, ◌<◌}
+use Rattle.terms.proofs.WalkLaws.{Inv}
+use Prim.Native.Nat.{◌-◌}
 use Rattle.instances.proofs.instantiation.+instantiate_in.Given as goal
 
 abbrev pub decreases-instantiate_in : goal.decreases-instantiate_in

@@ -4,7 +4,6 @@ use lib.ListN.{length-take}
 use lib.Seq.{length-take-le}
 use Rattle.terms.proofs.Whole.{whole_none, whole_full, whole_made}
 use Rattle.instances.proofs.InstantiationLaws.{instantiate_post}
-use borrow.Author.Rules.{rules}
 use Rattle.instances.proofs.instantiation.instantiate.Goals as goal
 
 pub returns-then-to-w : goal.returns-then-to-w

@@ -1,8 +1,7 @@
-use mathlib.Core.Path.{◌≡◌, refl, sym, ◌∙◌}
-use Prim.Native.Nat.{◌-◌}
+use mathlib.Core.Path.{refl, sym, ◌∙◌}
 use native.Mathlib.Omega.{arith}
-use lib.ListN.{length, length-set}
-use Rattle.kinds.specs.Ranges.{filled, filled_up_to, filled_turn, filled_none}
+use lib.ListN.{length-set}
+use Rattle.kinds.specs.Ranges.{filled_turn, filled_none}
 use Rattle.kinds.proofs.ranges.fill.Goals as goal
 
 pub overflow_add-end : goal.overflow_add-end

@@ -1,9 +1,8 @@
 -- `fill`: the bytes before b have their kind; filling the rest gives the filled table.
-use mathlib.Core.Path.{◌≡◌, refl, sym, ◌∙◌}
+use mathlib.Core.Path.{◌≡◌}
 use Prim.Native.Nat.{◌-◌}
-use native.Mathlib.Omega.{arith}
-use lib.ListN.{length, length-set}
-use Rattle.kinds.specs.Ranges.{filled, filled_up_to, filled_turn, filled_none}
+use lib.ListN.{length}
+use Rattle.kinds.specs.Ranges.{filled, filled_up_to}
 use Rattle.kinds.proofs.ranges.fill.Given as goal
 
 abbrev pub invariant-loop-b : goal.invariant-loop-b

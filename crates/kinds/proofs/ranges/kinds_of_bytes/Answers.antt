@@ -5,7 +5,6 @@ use mathlib.Core.List.{List}
 use Prim.Native.Nat.{ℕ, ◌≤◌}
 use lib.Dec.{T, eqb, eqb→eq}
 use lib.ListN.{get_or, length}
-use borrow.Author.Rules.{rules}
 use Rattle.aut68.specs.Bytes.{name_byte}
 use Rattle.kinds.specs.Kinds.{KindsTable, kind_of, place_or0}
 use Rattle.kinds.proofs.Every.{at, every}

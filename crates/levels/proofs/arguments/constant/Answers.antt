@@ -1,5 +1,4 @@
 -- `constant`: the category on the line with all arguments put in.
-use borrow.Author.Rules.{rules}
 use Rattle.levels.proofs.Instances.{constant_refused, constant_made}
 use Rattle.levels.proofs.arguments.constant.Goals as goal
 

@@ -1,6 +1,5 @@
 -- `enter_start`: written where there is a place and the number fits.
 use Rattle.levels.proofs.Instances.{next_noted, next_large, next_past}
-use borrow.Author.Rules.{rules}
 use Rattle.levels.proofs.arguments.enter_start.Goals as goal
 
 pub returns-then-at-lt-CELL_VALUES : goal.returns-then-at-lt-CELL_VALUES

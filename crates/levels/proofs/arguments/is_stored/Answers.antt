@@ -1,7 +1,6 @@
 -- `is_stored`: by the cell's kind, and a constant's by the row of its line.
 use mathlib.Core.Path.{refl}
 use Rattle.levels.proofs.Instances.{of_variable_lem, of_none, of_constant_lem}
-use borrow.Author.Rules.{rules}
 use Rattle.levels.proofs.arguments.is_stored.Goals as goal
 
 pub returns-then-k-eq1 : goal.returns-then-k-eq1

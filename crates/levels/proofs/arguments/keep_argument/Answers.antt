@@ -1,6 +1,5 @@
 -- `keep_argument`: the cells are copied, unless the unit lies past the store.
 use Rattle.levels.proofs.Instances.{kept_not, kept_copied}
-use borrow.Author.Rules.{rules}
 use Rattle.levels.proofs.arguments.keep_argument.Goals as goal
 
 pub returns-then-base-w : goal.returns-then-base-w

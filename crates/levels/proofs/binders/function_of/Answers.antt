@@ -1,6 +1,5 @@
 -- `function_of`: head steps of what was found, or its refusal.
 use Rattle.levels.proofs.Functions.{function_refused, function_found}
-use borrow.Author.Rules.{rules}
 use Rattle.levels.proofs.binders.function_of.Goals as goal
 
 pub returns-then-found-ne0 : goal.returns-then-found-ne0

@@ -2,7 +2,6 @@
 use native.Mathlib.Omega.{arith}
 use Rattle.cells.specs.Layout.{unit_at}
 use Rattle.levels.proofs.Bindings.{over_refused, over_types, over_unlimited, over_large, over_made}
-use borrow.Author.Rules.{rules}
 use Rattle.levels.proofs.binders.over_binding.Goals as goal
 
 pub returns-then-found-ne0 : goal.returns-then-found-ne0

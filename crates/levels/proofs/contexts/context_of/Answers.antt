@@ -1,7 +1,6 @@
 use mathlib.Core.Path.{refl}
 use native.Mathlib.Omega.{arith}
-use Rattle.levels.proofs.ContextWalk.{Noting, noting_start, noting_past, noting_large, noting_more, noting_end}
-use borrow.Author.Rules.{rules}
+use Rattle.levels.proofs.ContextWalk.{noting_start, noting_past, noting_large, noting_more, noting_end}
 use Rattle.levels.proofs.contexts.context_of.Goals as goal
 
 pub field-c-requires : goal.field-c-requires

@@ -1,8 +1,5 @@
 -- `context_of`: the loop follows the indicators and notes each of the first 64 variables; `behind` of them are still to be met.
-use mathlib.Core.Path.{refl}
-use native.Mathlib.Omega.{arith}
-use Rattle.levels.proofs.ContextWalk.{Noting, noting_start, noting_past, noting_large, noting_more, noting_end}
-use borrow.Author.Rules.{rules}
+use Rattle.levels.proofs.ContextWalk.{Noting}
 use Rattle.levels.proofs.contexts.context_of.Given as goal
 
 abbrev pub invariant-loop-behind : goal.invariant-loop-behind

@@ -1,9 +1,5 @@
-use Prim.Native.Nat.{◌<◌}
 use native.Mathlib.Omega.{arith}
-use Rattle.aut68.specs.Lines.{row_cell}
-use Rattle.aut68.specs.Sizes.{at_context}
-use Rattle.levels.proofs.ContextWalk.{Following, follow_start, follow_more, variable_noted, variable_met}
-use borrow.Author.Rules.{rules}
+use Rattle.levels.proofs.ContextWalk.{follow_start, follow_more, variable_noted, variable_met}
 use Rattle.levels.proofs.contexts.context_variable.Goals as goal
 
 pub noted-requires : goal.noted-requires

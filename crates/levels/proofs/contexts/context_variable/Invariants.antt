@@ -1,10 +1,8 @@
 -- `context_variable`: noted, or met by following the indicators; `behind` variables of the context are still to be met.
 use Prim.Native.Nat.{◌<◌}
-use native.Mathlib.Omega.{arith}
 use Rattle.aut68.specs.Lines.{row_cell}
 use Rattle.aut68.specs.Sizes.{at_context}
-use Rattle.levels.proofs.ContextWalk.{Following, follow_start, follow_more, variable_noted, variable_met}
-use borrow.Author.Rules.{rules}
+use Rattle.levels.proofs.ContextWalk.{Following}
 use Rattle.levels.proofs.contexts.context_variable.Given as goal
 
 abbrev pub invariant-loop-behind : goal.invariant-loop-behind

@@ -1,6 +1,5 @@
 -- `found_type`: the test is the procedure's, on what was found.
 use Rattle.levels.proofs.Types.{type_refused, type_passed, type_missed}
-use borrow.Author.Rules.{rules}
 use Rattle.levels.proofs.found.found_type.Goals as goal
 
 pub returns-then-found-ne0 : goal.returns-then-found-ne0

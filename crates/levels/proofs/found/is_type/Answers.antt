@@ -1,7 +1,6 @@
 -- `is_type`: `type` has one cell, 0, and no other expression begins with it.
 use mathlib.Core.Path.{refl}
 use Rattle.levels.proofs.Types.{no_type_past, type_by_cell}
-use borrow.Author.Rules.{rules}
 use Rattle.levels.proofs.found.is_type.Goals as goal
 
 pub returns-then-at-w : goal.returns-then-at-w

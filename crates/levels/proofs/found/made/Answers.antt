@@ -2,7 +2,6 @@
 use mathlib.Core.Path.{refl}
 use native.Mathlib.Omega.{arith}
 use Rattle.levels.proofs.Making.{made_too_large, made_moved}
-use borrow.Author.Rules.{rules}
 use Rattle.levels.proofs.found.made.Goals as goal
 
 pub returns-then-n-limit : goal.returns-then-n-limit

@@ -2,7 +2,6 @@
 use mathlib.Core.Path.{refl}
 use native.Mathlib.Omega.{arith}
 use Rattle.levels.proofs.LeafLaws.{bound_none, bound_found}
-use borrow.Author.Rules.{rules}
 use Rattle.levels.proofs.leaves.bound.Goals as goal
 
 pub returns-then-bindings-gt-NESTING : goal.returns-then-bindings-gt-NESTING

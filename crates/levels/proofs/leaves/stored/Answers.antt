@@ -2,7 +2,6 @@
 use mathlib.Core.Path.{refl}
 use native.Mathlib.Omega.{arith}
 use Rattle.levels.proofs.LeafLaws.{stored_none, stored_found}
-use borrow.Author.Rules.{rules}
 use Rattle.levels.proofs.leaves.stored.Goals as goal
 
 pub returns-then-end-from : goal.returns-then-end-from

@@ -1,8 +1,7 @@
-use Prim.Native.Nat.{◌-◌}
 use mathlib.Core.Path.{refl, sym, ◌∙◌}
 use native.Mathlib.Omega.{arith}
 use Rattle.cells.specs.SameCells.{same_run_means}
-use Rattle.matching.proofs.Matches.{Passed, passed_none, passed_itself, passed_argument, passed_all, instance_no}
+use Rattle.matching.proofs.Matches.{passed_none, passed_itself, passed_argument, passed_all, instance_no}
 use Rattle.matching.proofs.matching.is_instance.Goals as goal
 
 pub returns-then-base-w : goal.returns-then-base-w

@@ -1,9 +1,5 @@
 use Prim.Native.Nat.{◌-◌}
-use mathlib.Core.Path.{refl, sym, ◌∙◌}
-use native.Mathlib.Omega.{arith}
-use borrow.Author.Tests.{not-false}
-use Rattle.cells.specs.SameCells.{same_run_means}
-use Rattle.matching.proofs.Matches.{Passed, passed_none, passed_itself, passed_argument, passed_all, instance_no}
+use Rattle.matching.proofs.Matches.{Passed}
 use Rattle.matching.proofs.matching.is_instance.Given as goal
 
 abbrev pub invariant-loop-i : goal.invariant-loop-i

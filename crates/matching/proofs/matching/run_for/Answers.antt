@@ -1,6 +1,5 @@
 use native.Mathlib.Omega.{arith}
 use Rattle.matching.proofs.RunLaws.{run_other, run_itself, run_unknown, run_argument}
-use borrow.Author.Rules.{rules}
 use Rattle.matching.proofs.matching.run_for.Goals as goal
 
 pub returns-then-x-ne1 : goal.returns-then-x-ne1

@@ -2,7 +2,6 @@ use native.Mathlib.Omega.{arith}
 use mathlib.Core.Path.{refl}
 use Prim.Native.Nat.{◌+◌, ◌*◌, ◌/◌}
 use lib.ListN.{length}
-use borrow.Author.Rules.{rules}
 use Rattle.cells.specs.Layout.{context_unit, reader_units}
 use Rattle.meanings.proofs.NotedLaws.{in_no_context, number_too_large, number_noted, by_chain}
 use Rattle.meanings.proofs.contexts.in_context.Goals as goal

@@ -1,5 +1,5 @@
 use native.Mathlib.Omega.{arith}
-use Rattle.meanings.proofs.NotedLaws.{NotedSoFar, noted_start, noted_all, noted_broken, noted_enough, noted_more}
+use Rattle.meanings.proofs.NotedLaws.{noted_start, noted_all, noted_broken, noted_enough, noted_more}
 use Rattle.meanings.proofs.contexts.note_context.Goals as goal
 
 pub field-end-requires : goal.field-end-requires

@@ -1,5 +1,4 @@
-use native.Mathlib.Omega.{arith}
-use Rattle.meanings.proofs.NotedLaws.{NotedSoFar, noted_start, noted_all, noted_broken, noted_enough, noted_more}
+use Rattle.meanings.proofs.NotedLaws.{NotedSoFar}
 use Rattle.meanings.proofs.contexts.note_context.Given as goal
 
 abbrev pub invariant-loop-c : goal.invariant-loop-c

@@ -1,5 +1,5 @@
 use native.Mathlib.Omega.{arith}
-use Rattle.meanings.proofs.ContextLaws.{ChainSoFar, chain_start, chain_more, chain_broken, chain_found, chain_passed}
+use Rattle.meanings.proofs.ContextLaws.{chain_start, chain_more, chain_broken, chain_found, chain_passed}
 use Rattle.meanings.proofs.contexts.on_chain.Goals as goal
 
 pub loop-c-init : goal.loop-c-init

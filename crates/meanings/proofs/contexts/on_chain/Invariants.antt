@@ -1,5 +1,4 @@
-use native.Mathlib.Omega.{arith}
-use Rattle.meanings.proofs.ContextLaws.{ChainSoFar, chain_start, chain_more, chain_broken, chain_found, chain_passed}
+use Rattle.meanings.proofs.ContextLaws.{ChainSoFar}
 use Rattle.meanings.proofs.contexts.on_chain.Given as goal
 
 abbrev pub invariant-loop-c : goal.invariant-loop-c

@@ -1,5 +1,4 @@
 use native.Mathlib.Omega.{arith}
-use borrow.Author.Rules.{rules}
 use Rattle.meanings.proofs.NotedLaws.{not_put, was_put}
 use Rattle.meanings.proofs.contexts.put_variable.Goals as goal
 

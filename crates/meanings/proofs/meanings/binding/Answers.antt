@@ -1,6 +1,6 @@
 use native.Mathlib.Omega.{arith}
 use mathlib.Core.Path.{sym, ◌∙◌}
-use Rattle.meanings.proofs.BindingLaws.{BoundSoFar, bound_start, bound_more, bound_found, bound_nowhere, bound_too_many}
+use Rattle.meanings.proofs.BindingLaws.{bound_start, bound_more, bound_found, bound_nowhere, bound_too_many}
 use Rattle.meanings.proofs.meanings.binding.Goals as goal
 
 pub returns-then-bindings-gt-NESTING : goal.returns-then-bindings-gt-NESTING

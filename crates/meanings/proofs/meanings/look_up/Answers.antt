@@ -1,5 +1,4 @@
 use native.Mathlib.Omega.{arith}
-use borrow.Author.Rules.{rules}
 use Rattle.meanings.proofs.MeaningLaws.{sought_nothing, sought_too_many, sought_constant, sought_variable, sought_outside}
 use Rattle.meanings.proofs.meanings.look_up.Goals as goal
 

@@ -1,5 +1,4 @@
 use native.Mathlib.Omega.{arith}
-use borrow.Author.Rules.{rules}
 use mathlib.Core.Path.{refl}
 use Rattle.aut68.specs.Procedure.Answer.{code_of, unknown_name, not_in_context}
 use Rattle.aut68.specs.Procedure.Resolve.{answered}

@@ -1,7 +1,5 @@
 use native.Mathlib.Omega.{arith}
-use Prim.Native.Nat.{◌+◌, ◌-◌, ◌≤◌}
-use lib.ListN.{length}
-use Rattle.names.proofs.HashLaws.{HashSoFar, hash_start, hash_more, hash_last, hash_short, hash_empty}
+use Rattle.names.proofs.HashLaws.{hash_start, hash_more, hash_last, hash_short, hash_empty}
 use Rattle.names.proofs.hints.hash.Goals as goal
 
 pub returns-then-word-eq0 : goal.returns-then-word-eq0

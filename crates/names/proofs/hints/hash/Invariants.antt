@@ -1,7 +1,6 @@
-use native.Mathlib.Omega.{arith}
 use Prim.Native.Nat.{◌+◌, ◌-◌, ◌≤◌}
 use lib.ListN.{length}
-use Rattle.names.proofs.HashLaws.{HashSoFar, hash_start, hash_more, hash_last, hash_short, hash_empty}
+use Rattle.names.proofs.HashLaws.{HashSoFar}
 use Rattle.names.proofs.hints.hash.Given as goal
 
 abbrev pub invariant-loop-i : goal.invariant-loop-i

@@ -1,7 +1,6 @@
 use mathlib.Core.Path.{refl}
 use native.Mathlib.Omega.{arith}
 use Rattle.names.proofs.LinkLaws.{head_is_lem, head_past}
-use borrow.Author.Rules.{rules}
 use Rattle.names.proofs.hints.head.Goals as goal
 
 pub returns-then-at-w : goal.returns-then-at-w

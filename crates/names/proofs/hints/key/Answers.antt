@@ -1,6 +1,5 @@
 use native.Mathlib.Omega.{arith}
 use Rattle.names.proofs.HashLaws.{key_is}
-use borrow.Author.Rules.{rules}
 use Rattle.names.proofs.hints.key.Goals as goal
 
 pub returns : goal.returns

@@ -2,7 +2,6 @@ use mathlib.Core.Path.{refl}
 use Prim.Native.Nat.{◌+◌, ◌*◌}
 use native.Mathlib.Omega.{arith}
 use Rattle.names.proofs.LinkLaws.{not_linked, row_linked}
-use borrow.Author.Rules.{rules}
 use Rattle.names.proofs.hints.link.Goals as goal
 
 pub returns-then-lines-ge-LAST_LINE : goal.returns-then-lines-ge-LAST_LINE

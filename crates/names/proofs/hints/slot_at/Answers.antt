@@ -1,7 +1,6 @@
 use native.Mathlib.Omega.{arith}
 use Rattle.names.specs.HintLaws.{slots_most, slot_below}
 use Rattle.names.proofs.HashLaws.{product_below, slot_is}
-use borrow.Author.Rules.{rules}
 use Rattle.names.proofs.hints.slot_at.Goals as goal
 
 pub overflow_mul-result : goal.overflow_mul-result

@@ -1,8 +1,6 @@
-use mathlib.Core.Path.{◌≡◌, refl}
-use Prim.Native.Nat.{◌-◌, ◌≤◌}
+use mathlib.Core.Path.{refl}
 use native.Mathlib.Omega.{arith}
-use lib.ListN.{length, length-set}
-use Rattle.cells.specs.Links.{link_at, unlinked}
+use lib.ListN.{length-set}
 use Rattle.names.proofs.LinkLaws.{unlinked_none, unlinked_turn, unlinked_at}
 use Rattle.names.proofs.hints.unlink.Goals as goal
 

@@ -1,9 +1,7 @@
-use mathlib.Core.Path.{◌≡◌, refl}
+use mathlib.Core.Path.{◌≡◌}
 use Prim.Native.Nat.{◌-◌, ◌≤◌}
-use native.Mathlib.Omega.{arith}
-use lib.ListN.{length, length-set}
+use lib.ListN.{length}
 use Rattle.cells.specs.Links.{link_at, unlinked}
-use Rattle.names.proofs.LinkLaws.{unlinked_none, unlinked_turn, unlinked_at}
 use Rattle.names.proofs.hints.unlink.Given as goal
 
 abbrev pub invariant-loop-v : goal.invariant-loop-v

@@ -1,7 +1,4 @@
-use native.Mathlib.Omega.{arith}
-use Rattle.names.specs.Chains.{found_here, found_nothing, found_outside, found_upward, search_on}
-use Rattle.names.proofs.FindLaws.{SearchingLine, search_starts, line_found}
-use Rattle.names.proofs.LinkLaws.{link_is_lem}
+use Rattle.names.proofs.FindLaws.{SearchingLine}
 use Rattle.names.proofs.names.find.Given as goal
 
 abbrev pub invariant-loop-v : goal.invariant-loop-v

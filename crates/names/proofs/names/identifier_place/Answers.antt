@@ -1,4 +1,3 @@
-use borrow.Author.Rules.{rules}
 use Rattle.names.proofs.PartLaws.{identifier_of_none, identifier_not_whole, identifier_outside, identifier_inside}
 use Rattle.names.proofs.names.identifier_place.Goals as goal
 

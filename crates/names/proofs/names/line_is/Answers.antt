@@ -1,6 +1,5 @@
 use mathlib.Core.Path.{sym, ◌∙◌}
 use Rattle.names.proofs.FindLaws.{is_not, is_compared_lem}
-use borrow.Author.Rules.{rules}
 use Rattle.names.proofs.names.line_is.Goals as goal
 
 pub returns-then-paragraph-q : goal.returns-then-paragraph-q

@@ -1,5 +1,4 @@
 use native.Mathlib.Omega.{arith}
-use borrow.Author.Rules.{rules}
 use mathlib.Core.Path.{sym, ◌∙◌}
 use Rattle.names.proofs.PartLaws.{part_length_differs, part_not_whole, part_compared}
 use Rattle.names.proofs.names.part_is.Goals as goal

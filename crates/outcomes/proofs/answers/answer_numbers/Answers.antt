@@ -1,6 +1,5 @@
 -- `answer_numbers`: the code of a refusal is its reason's, and that of a call that declines its cause's.
 use mathlib.Core.Path.{sym, ap, ◌∙◌}
-use borrow.Author.Rules.{rules}
 use Rattle.outcomes.specs.Answers.{code_of_answer, line_of_answer, steps_of_answer, length_of_answer}
 use Rattle.outcomes.proofs.answers.answer_numbers.Goals as goal
 

@@ -1,6 +1,5 @@
 -- `pass_on`: the reason is that of the code.
 use mathlib.Core.Path.{refl, sym, ap, ◌∙◌}
-use borrow.Author.Rules.{rules}
 use Rattle.aut68.specs.Procedure.Answer.{code_of}
 use Rattle.outcomes.proofs.answers.pass_on.Goals as goal
 

@@ -1,6 +1,5 @@
 -- `is_marked_primitive`: the mark, and the kind on the row.
 use mathlib.Core.Path.{sym, ◌∙◌}
-use borrow.Author.Rules.{rules}
 use Rattle.reaching.specs.Primitives.{marked_kind, unmarked_primitive}
 use Rattle.reaching.proofs.reaching.is_marked_primitive.Goals as goal
 

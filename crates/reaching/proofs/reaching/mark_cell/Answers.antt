@@ -1,6 +1,5 @@
 -- `mark_cell`: by whether the cell names a line.
 use mathlib.Core.Path.{sym, ◌∙◌}
-use borrow.Author.Rules.{rules}
 use Rattle.reaching.specs.Cellwise.{adds_name, adds_no_name}
 use Rattle.reaching.proofs.reaching.mark_cell.Goals as goal
 

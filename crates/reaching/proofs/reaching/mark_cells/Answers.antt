@@ -1,12 +1,6 @@
-use mathlib.Core.Path.{◌≡◌, refl}
+use mathlib.Core.Path.{refl}
 use mathlib.Core.Logic.{inl, inr}
-use mathlib.Core.List.{List}
-use Prim.Native.Nat.{ℕ, ◌-◌}
 use native.Mathlib.Omega.{arith}
-use lib.ListN.{length}
-use lib.Seq.{slice}
-use Rattle.cells.specs.Numbers.{numbers_in}
-use Rattle.reaching.specs.Adding.{AddsMarks}
 use Rattle.reaching.specs.Cellwise.{adds_end, adds_turn}
 use Rattle.reaching.proofs.reaching.mark_cells.Goals as goal
 

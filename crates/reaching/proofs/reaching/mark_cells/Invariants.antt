@@ -1,14 +1,11 @@
 -- `mark_cells`. The invariant: with the marks for the cells from i on, there are those for all of them.
-use mathlib.Core.Path.{◌≡◌, refl}
-use mathlib.Core.Logic.{inl, inr}
+use mathlib.Core.Path.{◌≡◌}
 use mathlib.Core.List.{List}
 use Prim.Native.Nat.{ℕ, ◌-◌}
-use native.Mathlib.Omega.{arith}
 use lib.ListN.{length}
 use lib.Seq.{slice}
 use Rattle.cells.specs.Numbers.{numbers_in}
 use Rattle.reaching.specs.Adding.{AddsMarks}
-use Rattle.reaching.specs.Cellwise.{adds_end, adds_turn}
 use Rattle.reaching.proofs.reaching.mark_cells.Given as goal
 
 abbrev pub invariant-loop-i : goal.invariant-loop-i

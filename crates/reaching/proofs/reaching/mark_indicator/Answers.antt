@@ -1,6 +1,5 @@
 -- `mark_indicator`: by whether there is one.
 use native.Mathlib.Omega.{arith}
-use borrow.Author.Rules.{rules}
 use Rattle.reaching.specs.Cellwise.{adds_indicator, adds_no_indicator}
 use Rattle.reaching.proofs.reaching.mark_indicator.Goals as goal
 

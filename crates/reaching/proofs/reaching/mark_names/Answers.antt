@@ -1,5 +1,4 @@
 -- `mark_names`: the indicator, then the cells.
-use borrow.Author.Rules.{rules}
 use Rattle.reaching.specs.RowNames.{adds_row}
 use Rattle.reaching.proofs.reaching.mark_names.Goals as goal
 

@@ -1,10 +1,7 @@
 use mathlib.Core.Path.{◌≡◌, refl, sym, subst, ◌∙◌}
-use Prim.Native.Nat.{◌+◌, ◌-◌, ◌≤◌}
 use native.Mathlib.Omega.{arith}
-use lib.ListN.{length}
-use Rattle.aut68.specs.Lines.{Lines}
 use Rattle.reaching.specs.Following.{visit_few, follow_begin, follow_turn}
-use Rattle.reaching.specs.Posts.{Followable, Followed}
+use Rattle.reaching.specs.Posts.{Followable}
 use Rattle.reaching.proofs.reaching.mark_reached.Goals as goal
 
 pub loop-v-init : goal.loop-v-init

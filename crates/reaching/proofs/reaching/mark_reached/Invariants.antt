@@ -1,10 +1,8 @@
 -- `mark_reached`, a line a turn, downwards. The invariant: names are followed to the lines behind line v.
-use mathlib.Core.Path.{◌≡◌, refl, sym, subst, ◌∙◌}
-use Prim.Native.Nat.{◌+◌, ◌-◌, ◌≤◌}
-use native.Mathlib.Omega.{arith}
+use mathlib.Core.Path.{◌≡◌}
+use Prim.Native.Nat.{◌+◌, ◌≤◌}
 use lib.ListN.{length}
 use Rattle.aut68.specs.Lines.{Lines}
-use Rattle.reaching.specs.Following.{visit_few, follow_begin, follow_turn}
 use Rattle.reaching.specs.Posts.{Followable, Followed}
 use Rattle.reaching.proofs.reaching.mark_reached.Given as goal
 

@@ -4,7 +4,6 @@ use mathlib.Core.List.{List, ◌++◌, append-nil}
 use Prim.Native.Nat.{ℕ}
 use native.Mathlib.Omega.{arith}
 use lib.ListN.{length, replicate, length-replicate, drop_of_length-le}
-use borrow.Author.Rules.{rules}
 use borrow.Author.Tests.{le-leb}
 use Rattle.aut68.specs.Procedure.Run.{over}
 use Rattle.cells.specs.Posts.{cleared}

@@ -1,10 +1,8 @@
 use mathlib.Core.Path.{◌≡◌, refl, sym, ◌∙◌}
-use Prim.Native.Nat.{◌-◌, ◌≤◌}
 use native.Mathlib.Numerals.{add-one}
 use native.Mathlib.Omega.{arith}
-use lib.ListN.{length, length-set}
-use Rattle.reaching.specs.Primitives.{marked_primitives}
-use Rattle.reaching.specs.Writing.{Writes, writes_begin, writes_room, writes_put, writes_skip, writes_end}
+use lib.ListN.{length-set}
+use Rattle.reaching.specs.Writing.{writes_begin, writes_room, writes_put, writes_skip, writes_end}
 use Rattle.reaching.proofs.reaching.put_marked.Goals as goal
 
 pub loop-v-init : goal.loop-v-init

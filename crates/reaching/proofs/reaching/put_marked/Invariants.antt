@@ -1,11 +1,9 @@
 -- `put_marked`. The invariant: if all of them fit, those up to line v are written.
-use mathlib.Core.Path.{◌≡◌, refl, sym, ◌∙◌}
+use mathlib.Core.Path.{◌≡◌}
 use Prim.Native.Nat.{◌-◌, ◌≤◌}
-use native.Mathlib.Numerals.{add-one}
-use native.Mathlib.Omega.{arith}
-use lib.ListN.{length, length-set}
+use lib.ListN.{length}
 use Rattle.reaching.specs.Primitives.{marked_primitives}
-use Rattle.reaching.specs.Writing.{Writes, writes_begin, writes_room, writes_put, writes_skip, writes_end}
+use Rattle.reaching.specs.Writing.{Writes}
 use Rattle.reaching.proofs.reaching.put_marked.Given as goal
 
 abbrev pub invariant-loop-v : goal.invariant-loop-v

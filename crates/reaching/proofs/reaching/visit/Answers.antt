@@ -1,7 +1,6 @@
 -- `visit`: by whether the line is marked, and by its kind.
 use mathlib.Core.Path.{sym, ◌∙◌}
 use native.Mathlib.Omega.{arith}
-use borrow.Author.Rules.{rules}
 use Rattle.reaching.specs.Following.{visit_primitive, visit_other, visit_unmarked}
 use Rattle.reaching.proofs.reaching.visit.Goals as goal
 

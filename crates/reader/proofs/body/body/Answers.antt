@@ -1,5 +1,4 @@
 use native.Mathlib.Omega.{arith}
-use borrow.Author.Rules.{rules}
 use Rattle.reader.proofs.BodyLaws.{body_middle_refused, body_no_colon, body_category_refused, body_not_ended, body_read}
 use Rattle.reader.proofs.body.body.Goals as goal
 

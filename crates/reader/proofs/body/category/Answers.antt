@@ -1,5 +1,3 @@
-use native.Mathlib.Omega.{arith}
-use borrow.Author.Rules.{rules}
 use Rattle.aut68.specs.Bytes.{word_type}
 use Rattle.reader.proofs.MiddleLaws.{category_type, category_expression}
 use Rattle.reader.proofs.body.category.Goals as goal

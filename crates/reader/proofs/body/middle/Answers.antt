@@ -1,5 +1,4 @@
 use native.Mathlib.Omega.{arith}
-use borrow.Author.Rules.{rules}
 use Rattle.reader.proofs.MiddleLaws.{middle_word, middle_expression}
 use Rattle.reader.proofs.body.middle.Goals as goal
 

@@ -1,5 +1,3 @@
-use native.Mathlib.Omega.{arith}
-use borrow.Author.Rules.{rules}
 use Rattle.aut68.specs.Bytes.{word_eb, word_pn}
 use Rattle.reader.proofs.MiddleLaws.{kind_eb, kind_pn, kind_meaning}
 use Rattle.reader.proofs.body.middle_kind.Goals as goal

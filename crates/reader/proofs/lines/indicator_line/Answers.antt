@@ -1,5 +1,4 @@
 use native.Mathlib.Omega.{arith}
-use borrow.Author.Rules.{rules}
 use Rattle.reader.proofs.IndicatorLaws.{indicator_empty, indicator_unknown, indicator_no_variable, indicator_found}
 use Rattle.reader.proofs.lines.indicator_line.Goals as goal
 

@@ -1,6 +1,5 @@
 use mathlib.Core.Path.{◌∙◌}
 use native.Mathlib.Omega.{arith}
-use borrow.Author.Rules.{rules}
 use Rattle.reader.proofs.LineLaws.{line_heading_refused, line_body_refused, line_no_indicator, line_taken, line_large_middle, line_large_category, line_fault, line_read}
 use Rattle.reader.proofs.lines.read_into.Goals as goal
 

@@ -1,7 +1,6 @@
 use mathlib.Core.Path.{sym}
 use lib.Seq.{length-take-le}
 use native.Mathlib.Omega.{arith}
-use borrow.Author.Rules.{rules}
 use Rattle.reader.proofs.LineLaws.{line_no_room, line_in_front}
 use Rattle.reader.proofs.lines.read_line.Goals as goal
 

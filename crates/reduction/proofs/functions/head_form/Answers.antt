@@ -1,8 +1,6 @@
-use Prim.Native.Nat.{◌+◌}
 use native.Mathlib.Omega.{arith}
-use Rattle.cells.specs.Layout.{unit_at, scratch_unit}
-use Rattle.reduction.specs.Frames.{Framed, framed_same}
-use Rattle.reduction.proofs.FormLaws.{Reducing, reducing_starts, form_normal, form_spent, form_framed, form_large, form_steps}
+use Rattle.reduction.specs.Frames.{framed_same}
+use Rattle.reduction.proofs.FormLaws.{reducing_starts, form_normal, form_spent, form_framed, form_large, form_steps}
 use Rattle.reduction.proofs.functions.head_form.Goals as goal
 
 pub loop-h-init : goal.loop-h-init

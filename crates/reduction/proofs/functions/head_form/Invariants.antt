@@ -1,9 +1,8 @@
 -- `head_form`: head steps while there is one and the budget lasts.
 use Prim.Native.Nat.{◌+◌}
-use native.Mathlib.Omega.{arith}
 use Rattle.cells.specs.Layout.{unit_at, scratch_unit}
-use Rattle.reduction.specs.Frames.{Framed, framed_same}
-use Rattle.reduction.proofs.FormLaws.{Reducing, reducing_starts, form_normal, form_spent, form_framed, form_large, form_steps}
+use Rattle.reduction.specs.Frames.{Framed}
+use Rattle.reduction.proofs.FormLaws.{Reducing}
 use Rattle.reduction.proofs.functions.head_form.Given as goal
 
 abbrev pub invariant-loop-h : goal.invariant-loop-h

@@ -1,7 +1,6 @@
 -- `to_function`: the head form, by its shape.
 use mathlib.Core.Path.{refl}
 use Rattle.reduction.proofs.FormLaws.{function_refused, function_other, function_abstraction}
-use borrow.Author.Rules.{rules}
 use Rattle.reduction.proofs.functions.to_function.Goals as goal
 
 pub returns-then-code-ne0 : goal.returns-then-code-ne0

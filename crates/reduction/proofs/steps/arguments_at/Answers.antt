@@ -1,7 +1,5 @@
-use Prim.Native.Nat.{◌-◌}
 use native.Mathlib.Omega.{arith}
-use Rattle.reduction.proofs.ArgumentLaws.{Listed, listed_none, listed_more, listed_wrong, listed_all, listed_full}
-use borrow.Author.Rules.{rules}
+use Rattle.reduction.proofs.ArgumentLaws.{listed_none, listed_more, listed_wrong, listed_all, listed_full}
 use Rattle.reduction.proofs.steps.arguments_at.Goals as goal
 
 pub loop-i-init : goal.loop-i-init

@@ -1,8 +1,6 @@
 -- `arguments_at`: each argument starts where the one before it ends.
 use Prim.Native.Nat.{◌-◌}
-use native.Mathlib.Omega.{arith}
-use Rattle.reduction.proofs.ArgumentLaws.{Listed, listed_none, listed_more, listed_wrong, listed_all, listed_full}
-use borrow.Author.Rules.{rules}
+use Rattle.reduction.proofs.ArgumentLaws.{Listed}
 use Rattle.reduction.proofs.steps.arguments_at.Given as goal
 
 abbrev pub invariant-loop-i : goal.invariant-loop-i

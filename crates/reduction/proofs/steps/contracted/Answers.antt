@@ -1,7 +1,6 @@
 -- `contracted`: the body with the argument put in.
 use native.Mathlib.Omega.{arith}
 use Rattle.reduction.proofs.PutLaws.{contracted_none, contracted_no_function, contracted_law}
-use borrow.Author.Rules.{rules}
 use Rattle.reduction.proofs.steps.contracted.Goals as goal
 
 pub returns-then-at-w : goal.returns-then-at-w

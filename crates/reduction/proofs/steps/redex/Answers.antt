@@ -1,6 +1,5 @@
 -- `redex`: a contraction or an unfolding.
 use Rattle.reduction.proofs.StepLaws.{contracted_redex, unfolded_redex}
-use borrow.Author.Rules.{rules}
 use Rattle.reduction.proofs.steps.redex.Goals as goal
 
 pub returns-then-kind-eq1 : goal.returns-then-kind-eq1

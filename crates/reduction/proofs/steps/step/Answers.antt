@@ -2,10 +2,6 @@
 use mathlib.Core.Path.{refl, sym, ◌∙◌}
 use native.Mathlib.Omega.{arith}
 use Rattle.reduction.proofs.StepLaws.{step_no_limit, step_no_place, step_refused, step_made, in_place_refused, in_place_made}
-use borrow.Author.Rules.{rules}
-use Rattle.copies.proofs.move_cells.Reads as move-cells-reads
-use Rattle.cells.proofs.result_at.Reads as result-at-reads
-use Rattle.reduction.proofs.steps.unfolded_in_place.Reads as unfolded-in-place-reads
 use Rattle.reduction.proofs.steps.step.Goals as goal
 
 pub returns-then-limit-gt-LARGEST_LIMIT : goal.returns-then-limit-gt-LARGEST_LIMIT

@@ -2,9 +2,6 @@
 use mathlib.Core.Path.{refl}
 use native.Mathlib.Omega.{arith}
 use Rattle.reduction.proofs.PutLaws.{unfolded_none, unfolded_law}
-use borrow.Author.Rules.{rules}
-use Rattle.cells.proofs.result_at.Reads as result-at-reads
-use Rattle.reduction.proofs.steps.arguments_at.Reads as arguments-at-reads
 use Rattle.reduction.proofs.steps.unfolded.Goals as goal
 
 pub returns-then-at-w : goal.returns-then-at-w

@@ -1,7 +1,6 @@
 -- `unfolded_in_place`: the middle is copied over the constant.
 use native.Mathlib.Omega.{arith}
 use Rattle.reduction.proofs.PutLaws.{in_place_none, in_place_law}
-use borrow.Author.Rules.{rules}
 use Rattle.reduction.proofs.steps.unfolded_in_place.Goals as goal
 
 pub returns-then-end-from : goal.returns-then-end-from

@@ -1,5 +1,4 @@
 -- `identical`: sides of other sizes differ; of one size, the cells say.
-use borrow.Author.Rules.{rules}
 use Rattle.sides.proofs.Same.{other_sizes, of_one_size}
 use Rattle.sides.proofs.sides.identical.Goals as goal
 

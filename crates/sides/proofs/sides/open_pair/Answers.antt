@@ -1,5 +1,4 @@
 -- `open_pair`: identical expressions, else both moved up.
-use borrow.Author.Rules.{rules}
 use Rattle.sides.proofs.OpeningLaws.{open_same, open_moved}
 use Rattle.sides.proofs.sides.open_pair.Goals as goal
 

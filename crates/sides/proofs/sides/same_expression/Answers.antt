@@ -1,8 +1,5 @@
-use mathlib.Core.Path.{◌≡◌}
-use Prim.Native.Nat.{◌+◌, ◌-◌, ◌≤◌}
 use native.Mathlib.Omega.{arith}
-use lib.ListN.{length}
-use Rattle.sides.proofs.Same.{Agree, agree_none, agree_more, past_first, past_second, cells_differ, cells_agree}
+use Rattle.sides.proofs.Same.{agree_none, agree_more, past_first, past_second, cells_differ, cells_agree}
 use Rattle.sides.proofs.sides.same_expression.Goals as goal
 
 pub loop-pending-init : goal.loop-pending-init

@@ -1,9 +1,8 @@
 -- `same_expression`: cell by cell, as many parts pending on either side.
 use mathlib.Core.Path.{◌≡◌}
 use Prim.Native.Nat.{◌+◌, ◌-◌, ◌≤◌}
-use native.Mathlib.Omega.{arith}
 use lib.ListN.{length}
-use Rattle.sides.proofs.Same.{Agree, agree_none, agree_more, past_first, past_second, cells_differ, cells_agree}
+use Rattle.sides.proofs.Same.{Agree}
 use Rattle.sides.proofs.sides.same_expression.Given as goal
 
 abbrev pub invariant-loop-pending : goal.invariant-loop-pending

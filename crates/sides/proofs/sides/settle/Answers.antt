@@ -1,9 +1,6 @@
 use mathlib.Core.Path.{◌∙◌}
-use Prim.Native.Nat.{◌*◌}
 use native.Mathlib.Omega.{arith}
-use borrow.Author.Rules.{rules}
-use Rattle.aut68.specs.Sizes.{nesting}
-use Rattle.sides.proofs.ProgressLaws.{Progressed, progress_none, put_in_place}
+use Rattle.sides.proofs.ProgressLaws.{progress_none, put_in_place}
 use Rattle.sides.proofs.Settling.{sides_under, settled_same, settle_on, settle_ended}
 use Rattle.sides.proofs.sides.settle.Goals as goal
 

@@ -1,11 +1,8 @@
 -- `settle`: identical expressions, else the sides put in place and turns until no step follows.
-use mathlib.Core.Path.{◌∙◌}
 use Prim.Native.Nat.{◌*◌}
-use native.Mathlib.Omega.{arith}
-use borrow.Author.Rules.{rules}
 use Rattle.aut68.specs.Sizes.{nesting}
-use Rattle.sides.proofs.ProgressLaws.{Progressed, progress_none, put_in_place}
-use Rattle.sides.proofs.Settling.{sides_under, settled_same, settle_on, settle_ended}
+use Rattle.sides.proofs.ProgressLaws.{Progressed}
+use Rattle.sides.proofs.Settling.{sides_under}
 use Rattle.sides.proofs.sides.settle.Given as goal
 
 abbrev pub invariant-loop-t : goal.invariant-loop-t

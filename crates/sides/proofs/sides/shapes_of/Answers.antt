@@ -1,6 +1,5 @@
 -- `shapes_of`: the first cells, if both sides lie in the store.
 use native.Mathlib.Omega.{arith}
-use borrow.Author.Rules.{rules}
 use Rattle.sides.proofs.ShapesLaws.{shapes_differ, shapes_match}
 use Rattle.sides.proofs.sides.shapes_of.Goals as goal
 

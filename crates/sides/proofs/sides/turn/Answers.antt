@@ -2,7 +2,6 @@
 use native.Mathlib.Omega.{arith}
 use Rattle.sides.proofs.Steps.{Decided, turn_same, turn_parts, turn_spent, turn_step, turn_large}
 use Rattle.agreement.specs.Which.{the_left, the_right}
-use borrow.Author.Rules.{rules}
 use Rattle.sides.proofs.sides.turn.Goals.{After-choose-side}
 use Rattle.sides.proofs.sides.turn.Goals as goal
 

@@ -3,7 +3,6 @@ use native.Mathlib.Omega.{arith}
 use Rattle.storage.proofs.RowLaws.{too_many_lines, no_row, no_cells, no_entry, room_by_entry}
 use mathlib.Core.Path.{ap}
 use mathlib.Core.Bool.{not}
-use borrow.Author.Rules.{rules}
 use Rattle.storage.proofs.rows.has_room.Goals as goal
 
 pub returns-then-lines-ge-LAST_LINE : goal.returns-then-lines-ge-LAST_LINE

@@ -2,7 +2,6 @@
 use mathlib.Core.Path.{sym}
 use native.Mathlib.Omega.{arith}
 use lib.Seq.{set_out}
-use borrow.Author.Rules.{rules}
 use Rattle.storage.proofs.rows.put_field.Goals as goal
 
 pub returns-then-lines-ge-LAST_LINE : goal.returns-then-lines-ge-LAST_LINE

@@ -2,7 +2,6 @@
 use mathlib.Core.Path.{◌∙◌}
 use Rattle.cells.specs.Cells.{Below}
 use Rattle.storage.proofs.RowLaws.{row_put}
-use borrow.Author.Rules.{rules}
 use Rattle.storage.proofs.rows.put_row.Goals as goal
 
 pub shape_of-table : goal.shape_of-table

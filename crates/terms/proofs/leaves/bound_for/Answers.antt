@@ -1,6 +1,5 @@
 use native.Mathlib.Omega.{arith}
 use Rattle.terms.proofs.LeafLaws.{leaf_cell, leaf_put, leaf_raised, leaf_too_high, other_stays, low_stays, bound_high, bound_here}
-use borrow.Author.Rules.{rules}
 use Rattle.terms.proofs.leaves.bound_for.Goals as goal
 
 pub returns-then-x-ne2 : goal.returns-then-x-ne2

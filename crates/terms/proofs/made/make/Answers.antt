@@ -3,7 +3,6 @@ use native.Mathlib.Omega.{arith}
 use lib.ListN.{length-take}
 use lib.Seq.{length-take-le}
 use Rattle.terms.proofs.Whole.{whole_none, whole_full, whole_made}
-use borrow.Author.Rules.{rules}
 use Rattle.terms.proofs.made.make.Goals as goal
 
 pub returns-then-to-w : goal.returns-then-to-w

@@ -1,5 +1,4 @@
 use Rattle.terms.proofs.Whole.{raise_post}
-use borrow.Author.Rules.{rules}
 use Rattle.terms.proofs.made.raise.Goals as goal
 
 pub returns : goal.returns

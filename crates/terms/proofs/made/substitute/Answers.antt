@@ -1,5 +1,4 @@
 use Rattle.terms.proofs.Whole.{substitute_post}
-use borrow.Author.Rules.{rules}
 use Rattle.terms.proofs.made.substitute.Goals as goal
 
 pub returns : goal.returns

@@ -1,7 +1,6 @@
 -- `applied`: A's category compared with the domain, then A put into the body.
 use native.Mathlib.Omega.{arith}
 use Rattle.typing.proofs.Applications.{applied_refused, applied_differs, applied_made}
-use borrow.Author.Rules.{rules}
 use Rattle.typing.proofs.application.applied.Goals as goal
 
 pub returns-then-found-ne0 : goal.returns-then-found-ne0

@@ -2,7 +2,6 @@
 use mathlib.Core.Path.{refl}
 use native.Mathlib.Omega.{arith}
 use Rattle.typing.proofs.Fitting.{fits_refused, fits_seen, fits_compared}
-use borrow.Author.Rules.{rules}
 use Rattle.typing.proofs.arguments.argument_fits.Goals as goal
 
 pub returns-then-found-ne0 : goal.returns-then-found-ne0

@@ -2,7 +2,6 @@
 use mathlib.Core.Path.{refl}
 use native.Mathlib.Omega.{arith}
 use Rattle.typing.proofs.Fitting.{wanted_too_large, wanted_compared}
-use borrow.Author.Rules.{rules}
 use Rattle.typing.proofs.arguments.compare_wanted.Goals as goal
 
 pub returns-then-n-limit : goal.returns-then-n-limit

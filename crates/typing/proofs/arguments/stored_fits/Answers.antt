@@ -1,6 +1,5 @@
 -- `stored_fits`: the category on its line is seen to be the wanted one, or they are compared.
 use mathlib.Core.Path.{refl}
-use borrow.Author.Rules.{rules}
 use Rattle.typing.proofs.Fitting.{stored_fits_same, stored_fits_refused, stored_fits_compared}
 use Rattle.typing.proofs.arguments.stored_fits.Goals as goal
 

@@ -1,6 +1,5 @@
 -- `compare_units`: both sides lie below the comparison's units.
 use Rattle.typing.proofs.Comparing.{units_compared}
-use borrow.Author.Rules.{rules}
 use Rattle.typing.proofs.comparisons.compare_units.Goals as goal
 
 pub returns : goal.returns

@@ -1,7 +1,6 @@
 -- `check_book`: the outcome has the numbers of the admission; the demands follow from `checks`.
 use mathlib.Core.Path.{sym, ◌∙◌, subst}
 use Prim.Native.Nat.{ℕ}
-use borrow.Author.Rules.{rules}
 use Rattle.aut68.specs.Language.{aut68}
 use Rattle.aut68.specs.Stores.{Stores}
 use Rattle.aut68.specs.Procedure.Run.{Ending}
