@@ -15,7 +15,7 @@ use copies::clear;
 use outcomes::spent;
 
 // How a book ended. code: 0, or that of a refusal. line: the number of its lines, or the refused line. steps: the head steps made.
-#[derive(Drop)]
+#[derive(Clone, Copy)]
 pub struct Admission {
     pub code: u32,
     pub line: u32,

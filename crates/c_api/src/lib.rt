@@ -19,7 +19,7 @@ use pairs::Pair;
 
 // Document 01's numbers of an outcome: code, line, steps.
 #[repr(C)]
-#[derive(Drop)]
+#[derive(Clone, Copy)]
 pub struct Aut68Outcome {
     pub code: u32,
     pub line: u32,
@@ -171,7 +171,7 @@ pub extern "C" fn aut68_narrow(source: &[Cell], target: &mut [NarrowCell]) -> An
 
 // Where an identifier stands in the book: its first byte and its length; length 0 where there is none.
 #[repr(C)]
-#[derive(Drop)]
+#[derive(Clone, Copy)]
 pub struct Aut68Part {
     pub start: u64,
     pub length: u64,

@@ -5,7 +5,7 @@ use Rattle.std.proofs.Common.{sym}
 use native.Mathlib.Omega.{arith}
 use Rattle.std.proofs.Math.ListN.{length}
 use Rattle.aut68.specs.Language.{Language, aut68, aut_qe}
-use Rattle.aut68.specs.Procedure.Answer.{Answer, done, stop, Act, Refusal, not_function, refuse}
+use Rattle.aut68.specs.Procedure.Answer.{Answer, done, stop, Act, Refusal, not_function, refuse, ◌>>=◌}
 use Rattle.aut68.specs.Expr.{Expr, type, prop, var, bound, const, app, abs, is_sort, Shape, shape, abstraction, other, over_binding}
 use Rattle.aut68.specs.Substitution.{lift, substitute, instantiate}
 use Rattle.aut68.specs.Lines.{Lines}

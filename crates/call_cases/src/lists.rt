@@ -6,7 +6,7 @@ use outcomes::AnswerNumbers;
 use pairs::Pair;
 
 // The numbers of the call, and the places of the sheet.
-#[derive(Drop)]
+#[derive(Clone, Copy)]
 pub struct Listed {
     pub answer: AnswerNumbers,
     pub places: [AnswerNumbers; 8],

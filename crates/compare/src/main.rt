@@ -88,7 +88,7 @@ fn read_numbered(
 }
 
 // An expression that was read: 0 and how many cells it has, or the code of its refusal.
-#[derive(Drop)]
+#[derive(Clone, Copy)]
 struct Read {
     code: u32,
     size: usize,

@@ -14,7 +14,7 @@ pub use parts_first::compare_parts_first;
 use sides::{settle, shapes_of};
 
 // code 0: equal; else a refusal. The budget that is left.
-#[derive(Drop)]
+#[derive(Clone, Copy)]
 pub struct Compared {
     pub code: u32,
     pub budget: u32,

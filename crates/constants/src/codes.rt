@@ -41,7 +41,7 @@ pub const UNBALANCED: u32 = 17;
 pub const NOT_WHOLE: u32 = 18;
 
 // Why a call gives another code than 0: one on a book that was admitted, or one on a shelf.
-#[derive(Drop)]
+#[derive(Clone, Copy)]
 pub enum Cause {
     NoSuchLine,
     AnswerTooLong,
@@ -70,7 +70,7 @@ pub fn cause_code(cause: Cause) -> u32
 }
 
 // Why a book is refused.
-#[derive(Drop)]
+#[derive(Clone, Copy)]
 pub enum Reason {
     WorkTooSmall,
     LimitOutOfRange,

@@ -5,7 +5,7 @@ use Rattle.aut68.specs.Language.{Language}
 use Rattle.aut68.specs.Rules.Grammar.{ending}
 use Rattle.aut68.specs.Bytes.{Bytes}
 use Rattle.aut68.specs.Source.{Used}
-use Rattle.aut68.specs.Procedure.Answer.{give}
+use Rattle.aut68.specs.Procedure.Answer.{give, ◌>>=◌}
 use Rattle.aut68.specs.Procedure.Parse.{Read, Placed, a_middle, an_expression, symbol, line_end}
 use Rattle.aut68.specs.Sizes.{nesting}
 use Rattle.symbols.specs.Symbols.{used_in}

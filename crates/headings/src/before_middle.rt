@@ -6,7 +6,7 @@ use symbols::{kind_at, name_at, spaces, symbol, used_at};
 
 // The indicator: code 0 or 3, the byte behind it, its name (start, len; length 0 if empty), and the paragraph's name before its point
 // (title, span; length 0 if there is no point).
-#[derive(Drop)]
+#[derive(Clone, Copy)]
 pub struct Prefix {
     pub code: u32,
     pub at: usize,
@@ -56,7 +56,7 @@ fn prefix_of(line: &[u8], kinds: &[u8; 256]) -> Prefix
 }
 
 // The words before the middle. code: 0 or 3. at: the byte behind `:=`. The indicator, as in Prefix. The identifier (first, size).
-#[derive(Drop)]
+#[derive(Clone, Copy)]
 pub struct Head {
     pub code: u32,
     pub at: usize,

@@ -7,7 +7,7 @@ use constants::{CELL_FACTOR, Cell, KIND};
 
 // kind 0: none; 1: a contraction; 2: an unfolding of the constant of `line`.
 // at: where the redex starts; kept: the cells before it.
-#[derive(Drop)]
+#[derive(Clone, Copy)]
 pub struct Head {
     pub kind: u32,
     pub at: usize,

@@ -8,7 +8,7 @@ use constants::{Cell, NOT_TYPE, TOO_LARGE};
 use copies::move_cells;
 
 // code 0: a category of `size` cells was found, of an expression of `extent` cells; else a refusal. The budget that is left.
-#[derive(Drop)]
+#[derive(Clone, Copy)]
 pub struct Found {
     pub code: u32,
     pub size: usize,
@@ -17,7 +17,7 @@ pub struct Found {
 }
 
 // code 0: the arguments, of `extent` cells, passed, and lie in the level's unit; else a refusal. The budget that is left.
-#[derive(Drop)]
+#[derive(Clone, Copy)]
 pub struct Argued {
     pub code: u32,
     pub extent: usize,
@@ -25,7 +25,7 @@ pub struct Argued {
 }
 
 // code 0: passed; else a refusal. The budget that is left.
-#[derive(Drop)]
+#[derive(Clone, Copy)]
 pub struct Checked {
     pub code: u32,
     pub budget: u32,

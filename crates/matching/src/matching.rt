@@ -8,7 +8,7 @@ use copies::same_run;
 use terms::{PAST, start_at};
 
 // A run of cells of the working store; no cells where a cell stands for itself.
-#[derive(Drop)]
+#[derive(Clone, Copy)]
 struct Run {
     start: usize,
     len: usize,

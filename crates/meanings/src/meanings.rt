@@ -39,7 +39,7 @@ pub fn binding(line: &[u8], scope: Scope, word: &[u8]) -> usize
 }
 
 // What a name that is not bound stands for.
-#[derive(Drop)]
+#[derive(Clone, Copy)]
 pub enum Sought {
     // The line with that identifier, and its kind.
     Line { number: usize, kind: usize },
@@ -84,7 +84,7 @@ pub fn look_up(
 }
 
 // What a name means: its cell, and how many arguments it takes; or the refusal, 5 or 14, as fault.
-#[derive(Drop)]
+#[derive(Clone, Copy)]
 pub struct Meaning {
     pub fault: u32,
     pub cell: Cell,

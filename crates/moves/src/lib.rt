@@ -33,7 +33,7 @@ pub fn none_open() -> Open
 }
 
 // What became of a paragraph line. code: 0, or its refusal.
-#[derive(Drop)]
+#[derive(Clone, Copy)]
 pub struct Moved {
     pub code: u32,
     pub open: Open,

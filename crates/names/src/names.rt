@@ -72,7 +72,7 @@ pub fn find(
 }
 
 // A part of the book: its first byte, and how many it has.
-#[derive(Drop)]
+#[derive(Clone, Copy)]
 pub struct Part {
     pub start: usize,
     pub len: usize,

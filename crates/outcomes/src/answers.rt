@@ -6,7 +6,7 @@ use constants::{Cause, Reason, cause_code, code_of, reason_of};
 
 // The book is refused, as its check ends; or it is admitted, and the call writes no answer; or it wrote one of this length. `steps` are
 // the check's in the first case, and the call's own in the others.
-#[derive(Drop)]
+#[derive(Clone, Copy)]
 pub enum Answer {
     Refused {
         reason: Reason,

@@ -12,7 +12,7 @@ use constants::{Reason, code_of, reason_of};
 
 // What the check of a book ends with. `line`: the refused line, 0 for a book refused ahead of its lines; `steps`: the head steps
 // made until then, over the book.
-#[derive(Drop)]
+#[derive(Clone, Copy)]
 pub enum Outcome {
     Accepted {
         lines: u32,

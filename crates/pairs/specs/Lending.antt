@@ -11,7 +11,7 @@ use Rattle.std.specs.Prelude.{◌≡◌, refl, ℕ, List, [], ◌∷◌, ◌++�
 use Rattle.std.proofs.Common.{sym, ◌∙◌, ap, subst}
 use seplogic.Ra.Ura.{Ura}
 use base.Fraction.{full_share}
-use mir.Syntax.{erased}
+use mir.Syntax.{erased, w32}
 use mir.Val.{Val}
 use base.Logic.{ent, sep, ex}
 use base.Fml.{Lft, GName, Share, Fml, Incl-refl, fsep, flft, fobs, fauth, flent, fobor}
@@ -26,6 +26,8 @@ use denote.Memory.{mem, shares}
 use denote.Ref.{Bor, MutBor, at_last}
 use denote.Slice.{slice_val, shr_slice_vals, mut_slice_vals, MutSlice, ShrSlice, heres, Room, finally, mut_slice_at, coded_holeys}
 use denote.Shares.{Shares}
+use denote.Copied.{Copied, uint_Copied}
+use denote.Builtin.{u32}
 use denote.Lend.{Held, lends_slice, slice_back, lends_shr_slice}
 use denote.Index.{row, whole_out, whole_in, opens_slice, closes_slice}
 
@@ -113,3 +115,16 @@ module _ (R : RattleType) (κ : Lft) (q : Share) (x : MutBor (List R.Denot)) (v 
         -- [the list in memory; what was kept at κ]
         move ! (1 ∷ []) $ fsplit ! $ pure_l ! (mut_slice_at R x (v ∷ [])) (λ g. fsplit ! $ move ! (1 ∷ []) $ fsplit ! $ move ! (3 ∷ 2 ∷ 0 ∷ 1 ∷ []) $ closes_slice ! tt R x.now x.now refl b o $ at_once ! $
         fjoin ! $ pure_i ! (mut_slice_at R x (v ∷ [])) (tt, (tt, tt)) g $ fjoin ! $ done !)
+
+-- of a type whose values are copied the premise is a law; so of numbers nothing is left to give
+module _ (R : RattleType) (κ : Lft) (q : Share) (x : MutBor (List R.Denot)) (v : Val) {M : Type 1} {𝓤 : Ura M} (𝓛 : Logic 𝓤) where
+  open 𝓛 use {H, A}
+
+  pub lends_copied : Copied 𝓛 R → ent 𝓤 (sep 𝓤 (sem 𝓛 (Mut κ R x v)) (A.lft κ q)) (H.⇛ (ex 𝓤 (λ (p : Loan). mean 𝓛 (ShrLoan R κ q x v 𝓤 p))))
+  lends_copied c = lends_shr R κ q x v 𝓛 (λ ν. c.shares full_share (ν ∷ []))
+
+module _ (κ : Lft) (q : Share) (x : MutBor (List ℕ)) (v : Val) {M : Type 1} {𝓤 : Ura M} (𝓛 : Logic 𝓤) where
+  open 𝓛 use {H, A}
+
+  pub lends_cells : ent 𝓤 (sep 𝓤 (sem 𝓛 (Mut κ u32 x v)) (A.lft κ q)) (H.⇛ (ex 𝓤 (λ (p : Loan). mean 𝓛 (ShrLoan u32 κ q x v 𝓤 p))))
+  lends_cells = lends_copied u32 κ q x v 𝓛 (uint_Copied 𝓛 w32)

@@ -8,7 +8,7 @@ use constants::{Cell, NOT_FUNCTION, OUT_OF_BUDGET, TOO_LARGE};
 use heads::head_of;
 
 // An abstraction's domain and body, by where they start; or something else.
-#[derive(Drop)]
+#[derive(Clone, Copy)]
 enum Shape {
     Abstraction { domain: usize, body: usize },
     Other,
@@ -33,7 +33,7 @@ fn shape_of(table: &[u32], w: &[Cell], at: usize) -> Shape
 }
 
 // What head steps leave: code 0 and the size, or a refusal; and the budget that is left.
-#[derive(Drop)]
+#[derive(Clone, Copy)]
 struct Form {
     code: u32,
     size: usize,
@@ -85,7 +85,7 @@ fn head_form(
 }
 
 // An abstraction, by its size and where its domain and body start; or a refusal. And the budget that is left.
-#[derive(Drop)]
+#[derive(Clone, Copy)]
 pub struct Function {
     pub code: u32,
     pub size: usize,

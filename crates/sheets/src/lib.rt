@@ -15,7 +15,7 @@ use pairs::{Pair, compare_pairs};
 
 // How far a call is when its book is checked: the numbers that it will end with; the lines of the book, and how many pairs are to be
 // compared over them.
-#[derive(Drop)]
+#[derive(Clone, Copy)]
 pub struct Opened {
     pub code: u32,
     pub line: u32,

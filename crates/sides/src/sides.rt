@@ -9,7 +9,7 @@ use reduction::step;
 
 // Where the head steps of two sides ended: 0 they are identical, 1 no side has a head step, 2 a step was taken and there may be
 // more; else a refusal. The sizes of both sides, and the budget that is left.
-#[derive(Drop)]
+#[derive(Clone, Copy)]
 pub struct Progress {
     pub state: u32,
     pub left: usize,
@@ -18,7 +18,7 @@ pub struct Progress {
 }
 
 // Whether the expressions of a pair are identical; else the sizes of the sides.
-#[derive(Drop)]
+#[derive(Clone, Copy)]
 pub struct Opening {
     pub same: bool,
     pub left: usize,
@@ -26,7 +26,7 @@ pub struct Opening {
 }
 
 // Whether the shapes of two sides differ; else how many parts each has.
-#[derive(Drop)]
+#[derive(Clone, Copy)]
 pub struct Shapes {
     pub differ: bool,
     pub parts: usize,

@@ -9,7 +9,7 @@ use copies::whole;
 use reader::Line;
 
 // How many cells table, term store and index have; and how many of the last two the lines before have filled.
-#[derive(Drop)]
+#[derive(Clone, Copy)]
 pub struct Room {
     pub table: usize,
     pub terms: usize,

@@ -148,7 +148,7 @@ pub fn is_reserved(word: &[u8]) -> bool
 }
 
 // A name in the line; length 0: no name.
-#[derive(Drop)]
+#[derive(Clone, Copy)]
 pub struct Name {
     pub start: usize,
     pub len: usize,
@@ -184,7 +184,7 @@ pub fn name_at(line: &[u8], kinds: &[u8; 256], at: usize) -> Name
 
 // A name where it is used. title, size: the paragraph's name before the point (size 0: there is no point). start, len: the name;
 // len 0: no such name.
-#[derive(Drop)]
+#[derive(Clone, Copy)]
 pub struct UsedName {
     pub title: usize,
     pub size: usize,

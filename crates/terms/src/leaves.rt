@@ -12,7 +12,7 @@ pub const LIFTING: usize = 0;
 pub const SUBSTITUTING: usize = 1;
 
 // The one cell `cell`; or, where that is too large for a cell, the expression at `from`, lifted.
-#[derive(Drop)]
+#[derive(Clone, Copy)]
 pub struct Leaf {
     pub cell: usize,
     pub from: usize,

@@ -12,7 +12,7 @@ use constants::{CELL_FACTOR, CELL_VALUES, Cell};
 pub const PAST: usize = 18446744073709551615;
 
 // Where a walk stopped reading and writing; PAST where the result has no room.
-#[derive(Drop)]
+#[derive(Clone, Copy)]
 pub struct Ends {
     pub from: usize,
     pub to: usize,

@@ -2,7 +2,7 @@
 use Rattle.std.specs.Prelude.{List, ℕ, ◌+◌, ◌*◌, ◌≤◌, length}
 use Rattle.aut68.specs.Sizes.{work_units}
 use Rattle.aut68.specs.Language.{aut68}
-use Rattle.aut68.specs.Procedure.Answer.{Act, Answer, and_then}
+use Rattle.aut68.specs.Procedure.Answer.{Act, Answer, and_then, ◌>>=◌}
 use Rattle.aut68.specs.Expr.{Expr, Exprs}
 use Rattle.aut68.specs.Substitution.{instantiate}
 use Rattle.aut68.specs.Lines.{Line, Lines}

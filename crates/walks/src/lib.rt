@@ -24,7 +24,7 @@ fn titled(line: &[u8], kinds: &[u8; 256], word: &[u8]) -> bool
 }
 
 // Behind a line: how many of the paragraphs opened on the way are open, how many the book has, and whether the last is the one sought.
-#[derive(Drop)]
+#[derive(Clone, Copy)]
 struct Step {
     deep: usize,
     count: usize,
