@@ -38,6 +38,8 @@ LEMMAS = {
     "step_right": "reader",
     "too_large": "widths reduction",
 }
+# Functions that had the new spelling already.
+FUNCTIONS = ("closed_in", "code_of", "is_type", "line_at", "line_of")
 GENERATED = re.compile(r"^(Need|After|Lts|Goes|Array|At|Past|In|Cell)-")
 
 
@@ -45,7 +47,7 @@ def in_snake_case(name):
     name = re.sub(r"(?<=[a-z0-9])([A-Z]+)(?=[A-Z][a-z]|[-_']|$)", lambda m: "_" + m[1].lower(), name) if name[0].islower() else name
     parts = name.split("-")
     out = []
-    for at, part in enumerate(parts):
+    for part in parts:
         if part[:1].islower():
             part = re.sub(r"(?<=[a-z0-9])[A-Z]", lambda m: "_" + m[0].lower(), part)
             part = re.sub(r"_([A-Z])", lambda m: "_" + m[1].lower(), part)
@@ -104,10 +106,6 @@ def table():
         if new != name:
             rows[name] = new
     return rows
-
-
-# Functions that had the new spelling already.
-FUNCTIONS = ("closed_in", "code_of", "is_type", "line_at", "line_of")
 
 
 def turned(text, rows, of_proofs=False):

@@ -23,7 +23,7 @@ pub const BUDGET: u32 = 100000;
 
 pub const LIMIT: usize = 128;
 
-// Writes the first n bytes of out; nothing where it has fewer.
+// Writes the first n bytes of out; nothing where it has fewer. After an error, which is the writer's, some of them may have been written.
 pub fn write_first<W: Write>(to: &mut W, out: &[u8], n: usize) -> io::Result<()>
     ensures all { n ≤ length out.now → OnOk result (Appends (W.contents to.old) (W.contents to.new) (take n out.now)) }
     ensures none { length out.now < n → IsOk result × Keeps (W.contents to.old) (W.contents to.new) }
