@@ -1,2 +1,3 @@
 -- What the contracts say of codes.
+pub mod Refusals
 pub mod Reasons

@@ -1,10 +1,12 @@
 -- The refusal that each reason of the code stands for, and what each cause does.
-use Rattle.aut68.specs.Procedure.Answer.{Refusal, work_too_small, limit_out_of_range, malformed, duplicate, unknown_name, wrong_arity, not_function, not_type, mismatch, too_large, out_of_budget, out_of_space, not_in_context, unbalanced}
+use Rattle.std.specs.Prelude.{◌≡◌, ℕ, Result, Ok, Err}
+use Rattle.aut68.specs.Procedure.Answer.{Refusal, code_of, work_too_small, limit_out_of_range, malformed, duplicate, unknown_name, wrong_arity, not_function, not_type, mismatch, too_large, out_of_budget, out_of_space, not_in_context, unbalanced}
 use Rattle.aut68.specs.Procedure.Calls.{Decline, no_such_line, answer_too_long, store_too_small, cell_too_large, not_whole, strings_differ, string_too_large, steps_spent}
 use Rattle.constants.specs.declared.codes.Cause.{Cause}
 use Rattle.constants.specs.declared.codes.Cause.TheVariants.{NoSuchLine, AnswerTooLong, StoreTooSmall, CellTooLarge, NotWhole}
 use Rattle.constants.specs.declared.codes.Cause.TheVariants as Causes
 use Rattle.constants.specs.declared.codes.Reason.{Reason}
+use Rattle.constants.specs.declared.codes.UnknownCode.{UnknownCode}
 use Rattle.constants.specs.declared.codes.Reason.TheVariants.{WorkTooSmall, LimitOutOfRange, Malformed, Duplicate, UnknownName, WrongArity}
 use Rattle.constants.specs.declared.codes.Reason.TheVariants.{NotFunction, NotType, Mismatch, TooLarge, OutOfBudget, OutOfSpace, NotInContext, Unbalanced}
 
@@ -33,3 +35,8 @@ decline_of NotWhole = not_whole
 decline_of Causes.Different = strings_differ
 decline_of Causes.TooLarge = string_too_large
 decline_of Causes.OutOfBudget = steps_spent
+
+-- a code is that of one reason, or of none: it is then given back
+abbrev pub Decodes : ℕ → Result Reason UnknownCode → Type 0
+Decodes code (Ok reason) = code ≡ code_of (refusal_of reason)
+Decodes code (Err e) = (e.0 ≡ code) × ((x : Refusal) → code ≡ code_of x → ⊥)

@@ -1,8 +1,8 @@
 // The codes of refusals, and the reasons that they stand for; 0 stands for no refusal. aut68's Answer has the same for the contracts.
 ghost use Rattle.std.specs.Prelude.{◌≡◌};
-ghost use Rattle.aut68.specs.Procedure.Answer.{Refusal, code_of};
+ghost use Rattle.aut68.specs.Procedure.Answer.{code_of};
 ghost use Rattle.aut68.specs.Procedure.Calls.{decline_code};
-ghost use Rattle.constants.specs.Reasons.{refusal_of, decline_of};
+ghost use Rattle.constants.specs.Reasons.{refusal_of, decline_of, Decodes};
 
 pub const WORK_TOO_SMALL: u32 = 1;
 
@@ -41,7 +41,7 @@ pub const UNBALANCED: u32 = 17;
 pub const NOT_WHOLE: u32 = 18;
 
 // Why a call gives another code than 0: one on a book that was admitted, or one on a shelf.
-#[derive(Clone, Copy)]
+#[derive(Clone, Copy, Debug, PartialEq, Eq)]
 pub enum Cause {
     NoSuchLine,
     AnswerTooLong,
@@ -53,24 +53,26 @@ pub enum Cause {
     OutOfBudget,
 }
 
-// The code of a cause.
-pub fn cause_code(cause: Cause) -> u32
-    ensures { result ≡ decline_code (decline_of cause) }
-{
-    match cause {
-        Cause::NoSuchLine => NO_SUCH_LINE,
-        Cause::AnswerTooLong => OUT_OF_SPACE,
-        Cause::StoreTooSmall => STORE_TOO_SMALL,
-        Cause::CellTooLarge => CELL_TOO_LARGE,
-        Cause::NotWhole => NOT_WHOLE,
-        Cause::Different => MISMATCH,
-        Cause::TooLarge => TOO_LARGE,
-        Cause::OutOfBudget => OUT_OF_BUDGET,
+impl From<Cause> for u32 {
+    ghost from_gives = { λ cause code. code ≡ decline_code (decline_of cause) };
+
+    #[tactic(auto, unfolding(aut68::specs::Procedure::Calls::decline_code, aut68::specs::Procedure::Answer::code_of))]
+    fn from(cause: Cause) -> u32 {
+        match cause {
+            Cause::NoSuchLine => NO_SUCH_LINE,
+            Cause::AnswerTooLong => OUT_OF_SPACE,
+            Cause::StoreTooSmall => STORE_TOO_SMALL,
+            Cause::CellTooLarge => CELL_TOO_LARGE,
+            Cause::NotWhole => NOT_WHOLE,
+            Cause::Different => MISMATCH,
+            Cause::TooLarge => TOO_LARGE,
+            Cause::OutOfBudget => OUT_OF_BUDGET,
+        }
     }
 }
 
 // Why a book is refused.
-#[derive(Clone, Copy)]
+#[derive(Clone, Copy, Debug, PartialEq, Eq)]
 pub enum Reason {
     WorkTooSmall,
     LimitOutOfRange,
@@ -88,46 +90,57 @@ pub enum Reason {
     Unbalanced,
 }
 
-// The code of a reason.
-pub fn code_of(reason: Reason) -> u32
-    ensures { result ≡ code_of (refusal_of reason) }
-{
-    match reason {
-        Reason::WorkTooSmall => WORK_TOO_SMALL,
-        Reason::LimitOutOfRange => LIMIT_OUT_OF_RANGE,
-        Reason::Malformed => MALFORMED,
-        Reason::Duplicate => DUPLICATE,
-        Reason::UnknownName => UNKNOWN_NAME,
-        Reason::WrongArity => WRONG_ARITY,
-        Reason::NotFunction => NOT_FUNCTION,
-        Reason::NotType => NOT_TYPE,
-        Reason::Mismatch => MISMATCH,
-        Reason::TooLarge => TOO_LARGE,
-        Reason::OutOfBudget => OUT_OF_BUDGET,
-        Reason::OutOfSpace => OUT_OF_SPACE,
-        Reason::NotInContext => NOT_IN_CONTEXT,
-        Reason::Unbalanced => UNBALANCED,
+impl From<Reason> for u32 {
+    ghost from_gives = { λ reason code. code ≡ code_of (refusal_of reason) };
+
+    #[tactic(auto, unfolding(aut68::specs::Procedure::Answer::code_of))]
+    fn from(reason: Reason) -> u32 {
+        match reason {
+            Reason::WorkTooSmall => WORK_TOO_SMALL,
+            Reason::LimitOutOfRange => LIMIT_OUT_OF_RANGE,
+            Reason::Malformed => MALFORMED,
+            Reason::Duplicate => DUPLICATE,
+            Reason::UnknownName => UNKNOWN_NAME,
+            Reason::WrongArity => WRONG_ARITY,
+            Reason::NotFunction => NOT_FUNCTION,
+            Reason::NotType => NOT_TYPE,
+            Reason::Mismatch => MISMATCH,
+            Reason::TooLarge => TOO_LARGE,
+            Reason::OutOfBudget => OUT_OF_BUDGET,
+            Reason::OutOfSpace => OUT_OF_SPACE,
+            Reason::NotInContext => NOT_IN_CONTEXT,
+            Reason::Unbalanced => UNBALANCED,
+        }
     }
 }
 
-// The reason with this code; the last one for a number that is no code.
-pub fn reason_of(code: u32) -> Reason
-    ensures { (x : Refusal) → code ≡ code_of x → refusal_of result ≡ x }
-{
-    match code {
-        WORK_TOO_SMALL => Reason::WorkTooSmall,
-        LIMIT_OUT_OF_RANGE => Reason::LimitOutOfRange,
-        MALFORMED => Reason::Malformed,
-        DUPLICATE => Reason::Duplicate,
-        UNKNOWN_NAME => Reason::UnknownName,
-        WRONG_ARITY => Reason::WrongArity,
-        NOT_FUNCTION => Reason::NotFunction,
-        NOT_TYPE => Reason::NotType,
-        MISMATCH => Reason::Mismatch,
-        TOO_LARGE => Reason::TooLarge,
-        OUT_OF_BUDGET => Reason::OutOfBudget,
-        OUT_OF_SPACE => Reason::OutOfSpace,
-        NOT_IN_CONTEXT => Reason::NotInContext,
-        _ => Reason::Unbalanced,
+// A number that is the code of no reason.
+#[derive(Clone, Copy, Debug, PartialEq, Eq)]
+pub struct UnknownCode(pub u32);
+
+impl TryFrom<u32> for Reason {
+    type Error = UnknownCode;
+
+    ghost try_from_gives = { Decodes };
+
+    #[tactic(auto, unfolding(aut68::specs::Procedure::Answer::code_of))]
+    fn try_from(code: u32) -> Result<Self, UnknownCode> {
+        match code {
+            WORK_TOO_SMALL => Ok(Reason::WorkTooSmall),
+            LIMIT_OUT_OF_RANGE => Ok(Reason::LimitOutOfRange),
+            MALFORMED => Ok(Reason::Malformed),
+            DUPLICATE => Ok(Reason::Duplicate),
+            UNKNOWN_NAME => Ok(Reason::UnknownName),
+            WRONG_ARITY => Ok(Reason::WrongArity),
+            NOT_FUNCTION => Ok(Reason::NotFunction),
+            NOT_TYPE => Ok(Reason::NotType),
+            MISMATCH => Ok(Reason::Mismatch),
+            TOO_LARGE => Ok(Reason::TooLarge),
+            OUT_OF_BUDGET => Ok(Reason::OutOfBudget),
+            OUT_OF_SPACE => Ok(Reason::OutOfSpace),
+            NOT_IN_CONTEXT => Ok(Reason::NotInContext),
+            UNBALANCED => Ok(Reason::Unbalanced),
+            _ => Err(UnknownCode(code)),
+        }
     }
 }
