@@ -17,11 +17,10 @@ use Rattle.calculus.specs.Resolved.{KnownCategory}
 use Rattle.cells.specs.Cells.{AllFormed, At}
 use Rattle.cells.specs.Forests.{at_first, at_front, at_second, at_one, at_tail, cells_one, size_is_length, size_positive, number_of, kind_of}
 use Rattle.cells.specs.Posts.{Skipped}
-use Rattle.heads.specs.declared.heads.Head as struct
 use Rattle.heads.specs.Book.{Book, known_wf}
 use Rattle.heads.specs.Heads.{applied, front, wrapped, applied_snoc, front_snoc, wrapped_snoc, wrapped_none, wrapped_beta, wrapped_delta}
 use Rattle.heads.specs.Heads.{app_contracts, app_passes, const_unfolds, const_stays, HeadIs, no_head, contraction, unfolding_of}
-use Rattle.heads.specs.Posts.{HeadCell}
+use Rattle.heads.specs.Posts.{CellStep}
 
 -- the A's fs of e, which has n cells from index `start` on, are passed; at index i stands the rest of it, `head`
 pub record Searching (ls : Lines) (k : ℕ) (w : List ℕ) (start i n : ℕ) (e : Expr) : Type 0 where
@@ -61,54 +60,55 @@ search_inside s = omega (arith, s.ends, size_positive s.head)
 
 -- ---- no application
 
-module _ {ls : Lines} {L : ℕ} {tb ts : List ℕ} (B : Book ls L tb ts) (r : struct.Head) where
-  stays_put : (start i : ℕ) (fs : Exprs) (v : ℕ) (xs : Exprs) (e : Expr) (l : Line) → head_step ls e ≡ wrapped fs (head_step ls (const v xs)) → IsLine ls v l
-      → ((m : Expr) → l.kind ≡ abbreviation m → ⊥) → kind_number l.kind < 2 → HeadCell tb (cell_factor * v + 3) i (i - start) r
-      → HeadIs ls start r.kind r.at r.kept r.line e
-  stays_put start i fs v xs e l s j n z h =
+module _ {ls : Lines} {L : ℕ} {tb ts : List ℕ} (B : Book ls L tb ts) {kind at kept line : ℕ} (start i : ℕ) (z : kind ≡ 2 → (at ≡ i) × (kept ≡ i - start)) where
+  stays_put : (fs : Exprs) (v : ℕ) (xs : Exprs) (e : Expr) (l : Line) → head_step ls e ≡ wrapped fs (head_step ls (const v xs)) → IsLine ls v l
+      → ((m : Expr) → l.kind ≡ abbreviation m → ⊥) → kind_number l.kind < 2 → CellStep tb (cell_factor * v + 3) kind line
+      → HeadIs ls start kind at kept line e
+  stays_put fs v xs e l s j n u h =
       no_head (s ∙ ap (wrapped fs) (const_stays ls v xs (λ m g. n m (ap (λ (x : Line). x.kind) (sym (line_line_of j)) ∙ g))) ∙ wrapped_none fs)
       (h.stays (λ a b. omega (arith, (B.rows.row j).kind_is, ap (λ (n : ℕ). row_cell tb n at_kind) (number_of v 3 (omega arith)))))
 
   -- a constant, by the kind of its line
-  of_constant_lem : (start i : ℕ) (fs : Exprs) (v : ℕ) (xs : Exprs) (e : Expr) (l : Line) (q : Kind) → e ≡ applied fs (const v xs)
+  of_constant_lem : (fs : Exprs) (v : ℕ) (xs : Exprs) (e : Expr) (l : Line) (q : Kind) → e ≡ applied fs (const v xs)
       → head_step ls e ≡ wrapped fs (head_step ls (const v xs)) → i ≡ start + length (front fs) → IsLine ls v l → l.kind ≡ q
-      → HeadCell tb (cell_factor * v + 3) i (i - start) r → HeadIs ls start r.kind r.at r.kept r.line e
+      → CellStep tb (cell_factor * v + 3) kind line → HeadIs ls start kind at kept line e
   unfolding kind_number
-  of_constant_lem start i fs v xs e l (abbreviation m) w s p j g h =
+  of_constant_lem fs v xs e l (abbreviation m) w s p j g h =
       let row : row_cell tb ((cell_factor * v + 3) / cell_factor) at_kind ≡ 2 = ap (λ (n : ℕ). row_cell tb n at_kind) (number_of v 3 (omega arith)) ∙ (B.rows.row j).kind_is ∙ ap kind_number g in
       let u = h.unfolds (kind_of v 3 (omega arith)) row in
-      let line : r.line ≡ v = u.1 ∙ number_of v 3 (omega arith) in
-      subst (λ (n : ℕ). HeadIs ls start r.kind r.at r.kept n e) (sym line)
+      let same : line ≡ v = u.1 ∙ number_of v 3 (omega arith) in
+      subst (λ (n : ℕ). HeadIs ls start kind at kept n e) (sym same)
       (unfolding_of fs xs l m w j g (s ∙ ap (wrapped fs) (const_unfolds ls v xs j g) ∙ wrapped_delta fs v (instantiate l.context xs 0 m))
       u.0
-      (h.placed.0 ∙ p)
-      (h.placed.1 ∙ omega arith))
-  of_constant_lem start i fs v xs e l variable w s p j g h = stays_put start i fs v xs e l s j (λ m n. variable≢abbreviation (sym g ∙ n)) (omega (arith, ap kind_number g)) h
-  of_constant_lem start i fs v xs e l primitive w s p j g h = stays_put start i fs v xs e l s j (λ m n. primitive≢abbreviation (sym g ∙ n)) (omega (arith, ap kind_number g)) h
+      ((z u.0).0 ∙ p)
+      ((z u.0).1 ∙ omega arith))
+  of_constant_lem fs v xs e l variable w s p j g h = stays_put fs v xs e l s j (λ m n. variable≢abbreviation (sym g ∙ n)) (omega (arith, ap kind_number g)) h
+  of_constant_lem fs v xs e l primitive w s p j g h = stays_put fs v xs e l s j (λ m n. primitive≢abbreviation (sym g ∙ n)) (omega (arith, ap kind_number g)) h
 
-  no_step_lem : (start : ℕ) (fs : Exprs) (x : ℕ) (i : ℕ) (e : Expr) (g : Expr) → head_step ls g ≡ no_step → head_step ls e ≡ wrapped fs (head_step ls g)
-      → (x % cell_factor ≡ 3 → ⊥) → HeadCell tb x i (i - start) r → HeadIs ls start r.kind r.at r.kept r.line e
-  no_step_lem start fs x i e g q s n h = no_head (s ∙ ap (wrapped fs) q ∙ wrapped_none fs) (h.stays (λ a b. n a))
+  no_step_lem : (fs : Exprs) (x : ℕ) (e : Expr) (g : Expr) → head_step ls g ≡ no_step → head_step ls e ≡ wrapped fs (head_step ls g)
+      → (x % cell_factor ≡ 3 → ⊥) → CellStep tb x kind line → HeadIs ls start kind at kept line e
+  no_step_lem fs x e g q s n h = no_head (s ∙ ap (wrapped fs) q ∙ wrapped_none fs) (h.stays (λ a b. n a))
 
-  of_cell : (k start i : ℕ) (fs : Exprs) (e g : Expr) → e ≡ applied fs g → head_step ls e ≡ wrapped fs (head_step ls g) → i ≡ start + length (front fs)
-      → KnownCategory ls k g → (first_cell g ≡ 4 → ⊥) → HeadCell tb (first_cell g) i (i - start) r → HeadIs ls start r.kind r.at r.kept r.line e
+  of_cell : (k : ℕ) (fs : Exprs) (e g : Expr) → e ≡ applied fs g → head_step ls e ≡ wrapped fs (head_step ls g) → i ≡ start + length (front fs)
+      → KnownCategory ls k g → (first_cell g ≡ 4 → ⊥) → CellStep tb (first_cell g) kind line → HeadIs ls start kind at kept line e
   unfolding first_cell head_step ScopedCategory
-  of_cell k start i fs e type w s p K n h = no_step_lem start fs 0 i e type refl s (λ z. omega arith) h
-  of_cell k start i fs e prop w s p K n h = no_step_lem start fs 6 i e prop refl s (λ z. omega arith) h
-  of_cell k start i fs e (var v) w s p K n h = no_step_lem start fs (cell_factor * v + 1) i e (var v) refl s (λ z. omega arith) h
-  of_cell k start i fs e (bound v) w s p K n h = no_step_lem start fs (cell_factor * v + 2) i e (bound v) refl s (λ z. omega arith) h
-  of_cell k start i fs e (const v xs) w s p K n h =
+  of_cell k fs e type w s p K n h = no_step_lem fs 0 e type refl s (λ y. omega arith) h
+  of_cell k fs e prop w s p K n h = no_step_lem fs 6 e prop refl s (λ y. omega arith) h
+  of_cell k fs e (var v) w s p K n h = no_step_lem fs (cell_factor * v + 1) e (var v) refl s (λ y. omega arith) h
+  of_cell k fs e (bound v) w s p K n h = no_step_lem fs (cell_factor * v + 2) e (bound v) refl s (λ y. omega arith) h
+  of_cell k fs e (const v xs) w s p K n h =
       let c = K.0 in
-      of_constant_lem start i fs v xs e c.line c.line.kind w s p c.is_line refl h
-  of_cell k start i fs e (app a b) w s p K n h = absurd (n refl)
-  of_cell k start i fs e (abs a b) w s p K n h = no_step_lem start fs 5 i e (abs a b) refl s (λ z. omega arith) h
+      of_constant_lem fs v xs e c.line c.line.kind w s p c.is_line refl h
+  of_cell k fs e (app a b) w s p K n h = absurd (n refl)
+  of_cell k fs e (abs a b) w s p K n h = no_step_lem fs 5 e (abs a b) refl s (λ y. omega arith) h
 
-  -- the search ends at a cell that is no application's
-  pub search_ends : {k : ℕ} {w : List ℕ} {start i n : ℕ} {e : Expr} → Searching ls k w start i n e → (get_or w i 0 ≡ 4 → ⊥) → HeadCell tb (get_or w i 0) i (i - start) r
-      → HeadIs ls start r.kind r.at r.kept r.line e
-  search_ends {k} {w} {start} {i} {n} {e} s d h =
-      let f : get_or w i 0 ≡ first_cell s.head = at_first s.head s.at in
-      of_cell k start i s.fs e s.head s.whole s.step_is s.placed s.known (λ q. d (f ∙ q)) (subst (λ (x : ℕ). HeadCell tb x i (i - start) r) f h)
+-- the search ends at a cell that is no application's
+pub search_ends : {ls : Lines} {L : ℕ} {tb ts : List ℕ} → Book ls L tb ts → {kind at kept line k : ℕ} {w : List ℕ} {start i n : ℕ} {e : Expr}
+    → (kind ≡ 2 → (at ≡ i) × (kept ≡ i - start)) → Searching ls k w start i n e → (get_or w i 0 ≡ 4 → ⊥) → CellStep tb (get_or w i 0) kind line
+    → HeadIs ls start kind at kept line e
+search_ends {tb = tb} B {kind} {line = line} {k} {start = start} {i} {e = e} z s d h =
+    let f = at_first s.head s.at in
+    of_cell B start i z k s.fs e s.head s.whole s.step_is s.placed s.known (λ q. d (f ∙ q)) (subst (λ (x : ℕ). CellStep tb x kind line) f h)
 
 -- ---- an application
 

@@ -1,85 +1,67 @@
 // Which head step an expression has.
 ghost use Rattle.std.specs.Prelude.{◌≡◌, ℕ, ◌+◌};
-ghost use Rattle.heads.specs.Posts.{HeadCell, HeadPost};
+ghost use Rattle.heads.specs.Posts.{CellStep, HeadPost, kind_of_step, line_of_step, kind_in, at_in, kept_in, line_in};
 
 use cells::{field, skip};
 use constants::{CELL_FACTOR, Cell, KIND};
 
-// kind 0: none; 1: a contraction; 2: an unfolding of the constant of `line`.
+// A contraction, or the unfolding of the constant of a line.
+#[derive(Clone, Copy, Debug, PartialEq, Eq)]
+pub enum HeadStep {
+    Contraction,
+    Unfolding { line: usize },
+}
+
 // at: where the redex starts; kept: the cells before it.
-#[derive(Clone, Copy)]
+#[derive(Clone, Copy, Debug, PartialEq, Eq)]
 pub struct Head {
-    pub kind: u32,
     pub at: usize,
     pub kept: usize,
-    pub line: usize,
+    pub step: HeadStep,
 }
 
-// No head step of an expression at `at`.
-fn no_head(at: usize) -> Head
-    ensures { (result.kind ≡ 0) × (result.at ≡ at) × (result.kept ≡ 0) × (result.line ≡ 0) }
+// The head step of an expression that is no application, by its first cell x: an abbreviation is unfolded.
+fn step_of_cell(table: &[u32], x: Cell) -> Option<HeadStep>
+    ensures { CellStep table.now x (kind_of_step result) (line_of_step result) }
 {
-    Head {
-        kind: 0,
-        at: at,
-        kept: 0,
-        line: 0,
+    if x % CELL_FACTOR != 3 {
+        return None;
     }
-}
-
-// The head step of an expression that is no application, by its first cell x at index i: an abbreviation is unfolded.
-fn head_of_cell(table: &[u32], x: Cell, i: usize, kept: usize) -> Head
-    ensures { HeadCell table.now x i kept result }
-{
-    if x % CELL_FACTOR == 3 {
-        let v = (x / CELL_FACTOR) as usize;
-        if field(table, v, KIND) == 2 {
-            return Head {
-                kind: 2,
-                at: i,
-                kept: kept,
-                line: v,
-            };
-        }
+    let line = (x / CELL_FACTOR) as usize;
+    if field(table, line, KIND) != 2 {
+        return None;
     }
-    Head {
-        kind: 0,
-        at: i,
-        kept: kept,
-        line: 0,
-    }
+    Some(HeadStep::Unfolding { line })
 }
 
 // The head step of the expression of n cells at `at` of w: a contraction is looked for before the head is unfolded.
-pub fn head_of(table: &[u32], w: &[Cell], at: usize, n: usize) -> Head
-    ensures { HeadPost table.now w.now at n result }
+pub fn head_of(table: &[u32], w: &[Cell], at: usize, n: usize) -> Option<Head>
+    ensures { HeadPost table.now w.now at n (kind_in result) (at_in at result) (kept_in result) (line_in result) }
 {
-    if at > w.len() {
-        return no_head(at);
-    }
-    if n > w.len() - at {
-        return no_head(at);
+    if at > w.len() || n > w.len() - at {
+        return None;
     }
     let end = at + n;
     let mut i = at;
     while i < end {
         let x = w[i];
+        let kept = i - at;
         if x != 4 {
-            return head_of_cell(table, x, i, i - at);
+            let step = step_of_cell(table, x)?;
+            return Some(Head { at: i, kept, step });
         }
         let b = skip(table, w, i + 1, 1);
         if b >= end {
-            return no_head(at);
+            return None;
         }
         if w[b] == 5 {
-            return Head {
-                kind: 1,
+            return Some(Head {
                 at: i,
-                kept: i - at,
-                line: 0,
-            };
+                kept,
+                step: HeadStep::Contraction,
+            });
         }
         i = b;
     }
-    no_head(at)
+    None
 }

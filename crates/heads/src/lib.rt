@@ -3,4 +3,4 @@
 
 mod heads;
 
-pub use heads::{Head, head_of};
+pub use heads::{Head, HeadStep, head_of};

@@ -7,38 +7,25 @@ use Rattle.heads.proofs.heads.head_of.Goals as goal
 pub returns-then-at-w : goal.returns-then-at-w
 returns-then-at-w c = record { placed = omega arith; is = λ B k e K a q. absurd (omega (arith, at_inside e a, size_is_length e)) }
 
-pub overflow_sub-w : goal.overflow_sub-w
-overflow_sub-w c = omega arith
-
-pub returns-then-n-w : goal.returns-then-n-w
-returns-then-n-w c = record { placed = omega arith; is = λ B k e K a q. absurd (omega (arith, at_inside e a, size_is_length e)) }
-
-pub overflow_add-end : goal.overflow_add-end
-overflow_add-end c = omega arith
-
 pub loop-i-init : goal.loop-i-init
 loop-i-init c = (omega arith, omega arith, refl, omega arith, record { of = λ B k e K a q. search_starts k e K a q })
 
-pub offset_bounds-w-i : goal.offset_bounds-w-i
-offset_bounds-w-i c = omega arith
-
-pub bounds-w-i : goal.bounds-w-i
-bounds-w-i c = omega arith
-
-pub overflow_sub-i : goal.overflow_sub-i
-overflow_sub-i c = omega arith
+pub returns-in_err-step : goal.returns-in_err-step
+returns-in_err-step c =
+    let I = c.loop-i.invariant in
+    rw c.from_residual.ensures
+    (record {
+      placed = omega arith;
+      is = λ B k e K a q. search_ends B (λ z. absurd (omega arith)) (I.4.of B k e K a q) c.if-x-ne4.true c.in_err-step.ensures;
+    })
 
 pub returns-then-x-ne4 : goal.returns-then-x-ne4
 returns-then-x-ne4 c =
     let I = c.loop-i.invariant in
-    let H = c.head_of_cell.ensures in
     record {
       placed = omega arith;
-      is = λ B k e K a q. search_ends B _ (I.4.of B k e K a q) c.if-x-ne4.true H;
+      is = λ B k e K a q. search_ends B (λ z. (refl, refl)) (I.4.of B k e K a q) c.if-x-ne4.true c.in_ok-step.ensures;
     }
-
-pub overflow_add-i : goal.overflow_add-i
-overflow_add-i c = omega arith
 
 pub returns-then-b-end : goal.returns-then-b-end
 returns-then-b-end c =
@@ -47,15 +34,6 @@ returns-then-b-end c =
       placed = omega arith;
       is = λ B k e K a q. absurd (omega (arith, applying_inside B (search_application B (I.4.of B k e K a q) c.if-x-ne4.false c.skip-b.ensures)));
     }
-
-pub offset_bounds-w-b : goal.offset_bounds-w-b
-offset_bounds-w-b c = omega arith
-
-pub bounds-w-b : goal.bounds-w-b
-bounds-w-b c = omega arith
-
-pub overflow_sub-result : goal.overflow_sub-result
-overflow_sub-result c = omega arith
 
 pub returns-then-w-b-eq5 : goal.returns-then-w-b-eq5
 returns-then-w-b-eq5 c =
