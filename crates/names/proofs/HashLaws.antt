@@ -1,35 +1,36 @@
 -- The hash of a word, four bytes at once, and the slot of a hash.
 use mathlib.Core.Path.{◌≡◌, refl, sym, ap, ◌∙◌}
-use Prim.Native.Nat.{ℕ, suc, ◌+◌, ◌-◌, ◌*◌, ◌/◌, ◌%◌, ◌≤◌, ◌<◌}
+use Prim.Native.Nat.{ℕ, min, suc, ◌+◌, ◌-◌, ◌*◌, ◌/◌, ◌%◌, ◌≤◌, ◌<◌}
 use native.Mathlib.Omega.{arith}
+use native.Mathlib.Numerals.{add-one}
 use native.Mathlib.Nat.{mul-le-mul, add-mul-mod_self_left}
+use mathlib.Core.Bool.{Bool, true, false}
+use lib.Dec.{leb}
 use lib.ListN.{length}
-use borrow.Author.Tests.{le-leb, lt-leb}
+use borrow.Author.Tests.{leb-true, leb-false}
 use mathlib.Core.List.{[], ◌∷◌}
 use Rattle.aut68.specs.Bytes.{Bytes}
 use Rattle.symbols.specs.Symbols.{four_at}
 use Rattle.names.specs.Hints.{mixed, hash_of, key_at, slots, slot_at, most_slots}
 use Rattle.names.specs.HintLaws.{slots_most}
 
--- the bytes before i are mixed
+-- the first 4 × i bytes are mixed
 pub record HashSoFar (word : Bytes) (h i : ℕ) : Type 0 where
-  pub whole : i ≡ 4 * (i / 4)
   pub small : h < 4294967296
-  pub is : h ≡ mixed word (i / 4)
+  pub is : h ≡ mixed word i
 
 pub hash_start : {word : Bytes} → HashSoFar word 0 0
 unfolding mixed
-hash_start = record { whole = omega arith; small = omega arith; is = refl }
+hash_start = record { small = omega arith; is = refl }
 
 module _ {word : Bytes} {h i : ℕ} (s : HashSoFar word h i) where
-  pub hash_more : {x : ℕ} → x ≡ four_at word i → HashSoFar word ((h + x) * 2146121005 % 4294967296) (i + 4)
+  pub hash_more : {x : ℕ} → x ≡ four_at word (4 * i) → HashSoFar word ((h + x) * 2146121005 % 4294967296) (i + 1)
   unfolding mixed
   hash_more {x} ex =
-      let q : suc (i / 4) ≡ (i + 4) / 4 = omega arith in
-      let e : (h + x) * 2146121005 % 4294967296 ≡ mixed word (suc (i / 4)) = λ j. (s.is j + (ex ∙ ap (four_at word) s.whole) j) * 2146121005 % 4294967296 in
-      record { whole = omega (arith, s.whole); small = omega arith; is = e ∙ ap (mixed word) q }
+      let e : (h + x) * 2146121005 % 4294967296 ≡ mixed word (suc i) = λ j. (s.is j + ex j) * 2146121005 % 4294967296 in
+      record { small = omega arith; is = e ∙ ap (mixed word) (sym (add-one i)) }
 
-  pub hash_last : {x : ℕ} → x ≡ four_at word (length word - 4) → i / 4 ≡ (length word - 1) / 4 → (h + x) * 2146121005 % 4294967296 ≡ hash_of word
+  pub hash_last : {x : ℕ} → x ≡ four_at word (length word - 4) → i ≡ (length word - 1) / 4 → (h + x) * 2146121005 % 4294967296 ≡ hash_of word
   unfolding hash_of
   hash_last ex q = λ j. ((s.is ∙ ap (mixed word) q) j + ex j) * 2146121005 % 4294967296
 
@@ -47,13 +48,13 @@ hash_empty (c ∷ cs) e = absurd (omega (arith, e))
 
 -- ---- slots
 
-pub slots_many : (n : ℕ) → most_slots < n / 2 → most_slots ≡ slots n
+pub slots_is : (n : ℕ) → min (n / 2) most_slots ≡ slots n
 unfolding slots
-slots_many n l = rw (lt-leb (n / 2) most_slots l, slots)
-
-pub slots_few : (n : ℕ) → n / 2 ≤ most_slots → n / 2 ≡ slots n
-unfolding slots
-slots_few n l = rw (le-leb (n / 2) most_slots l, slots)
+slots_is n = split (leb (n / 2) most_slots) refl
+  where
+    split : (t : Bool) → leb (n / 2) most_slots ≡ t → min (n / 2) most_slots ≡ elim t as (λ _. ℕ) [ true ↦ n / 2 | false ↦ most_slots ]
+    split true e = omega (arith, leb-true (n / 2) most_slots e)
+    split false e = omega (arith, leb-false (n / 2) most_slots e)
 
 -- the key times a number of slots
 pub product_below : (n : ℕ) {k m : ℕ} → k < 4294967296 → m ≡ slots n → k * m ≤ 4294967296 * most_slots

@@ -1,4 +1,5 @@
 -- Lines by their identifiers and paragraphs, by rows and by hints.
+pub mod Search
 pub mod Known
 pub mod Chains
 pub mod Hints

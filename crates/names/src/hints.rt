@@ -24,25 +24,18 @@ pub fn hash(word: &[u8]) -> usize
     if word.len() < 4 {
         return four_at(word, 0) * 2146121005 % 4294967296;
     }
-    let last = word.len() - 4;
     let mut h = 0;
-    let mut i = 0;
-    while i < last {
-        h = (h + four(word, i)) * 2146121005 % 4294967296;
-        i = i + 4;
+    for i in 0..(word.len() - 1) / 4 {
+        h = (h + four(word, 4 * i)) * 2146121005 % 4294967296;
     }
-    (h + four(word, last)) * 2146121005 % 4294967296
+    (h + four(word, word.len() - 4)) * 2146121005 % 4294967296
 }
 
 // How many slots a store of n cells has.
 fn slots(n: usize) -> usize
     ensures { result ≡ slots n }
 {
-    let m = n / 2;
-    if m > MOST_SLOTS {
-        return MOST_SLOTS;
-    }
-    m
+    (n / 2).min(MOST_SLOTS)
 }
 
 // The key of the hash h in the paragraph q.
@@ -75,10 +68,7 @@ pub fn put_head(w: &mut [Cell], h: usize, q: usize, v: usize) -> usize
     ensures { HeadPost w.old w.new h q v result }
 {
     let at = slot_at(w.len(), h, q);
-    if at >= w.len() {
-        return 0;
-    }
-    if v >= CELL_VALUES {
+    if at >= w.len() || v >= CELL_VALUES {
         return 0;
     }
     let was = w[at] as usize;
@@ -90,10 +80,7 @@ pub fn put_head(w: &mut [Cell], h: usize, q: usize, v: usize) -> usize
 pub fn link(table: &mut [u32], lines: usize, h: usize)
     ensures { LinkPost table.old table.new lines h }
 {
-    if lines >= LAST_LINE {
-        return;
-    }
-    if h > LAST_LINE {
+    if lines >= LAST_LINE || h > LAST_LINE {
         return;
     }
     let at = ROW_WIDTH * lines + NAME_LENGTH;
@@ -112,16 +99,7 @@ pub fn link(table: &mut [u32], lines: usize, h: usize)
 pub fn unlink(table: &mut [u32], lines: usize)
     ensures { row_width * lines ≤ length table.old → table.new ≡ unlinked lines table.old }
 {
-    let mut v = 0;
-    let mut at = NAME_LENGTH;
-    while v < lines {
-        if at >= table.len() {
-            return;
-        }
-        let size = table[at] as usize;
-        let own = size % LINK_FACTOR;
-        table[at] = own as u32;
-        v = v + 1;
-        at = at + ROW_WIDTH;
+    for v in 0..lines.min(table.len() / ROW_WIDTH) {
+        table[ROW_WIDTH * v + NAME_LENGTH] %= LINK_FACTOR as u32;
     }
 }

@@ -4,6 +4,7 @@ ghost use Rattle.aut68.specs.Lines.{identifier_part, part_of};
 ghost use Rattle.aut68.specs.Bytes.{same_bytes};
 ghost use Rattle.names.specs.Known.{PartLent, identifier_start, IdentifierPlaced};
 ghost use Rattle.names.specs.Hints.{line_is};
+ghost use Rattle.names.specs.Search.{Gives};
 ghost use Rattle.names.specs.Posts.{LineFound};
 
 use crate::hints::{LINK_FACTOR, head};
@@ -15,17 +16,10 @@ use symbols::same_bytes;
 pub fn part_is(s: &[u8], first: usize, n: usize, word: &[u8]) -> bool
     ensures { 1 ≤ length word.now → result ≡ same_bytes word.now (part_of s.now first n) }
 {
-    if n != word.len() {
+    if n != word.len() || first > s.len() || n > s.len() - first {
         return false;
     }
-    if first > s.len() {
-        return false;
-    }
-    if n > s.len() - first {
-        return false;
-    }
-    let end = first + n;
-    same_bytes(word, &s[first..end])
+    same_bytes(word, &s[first..first + n])
 }
 
 // Is the word the identifier of line v, and q its paragraph?
@@ -42,7 +36,7 @@ fn line_is(book: &[u8], table: &[u32], v: usize, word: &[u8], q: usize) -> bool
 }
 
 // The line, of the first `lines` of the table, whose identifier is the word, of the hash h, and whose paragraph is q (numberIn), by
-// the hints in w; 0: none.
+// the hints in w.
 pub fn find(
     book: &[u8],
     table: &[u32],
@@ -51,24 +45,24 @@ pub fn find(
     word: &[u8],
     h: usize,
     q: usize,
-) -> usize
-    ensures { LineFound book.now table.now lines w.now word.now h q result }
+) -> Option<usize>
+    ensures { Gives (LineFound book.now table.now lines w.now word.now h q) result }
 {
     let mut v = head(w, h, q);
     while v != 0 {
         if v > lines {
-            return 0;
+            return None;
         }
         if line_is(book, table, v, word, q) {
-            return v;
+            return Some(v);
         }
         let next = field(table, v, NAME_LENGTH) / LINK_FACTOR;
         if next >= v {
-            return 0;
+            return None;
         }
         v = next;
     }
-    0
+    None
 }
 
 // A part of the book: its first byte, and how many it has.
@@ -84,10 +78,7 @@ pub fn identifier_place(book: &[u8], table: &[u32], line: u32) -> Part
     ensures { IdentifierPlaced book.now table.now line result.start result.len }
 {
     let v = line as usize;
-    if v == 0 {
-        return Part { start: 0, len: 0 };
-    }
-    if ROW_WIDTH * v > table.len() {
+    if v == 0 || ROW_WIDTH * v > table.len() {
         return Part { start: 0, len: 0 };
     }
     let start = field(table, v, NAME_START);
@@ -95,18 +86,13 @@ pub fn identifier_place(book: &[u8], table: &[u32], line: u32) -> Part
     if start + len > book.len() {
         return Part { start: 0, len: 0 };
     }
-    Part {
-        start: start,
-        len: len,
-    }
+    Part { start, len }
 }
 
 // The identifier of a line, as that part of the book.
 pub fn identifier<'a>(book: &'a [u8], table: &[u32], line: u32) -> &'a [u8]
     ensures { PartLent book.entry result (identifier_start book.now table.now line) (identifier_part book.now table.now line) }
 {
-    let part = identifier_place(book, table, line);
-    let start = part.start;
-    let end = start + part.len;
-    &book[start..end]
+    let Part { start, len } = identifier_place(book, table, line);
+    &book[start..start + len]
 }

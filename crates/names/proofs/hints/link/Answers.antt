@@ -7,9 +7,6 @@ use Rattle.names.proofs.hints.link.Goals as goal
 pub returns-then-lines-ge-LAST_LINE : goal.returns-then-lines-ge-LAST_LINE
 returns-then-lines-ge-LAST_LINE c = not_linked (λ l h r s. omega arith)
 
-pub returns-then-h-gt-LAST_LINE : goal.returns-then-h-gt-LAST_LINE
-returns-then-h-gt-LAST_LINE c = not_linked (λ l h r s. omega arith)
-
 pub returns-then-at-table : goal.returns-then-at-table
 returns-then-at-table c = not_linked (λ l h r s. omega arith)
 

@@ -12,7 +12,7 @@ returns-then-v-lines c = line_found (found_outside c.loop-v.invariant c.if-v-lin
 
 pub returns-then-line_is : goal.returns-then-line_is
 returns-then-line_is c =
-    line_found (found_here c.loop-v-test.true c.if-v-lines.false (λ g. c.line_is.ensures g.any) c.if-line_is.true)
+    (omega arith, line_found (found_here c.loop-v-test.true c.if-v-lines.false (λ g. c.line_is.ensures g.any) c.if-line_is.true))
 
 pub field-next-requires : goal.field-next-requires
 field-next-requires c = omega arith

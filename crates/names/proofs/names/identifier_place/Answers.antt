@@ -1,11 +1,13 @@
 use Rattle.names.proofs.PartLaws.{identifier_of_none, identifier_not_whole, identifier_outside, identifier_inside}
 use Rattle.names.proofs.names.identifier_place.Goals as goal
+use Rattle.names.proofs.names.identifier_place.Goals.{then-v-eq0-via-then-v-eq0, then-v-eq0-via-else-v-eq0+then-v-table}
 
 pub returns-then-v-eq0 : goal.returns-then-v-eq0
-returns-then-v-eq0 c = identifier_of_none c.if-v-eq0.true
-
-pub returns-then-v-table : goal.returns-then-v-table
-returns-then-v-table c = identifier_not_whole c.if-v-eq0.false c.if-v-table.true
+returns-then-v-eq0 c =
+    elim c.then-v-eq0.branch [
+      | then-v-eq0-via-then-v-eq0 w ↦ identifier_of_none w.if-v-eq0.true
+      | then-v-eq0-via-else-v-eq0+then-v-table w ↦ identifier_not_whole w.if-v-eq0.false w.if-v-table.true
+    ]
 
 pub returns-then-start-len : goal.returns-then-start-len
 returns-then-start-len c =
