@@ -6,7 +6,7 @@ use mathlib.Core.List.{List, [], ◌∷◌, ◌++◌}
 use Prim.Native.Nat.{ℕ, zero, suc, ◌≤◌, ◌<◌}
 use native.Mathlib.Omega.{arith}
 use lib.Dec.{eqb}
-use borrow.Author.Tests.{eq-eqb, ne_eqb}
+use borrow.Author.Tests.{eq-eqb, ne_eqb, eqb-true, eqb-false}
 use Rattle.aut68.specs.Bytes.{Bytes}
 use Rattle.aut68.specs.Lines.{Line, Lines, row_cell}
 use Rattle.aut68.specs.Procedure.Resolve.{member, context_at}
@@ -99,7 +99,7 @@ module _ {tb : List ℕ} {last v c : ℕ} (h : ChainSoFar tb last v c) where
               absurd (omega (arith, k.behind i));
         }
 
-  pub chain_found : c ≡ v → OnChain tb last v true
+  chain_found : c ≡ v → OnChain tb last v true
   chain_found e =
       record {
         is = λ ls book lines k d p.
@@ -107,8 +107,15 @@ module _ {tb : List ℕ} {last v c : ℕ} (h : ChainSoFar tb last v c) where
             sym (h.rest ls book lines k d ∙ member_step k v i ∙ ap (λ t. member v (context_at ls x.indicator) || t) (eq-eqb v c (sym e)) ∙ or_true (member v (context_at ls x.indicator)));
       }
 
-  pub chain_passed : c ≤ v → c ≢ v → OnChain tb last v false
+  chain_passed : c ≤ v → c ≢ v → OnChain tb last v false
   chain_passed b n =
       record {
         is = λ ls book lines k d p. sym (h.rest ls book lines k d ∙ member_above k c v c (omega arith) (omega (arith, h.within)) (omega arith));
       }
+
+  pub chain_end : c ≤ v → OnChain tb last v (eqb c v)
+  chain_end b = split (eqb c v) refl
+    where
+      split : (t : Bool) → eqb c v ≡ t → OnChain tb last v t
+      split true e = chain_found (eqb-true c v e)
+      split false e = chain_passed b (eqb-false c v e)

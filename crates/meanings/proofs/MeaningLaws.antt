@@ -4,7 +4,7 @@ use mathlib.Core.Logic.{◌≢◌}
 use mathlib.Core.Bool.{Bool, true, false}
 use mathlib.Core.Option.{Option, none, some}
 use mathlib.Core.List.{List, [], ◌∷◌}
-use Prim.Native.Nat.{ℕ, zero, suc, ◌+◌, ◌-◌, ◌*◌, ◌≤◌, ◌<◌}
+use Prim.Native.Nat.{ℕ, ◌+◌, ◌*◌, ◌≤◌, ◌<◌}
 use native.Mathlib.Omega.{arith}
 use lib.ListN.{length}
 use Rattle.aut68.specs.Bytes.{Bytes}
@@ -32,7 +32,7 @@ use Rattle.meanings.specs.declared.meanings.Sought.{Sought}
 -- ---- what stands for a name
 
 module _ (st : State) (context : List ℕ) (v : ℕ) where
-  kind_variable : (line_of st.earlier v).kind ≡ variable → member v context ≡ true → look_up st context (some v) ≡ told (Sought.Line v 0)
+  kind_variable : (line_of st.earlier v).kind ≡ variable → member v context ≡ true → look_up st context (some v) ≡ told (Sought.Variable v)
   unfolding look_up told
   kind_variable e m = rw (e, m, look_up)
 
@@ -40,7 +40,7 @@ module _ (st : State) (context : List ℕ) (v : ℕ) where
   unfolding look_up told
   kind_outside e m = rw (e, m, look_up)
 
-  kind_constant : (k : Kind) → (line_of st.earlier v).kind ≡ k → kind_number k ≢ 0 → look_up st context (some v) ≡ told (Sought.Line v (kind_number k))
+  kind_constant : (k : Kind) → (line_of st.earlier v).kind ≡ k → kind_number k ≢ 0 → look_up st context (some v) ≡ told (Sought.Constant v)
   unfolding look_up told kind_number
   kind_constant variable e n = absurd (n refl)
   kind_constant primitive e n = rw (e, look_up)
@@ -76,7 +76,7 @@ module _ {ks book tb : List ℕ} {lines indicator : ℕ} {w : List ℕ} {title w
   sought_too_many m = record { small = omega arith; is = λ st t k g o i p. absurd (omega (arith, k.few, hv.within)) }
 
   module _ (n : v ≢ 0) (m : v < line_limit) {kind : ℕ} (ek : kind ≡ row_cell tb v at_kind) where
-    pub sought_constant : kind ≢ 0 → SoughtFound ks book tb lines indicator w title word (Sought.Line v kind)
+    pub sought_constant : kind ≢ 0 → SoughtFound ks book tb lines indicator w title word (Sought.Constant v)
     sought_constant z =
         record {
           small = m;
@@ -84,12 +84,11 @@ module _ {ks book tb : List ℕ} {lines indicator : ℕ} {w : List ℕ} {title w
               let (x, h) = line_at k v (omega arith) hv.within in
               let e : kind ≡ kind_number x.kind = ek ∙ (k.rows.row h).kind_is in
               line_is_lem st (context_at st.earlier indicator) hv n t k g p
-              ∙ kind_constant st (context_at st.earlier indicator) v x.kind (ap (λ (y : Line). y.kind) (line_line_of h)) (λ y. z (e ∙ y))
-              ∙ ap (λ j. told (Sought.Line v j)) (sym e);
+              ∙ kind_constant st (context_at st.earlier indicator) v x.kind (ap (λ (y : Line). y.kind) (line_line_of h)) (λ y. z (e ∙ y));
         }
 
     module _ (z : kind ≡ 0) {r : Bool} (c : InContext tb w indicator v r) where
-      pub sought_variable : r ≡ true → SoughtFound ks book tb lines indicator w title word (Sought.Line v 0)
+      pub sought_variable : r ≡ true → SoughtFound ks book tb lines indicator w title word (Sought.Variable v)
       sought_variable f =
           record {
             small = m;
@@ -122,11 +121,6 @@ number_told (Resolve.means (Resolve.a_constant v)) = some v
 number_told Resolve.no_line = none
 number_told (Resolve.not_in_force v) = some v
 
-number_told_lem : (v k : ℕ) → number_told (told (Sought.Line v k)) ≡ some v
-unfolding number_told told
-number_told_lem v zero = refl
-number_told_lem v (suc k) = refl
-
 number_sought : (st : State) (context : List ℕ) (o : Option ℕ) → number_told (look_up st context o) ≡ o
 unfolding number_told look_up
 number_sought st context none = refl
@@ -144,9 +138,10 @@ number_sought st context (some v) = split (line_of st.earlier v).kind (member v 
     split primitive t = refl
     split (abbreviation m) t = refl
 
--- the line that is told of has the name
-line_of_lem : (st : State) (context : List ℕ) (o : Option ℕ) {v : ℕ} (k : ℕ) → look_up st context o ≡ told (Sought.Line v k) → o ≡ some v
-line_of_lem st context o {v} k e = sym (number_sought st context o) ∙ ap number_told e ∙ number_told_lem v k
+-- the line of a constant that is told of has the name
+line_of_lem : (st : State) (context : List ℕ) (o : Option ℕ) {v : ℕ} → look_up st context o ≡ told (Sought.Constant v) → o ≡ some v
+unfolding number_told told
+line_of_lem st context o {v} e = sym (number_sought st context o) ∙ ap number_told e
 
 module _ {b : ℕ} {ks book tb : List ℕ} {lines indicator : ℕ} {w : List ℕ} {title word : Bytes} where
   pub means_bound : b < nesting → MeaningFound b ks book tb lines indicator w title word 0 (cell_factor * b + 2) 0
@@ -172,18 +167,15 @@ module _ {b : ℕ} {ks book tb : List ℕ} {lines indicator : ℕ} {w : List ℕ
     pub means_nothing_lem : {x : Refusal} {fault : ℕ} → fault ≡ code_of x → answered (told r) tt ≡ refused x → MeaningFound b ks book tb lines indicator w title word fault 0 0
     means_nothing_lem {fault = fault} c e = means_sought (λ st k q. subst (λ m. Meant st (context_at st.earlier indicator) fault 0 0 m) (sym e) (means_nothing c))
 
-  module _ (l : nesting ≤ b) {v k : ℕ} (h : SoughtFound ks book tb lines indicator w title word (Sought.Line v k)) where
-    pub means_variable : k ≡ 0 → MeaningFound b ks book tb lines indicator w title word 0 (cell_factor * v + 1) 0
+  module _ (l : nesting ≤ b) {v : ℕ} where
+    pub means_variable : SoughtFound ks book tb lines indicator w title word (Sought.Variable v) → MeaningFound b ks book tb lines indicator w title word 0 (cell_factor * v + 1) 0
     unfolding cell_of wanted told answered
-    means_variable z =
-        means_sought l h λ st y q.
-        subst (λ n. Meant st (context_at st.earlier indicator) 0 (cell_factor * v + 1) 0 (answered (told (Sought.Line v n)) tt)) (sym z) (means refl refl refl)
+    means_variable h = means_sought l h λ st y q. means refl refl refl
 
-    pub means_constant : k ≢ 0 → {count : ℕ} → count ≡ row_cell tb v at_context → MeaningFound b ks book tb lines indicator w title word 0 (cell_factor * v + 3) count
+    pub means_constant : SoughtFound ks book tb lines indicator w title word (Sought.Constant v) → {count : ℕ} → count ≡ row_cell tb v at_context
+        → MeaningFound b ks book tb lines indicator w title word 0 (cell_factor * v + 3) count
     unfolding cell_of wanted told answered
-    means_constant n {count} ec =
+    means_constant h ec =
         means_sought l h λ st y q.
-        let (x, i, u) = number_sound (line_of_lem st (context_at st.earlier indicator) (number_of st (used_by title word)) k q) in
-        let e : suc (k - 1) ≡ k = omega arith in
-        subst (λ j. Meant st (context_at st.earlier indicator) 0 (cell_factor * v + 3) count (answered (told (Sought.Line v j)) tt)) e
-        (means refl refl (ec ∙ (y.rows.row i).context_is ∙ ap (λ (z : Line). length z.context) (sym (line_line_of i))))
+        let (x, i, u) = number_sound (line_of_lem st (context_at st.earlier indicator) (number_of st (used_by title word)) q) in
+        means refl refl (ec ∙ (y.rows.row i).context_is ∙ ap (λ (z : Line). length z.context) (sym (line_line_of i)))

@@ -1,8 +1,9 @@
 -- The names that a scope binds.
-use Rattle.std.specs.Prelude.{List, [], ◌∷◌, ℕ, zero, suc, get_or}
+use Rattle.std.specs.Prelude.{List, [], ◌∷◌, ℕ, zero, suc, Option, None, Some, get_or}
 use Rattle.aut68.specs.Bytes.{Bytes}
 use Rattle.aut68.specs.Source.{Used, plain, inside}
 use Rattle.aut68.specs.Lines.{part_of}
+use Rattle.aut68.specs.Sizes.{nesting}
 use Rattle.cells.specs.declared.scope.Scope.{Scope}
 
 -- the bound names of the first n bindings, innermost first
@@ -17,3 +18,8 @@ bound_names s scope = names_from s scope.starts scope.lens scope.bound
 unfoldable pub word_in : Used → Bytes
 word_in (plain w) = w
 word_in (inside p a) = a
+
+-- how many bindings stand between a name and its own; `nesting` where it has none
+abbrev pub place_in : Option ℕ → ℕ
+place_in None = nesting
+place_in (Some i) = i

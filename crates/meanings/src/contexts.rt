@@ -11,15 +11,10 @@ const NOTED_VARIABLES: usize = 64;
 fn put_variable(w: &mut [Cell], i: usize, c: usize)
     ensures { VariablePut w.old w.new i c }
 {
-    if c >= CELL_VALUES {
-        return;
-    }
     let unit = w.len() / READER_UNITS;
-    if i >= unit {
-        return;
+    if c < CELL_VALUES && i < unit {
+        w[CONTEXT_UNIT * unit + i] = c as Cell;
     }
-    let at = CONTEXT_UNIT * unit + i;
-    w[at] = c as Cell;
 }
 
 // Notes the context that ends with line `last`, its last variables: so a line costs no more in a long context. Each variable's
@@ -56,10 +51,7 @@ fn on_chain(table: &[u32], last: usize, v: usize) -> bool
         }
         c = next;
     }
-    if c == v {
-        return true;
-    }
-    false
+    c == v
 }
 
 // The same by what is noted of that context in w; along the chain for a variable that is not noted.
@@ -74,14 +66,9 @@ pub fn in_context(table: &[u32], w: &[Cell], last: usize, v: usize) -> bool
     if i > most {
         return false;
     }
-    if i + NOTED_VARIABLES <= most {
-        return on_chain(table, last, v);
-    }
     let unit = w.len() / READER_UNITS;
-    if i >= unit {
+    if i + NOTED_VARIABLES <= most || i >= unit {
         return on_chain(table, last, v);
     }
-    let at = CONTEXT_UNIT * unit + i;
-    let noted = w[at] as usize;
-    noted == v
+    w[CONTEXT_UNIT * unit + i] as usize == v
 }

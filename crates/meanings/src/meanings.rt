@@ -1,52 +1,43 @@
 // What names mean: bound names, lines, variables of the context. specs/Meanings has the contracts.
-ghost use Rattle.std.specs.Prelude.{◌≡◌};
 ghost use Rattle.aut68.specs.Source.{plain};
+ghost use Rattle.constants.specs.Refusals.{code_in};
+ghost use Rattle.meanings.specs.Bindings.{place_in};
 ghost use Rattle.meanings.specs.Posts.{BindingFound};
-ghost use Rattle.meanings.specs.Meanings.{SoughtFound, MeaningFound};
+ghost use Rattle.meanings.specs.Meanings.{SoughtFound, MeaningFound, cell_in, wanted_in};
 
 use crate::contexts::in_context;
 use cells::{Scope, field};
-use constants::{
-    CELL_FACTOR, CONTEXT_LENGTH, Cell, KIND, LINE_LIMIT, NESTING, NOT_IN_CONTEXT, UNKNOWN_NAME,
-};
+use constants::{CELL_FACTOR, CONTEXT_LENGTH, Cell, KIND, LINE_LIMIT, NESTING, Reason};
 use names::part_is;
 use paragraphs::find_plain_first;
 
-fn wide(x: u32) -> usize
-    ensures { result ≡ x }
-{
-    x as usize
-}
-
-// The number of bindings between a plain name and its innermost binding (place_from); NESTING: it is not bound.
-pub fn binding(line: &[u8], scope: Scope, word: &[u8]) -> usize
-    ensures { BindingFound line.now scope (plain word.now) result }
+// How many bindings stand between a plain name and its own, the innermost of that name (place_from); None: it is not bound.
+pub fn binding(line: &[u8], scope: Scope, word: &[u8]) -> Option<usize>
+    ensures { BindingFound line.now scope (plain word.now) (place_in result) }
 {
     let bindings = scope.bound;
     if bindings > NESTING {
-        return NESTING;
+        return None;
     }
-    let mut i = bindings;
-    while i > 0 {
-        i = i - 1;
-        let n = wide(scope.lens[i]);
-        let first = wide(scope.starts[i]);
-        if part_is(line, first, n, word) {
-            return bindings - 1 - i;
+    for i in (0..bindings).rev() {
+        if part_is(line, scope.starts[i] as usize, scope.lens[i] as usize, word) {
+            return Some(bindings - 1 - i);
         }
     }
-    NESTING
+    None
 }
 
 // What a name that is not bound stands for.
 #[derive(Clone, Copy)]
 pub enum Sought {
-    // The line with that identifier, and its kind.
-    Line { number: usize, kind: usize },
+    // The EB line with that identifier; it is in the context.
+    Variable(usize),
+    // The PN line or abbreviation with that identifier.
+    Constant(usize),
     // No line has it.
     NoLine,
     // An EB line that is not in the context.
-    NotInForce { number: usize },
+    NotInForce(usize),
 }
 
 // What a used name that is not bound stands for (look_up), by what w notes of lines, paragraphs and the context. The title is empty for
@@ -70,30 +61,25 @@ pub fn look_up(
     if v >= LINE_LIMIT {
         return Sought::NoLine;
     }
-    let kind = field(table, v, KIND);
-    if kind != 0 {
-        return Sought::Line {
-            number: v,
-            kind: kind,
-        };
+    if field(table, v, KIND) != 0 {
+        return Sought::Constant(v);
     }
     if in_context(table, w, indicator, v) {
-        return Sought::Line { number: v, kind: 0 };
+        return Sought::Variable(v);
     }
-    Sought::NotInForce { number: v }
+    Sought::NotInForce(v)
 }
 
-// What a name means: its cell, and how many arguments it takes; or the refusal, 5 or 14, as fault.
+// What a name means: its cell, and how many arguments it takes.
 #[derive(Clone, Copy)]
 pub struct Meaning {
-    pub fault: u32,
     pub cell: Cell,
     pub wanted: usize,
 }
 
 // The meaning of a used name (meaning) with b as its binding: that, else what stands for it.
 pub fn meaning_of(
-    b: usize,
+    b: Option<usize>,
     book: &[u8],
     kinds: &[u8; 256],
     table: &[u32],
@@ -102,42 +88,25 @@ pub fn meaning_of(
     w: &[Cell],
     title: &[u8],
     word: &[u8],
-) -> Meaning
-    ensures { MeaningFound b kinds.now book.now table.now lines indicator w.now title.now word.now result.fault result.cell result.wanted }
+) -> Result<Meaning, Reason>
+    ensures { MeaningFound (place_in b) kinds.now book.now table.now lines indicator w.now title.now word.now (code_in result) (cell_in result) (wanted_in result) }
 {
-    if b < NESTING {
-        return Meaning {
-            fault: 0,
-            cell: CELL_FACTOR * (b as Cell) + 2,
+    match b {
+        Some(bindings) if bindings < NESTING => Ok(Meaning {
+            cell: CELL_FACTOR * (bindings as Cell) + 2,
             wanted: 0,
-        };
-    }
-    match look_up(book, kinds, table, lines, indicator, w, title, word) {
-        Sought::Line { number, kind } => {
-            let cell = CELL_FACTOR * (number as Cell);
-            if kind == 0 {
-                return Meaning {
-                    fault: 0,
-                    cell: cell + 1,
-                    wanted: 0,
-                };
-            }
-            let count = field(table, number, CONTEXT_LENGTH);
-            Meaning {
-                fault: 0,
-                cell: cell + 3,
-                wanted: count,
-            }
-        }
-        Sought::NoLine => Meaning {
-            fault: UNKNOWN_NAME,
-            cell: 0,
-            wanted: 0,
-        },
-        Sought::NotInForce { number: _ } => Meaning {
-            fault: NOT_IN_CONTEXT,
-            cell: 0,
-            wanted: 0,
+        }),
+        _ => match look_up(book, kinds, table, lines, indicator, w, title, word) {
+            Sought::Variable(v) => Ok(Meaning {
+                cell: CELL_FACTOR * (v as Cell) + 1,
+                wanted: 0,
+            }),
+            Sought::Constant(v) => Ok(Meaning {
+                cell: CELL_FACTOR * (v as Cell) + 3,
+                wanted: field(table, v, CONTEXT_LENGTH),
+            }),
+            Sought::NoLine => Err(Reason::UnknownName),
+            Sought::NotInForce(_) => Err(Reason::NotInContext),
         },
     }
 }

@@ -1,8 +1,5 @@
 use native.Mathlib.Omega.{arith}
 use mathlib.Core.Path.{refl}
-use Prim.Native.Nat.{◌+◌, ◌*◌, ◌/◌}
-use lib.ListN.{length}
-use Rattle.cells.specs.Layout.{context_unit, reader_units}
 use Rattle.meanings.proofs.NotedLaws.{in_no_context, number_too_large, number_noted, by_chain}
 use Rattle.meanings.proofs.contexts.in_context.Goals as goal
 
@@ -12,20 +9,9 @@ returns-then-last-eq0 c = in_no_context c.if-last-eq0.true
 pub returns-then-i-most : goal.returns-then-i-most
 returns-then-i-most c = number_too_large c.if-last-eq0.false c.field-i.ensures.0 c.field-most.ensures.0 c.if-i-most.true
 
-pub overflow_add-i : goal.overflow_add-i
-overflow_add-i c = omega (arith, c.field-i.ensures.1)
-
 pub returns-then-i-most-2 : goal.returns-then-i-most-2
 returns-then-i-most-2 c = by_chain c.on_chain.ensures
 
-pub returns-then-i-unit : goal.returns-then-i-unit
-returns-then-i-unit c = by_chain c.on_chain-then-i-unit.ensures
-
-pub overflow_cast-noted : goal.overflow_cast-noted
-overflow_cast-noted c =
-    omega (arith, c.type_inv.w (context_unit * (length c.args.w.now / reader_units) + c.field-i.result))
-
 pub returns : goal.returns
 returns c =
-    number_noted c.if-last-eq0.false c.field-i.ensures.0 c.field-most.ensures.0 c.if-i-most.false
-    (omega arith) (omega arith) refl
+    number_noted c.if-last-eq0.false c.field-i.ensures.0 c.field-most.ensures.0 c.if-i-most.false (omega arith) (omega arith) refl

@@ -3,6 +3,3 @@ use Rattle.meanings.proofs.meanings.binding.Given as goal
 
 abbrev pub invariant-loop-i : goal.invariant-loop-i
 invariant-loop-i l = BoundSoFar l.line l.scope l.word l.i
-
-abbrev pub decreases-loop-i : goal.decreases-loop-i
-decreases-loop-i l = l.i
