@@ -1,7 +1,7 @@
 -- Laws: runs of cells copied, moved, cleared.
-use Rattle.std.specs.Prelude.{◌≡◌, refl, ◌⊎◌, Bool, true, false, ◌&&◌, ◌||◌, List, [], ◌∷◌, ◌++◌, ℕ, ◌+◌, ◌≤◌, ◌<◌, length, get_or}
+use Rattle.std.specs.Prelude.{◌≡◌, refl, ◌⊎◌, Bool, true, false, ◌&&◌, ◌||◌, List, [], ◌∷◌, ◌++◌, ℕ, ◌+◌, ◌-◌, ◌≤◌, ◌<◌, length, get_or}
 use Rattle.std.proofs.Math.Path.{sym, ap}
-use Rattle.std.proofs.Common.{ap₂, ◌∙◌, ⊎_elim, add-one, arith, take-suc, get_or-drop, length-take-le}
+use Rattle.std.proofs.Common.{ap₂, ◌∙◌, ⊎_elim, add-one, arith, take-suc, get_or-drop, length-take-le, drop-drop, append_assoc}
 use Rattle.std.proofs.Math.Logic.{inl, inr}
 use Rattle.std.proofs.Math.Nat.{zero-add}
 use Rattle.std.proofs.Math.Dec.{leb}
@@ -9,6 +9,8 @@ use Rattle.std.proofs.Math.ListN.{take, drop, set, replicate, length-drop, lengt
 use Rattle.std.proofs.lemmas.List.{replicate-append-replicate}
 use Rattle.std.proofs.Math.Seq.{slice}
 use Rattle.std.proofs.lemmas.List.Edits.{sets, sets-eq}
+use borrow.Rule.Slice.PartMut.{put_mid}
+use lib.Seq.{paste}
 use borrow.Author.Tests.{le-leb, lt-leb, leb-true, leb-false}
 use Rattle.aut68.specs.Procedure.Run.{over}
 use Rattle.cells.specs.Cells.{At, Outside, copy_cells, move_cells}
@@ -90,6 +92,24 @@ module _ (s : List ℕ) (from n : ℕ) (w : List ℕ) (to : ℕ) where
       let q : i ≡ n = omega arith in
       e ∙ ap (λ (m : ℕ). copied s from m w to) q ∙ sym (copy_whole h k)
 
+  -- the run pasted over the target at once
+  pub copy_pasted : from + n ≤ length s → to + n ≤ length w → paste w to (drop from s) n ≡ copy_cells s from n w to
+  unfolding copied
+  copy_pasted h k =
+      let l : length (take n (drop from s)) ≡ n = copied_length h in
+      sym (copy_whole h k ∙ sets-eq (take n (drop from s)) w to (omega arith) ∙ ap (λ (m : ℕ). take to w ++ take n (drop from s) ++ drop (to + m) w) l)
+
+  -- the run put in the part of the target that it is for
+  pub copy_put : {xs : List ℕ} → from + n ≤ length s → to + n ≤ length w → xs ≡ take (from + n - from) (drop from s)
+      → put_mid to (to + n - to) w xs ≡ copy_cells s from n w to
+  copy_put {xs} h k e =
+      let q : from + n - from ≡ n = omega arith in
+      let r : to + n - to ≡ n = omega arith in
+      ap₂ (λ (m : ℕ) (l : List ℕ). put_mid to m w l) r (e ∙ ap (λ (m : ℕ). take m (drop from s)) q)
+      ∙ ap (λ (l : List ℕ). take to w ++ (take n (drop from s) ++ l)) (drop-drop n to w)
+      ∙ sym (append_assoc (take to w) (take n (drop from s)) (drop (to + n) w))
+      ∙ copy_pasted h k
+
   pub copied_outside : from + n ≤ length s → Outside to (to + n) w (copied s from n w to)
   unfolding copied
   copied_outside h =
@@ -118,6 +138,10 @@ module _ (w : List ℕ) (from n to : ℕ) where
   unfolding move_cells
   move_apart (inl h) = rw (le-leb _ _ h, move_cells)
   move_apart (inr h) = rw (le-leb (from + n) to h, or_true (leb to from), move_cells)
+
+  -- the run pasted over its target at once
+  pub move_pasted : from + n ≤ length w → to + n ≤ length w → (to ≤ from) ⊎ (from + n ≤ to) → paste w to (drop from w) (from + n - from) ≡ move_cells w from n to
+  move_pasted h k d = ap (paste w to (drop from w)) (omega arith) ∙ copy_pasted w from n w to h k ∙ sym (move_apart d)
 
   pub move_inside : from < to → to < from + n → move_cells w from n to ≡ w
   unfolding move_cells
@@ -181,6 +205,13 @@ module _ (n : ℕ) (w : List ℕ) where
       rw (le-leb _ _ h, cleared)
       (ap (λ (k : ℕ). replicate n 0 ++ drop k w) (sym (zero-add (length (replicate n 0))))
       ∙ sym (sets-eq (replicate n 0) w 0 (omega (arith, length-replicate {A = ℕ} n 0))))
+
+  -- a part filled with zeros at once
+  pub cleared_put : {xs : List ℕ} → n ≤ length w → xs ≡ replicate n 0 → xs ++ drop n w ≡ cleared n w
+  unfolding cleared over
+  cleared_put {xs} h e =
+      rw (le-leb _ _ h, cleared)
+      (ap₂ (λ (l : List ℕ) (m : ℕ). l ++ drop m w) e (sym (length-replicate n 0)))
 
   -- a turn of a loop that clears, and its end
   pub zeros_turn : {now : List ℕ} → now ≡ zeros n w → set now n 0 ≡ zeros (n + 1) w

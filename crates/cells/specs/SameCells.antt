@@ -1,8 +1,9 @@
 -- Laws: runs of cells compared.
-use Rattle.std.specs.Prelude.{◌≡◌, refl, Bool, true, false, List, [], ◌∷◌, ◌++◌, ℕ, ◌+◌, ◌≤◌, ◌<◌, leb, length, get_or, take, drop}
+use Rattle.std.specs.Prelude.{◌≡◌, refl, Bool, true, false, List, [], ◌∷◌, ◌++◌, ℕ, ◌+◌, ◌-◌, ◌≤◌, ◌<◌, ◌&&◌, eqb, leb, length, get_or, take, drop}
 use Rattle.std.proofs.Common.{sym, ap, ap₂, ◌∙◌, add-one, arith, length-drop, take-suc, get_or-take, get_or-drop}
 use Rattle.std.proofs.lemmas.Bool.{false≢true}
 use Rattle.std.proofs.Math.Seq.{slice}
+use Rattle.std.specs.Cmp.Lexicographic.{pointwise}
 use borrow.Author.Tests.{le-leb, lt-leb, leb-true, leb-false}
 use Rattle.aut68.specs.Bytes.{same_bytes}
 use Rattle.lookup.specs.SameBytes.{same_true, same_refl, same_of_ne}
@@ -12,6 +13,17 @@ use Rattle.cells.specs.Forests.{at_inside, size_is_length, cells_unique}
 use Rattle.cells.specs.Stores.{at_taken}
 use Rattle.cells.specs.Slices.{run_is_slice}
 use Rattle.cells.specs.CopyLaws.{and_false}
+
+pointwise_same : (xs ys : List ℕ) → pointwise eqb xs ys ≡ same_bytes xs ys
+unfolding same_bytes
+pointwise_same [] [] = refl
+pointwise_same [] (y ∷ ys) = refl
+pointwise_same (x ∷ xs) [] = refl
+pointwise_same (x ∷ xs) (y ∷ ys) = go (eqb x y) (pointwise_same xs ys)
+  where
+    go : (t : Bool) → pointwise eqb xs ys ≡ same_bytes xs ys → (t && pointwise eqb xs ys) ≡ elim t [ true ↦ same_bytes xs ys | false ↦ false ]
+    go true e = e
+    go false e = refl
 
 module _ (s : List ℕ) (a : ℕ) (f : List ℕ) (b n : ℕ) where
   pub same_whole : a + n ≤ length s → b + n ≤ length f → same_run s a f b n ≡ same_bytes (take n (drop a s)) (take n (drop b f))
@@ -28,6 +40,13 @@ module _ (s : List ℕ) (a : ℕ) (f : List ℕ) (b n : ℕ) where
 
   pub same_equal : a + n ≤ length s → b + n ≤ length f → take n (drop a s) ≡ take n (drop b f) → same_run s a f b n ≡ true
   same_equal h k e = same_whole h k ∙ ap (same_bytes (take n (drop a s))) (sym e) ∙ same_refl (take n (drop a s))
+
+  -- two runs that are whole, compared by `==`
+  pub same_slices : a + n ≤ length s → b + n ≤ length f → pointwise eqb (take (a + n - a) (drop a s)) (take (b + n - b) (drop b f)) ≡ same_run s a f b n
+  same_slices h k =
+      pointwise_same (take (a + n - a) (drop a s)) (take (b + n - b) (drop b f))
+      ∙ ap₂ (λ (i j : ℕ). same_bytes (take i (drop a s)) (take j (drop b f))) (omega arith) (omega arith)
+      ∙ sym (same_whole h k)
 
   -- the end of a loop that compares
   pub same_end : {i : ℕ} → i ≤ n → n ≤ i → a + n ≤ length s → b + n ≤ length f → take i (drop a s) ≡ take i (drop b f) → same_run s a f b n ≡ true
