@@ -10,10 +10,7 @@ use constants::Cell;
 pub fn whole(from: usize, n: usize, len: usize) -> bool
     ensures { result ≡ leb (from + n) len }
 {
-    if from > len {
-        return false;
-    }
-    n <= len - from
+    from <= len && n <= len - from
 }
 
 // Copies n cells of s from index `from` on to index `to` of w.
