@@ -17,14 +17,8 @@ pub fn whole(from: usize, n: usize, len: usize) -> bool
 pub fn load(s: &[Cell], from: usize, n: usize, w: &mut [Cell], to: usize)
     ensures { w.new ≡ copy_cells s.now from n w.old to }
 {
-    if whole(from, n, s.len()) {
-        if whole(to, n, w.len()) {
-            let mut i = 0;
-            while i < n {
-                w[to + i] = s[from + i];
-                i = i + 1;
-            }
-        }
+    if whole(from, n, s.len()) && whole(to, n, w.len()) {
+        w[to..to + n].copy_from_slice(&s[from..from + n]);
     }
 }
 
