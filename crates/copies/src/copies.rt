@@ -22,24 +22,15 @@ pub fn load(s: &[Cell], from: usize, n: usize, w: &mut [Cell], to: usize)
     }
 }
 
-// Copies n cells of w from index `from` on to index `to`, the lowest first; nothing where `to` lies inside them.
+// Copies n cells of w from index `from` on to index `to`; nothing where `to` lies inside them.
 pub fn move_cells(w: &mut [Cell], from: usize, to: usize, n: usize)
     ensures { w.new ≡ move_cells w.old from n to }
 {
-    if whole(from, n, w.len()) {
-        if whole(to, n, w.len()) {
-            if to > from {
-                if to - from < n {
-                    return;
-                }
-            }
-            let mut i = 0;
-            while i < n {
-                let x = w[from + i];
-                w[to + i] = x;
-                i = i + 1;
-            }
-        }
+    if from < to && to - from < n {
+        return;
+    }
+    if whole(from, n, w.len()) && whole(to, n, w.len()) {
+        w.copy_within(from..from + n, to);
     }
 }
 
