@@ -38,19 +38,7 @@ pub fn move_cells(w: &mut [Cell], from: usize, to: usize, n: usize)
 pub fn same_run(s: &[Cell], from: usize, f: &[Cell], at: usize, n: usize) -> bool
     ensures { result ≡ same_run s.now from f.now at n }
 {
-    if whole(from, n, s.len()) {
-        if whole(at, n, f.len()) {
-            let mut i = 0;
-            while i < n {
-                if s[from + i] != f[at + i] {
-                    return false;
-                }
-                i = i + 1;
-            }
-            return true;
-        }
-    }
-    false
+    whole(from, n, s.len()) && whole(at, n, f.len()) && s[from..from + n] == f[at..at + n]
 }
 
 // Are the n cells from a on the n cells from b on?
