@@ -53,17 +53,8 @@ pub fn exchange(terms: &mut [Cell], from: usize, w: &mut [Cell], to: usize, n: u
     ensures { (terms.new ≡ copy_cells w.old to n terms.old from)
         × (w.new ≡ copy_cells terms.old from n w.old to) }
 {
-    if whole(from, n, terms.len()) {
-        if whole(to, n, w.len()) {
-            let mut i = 0;
-            while i < n {
-                let x = terms[from + i];
-                let y = w[to + i];
-                terms[from + i] = y;
-                w[to + i] = x;
-                i = i + 1;
-            }
-        }
+    if whole(from, n, terms.len()) && whole(to, n, w.len()) {
+        terms[from..from + n].swap_with_slice(&mut w[to..to + n]);
     }
 }
 
