@@ -63,10 +63,6 @@ pub fn clear(w: &mut [Cell], n: usize)
     ensures { w.new ≡ cleared n w.old }
 {
     if n <= w.len() {
-        let mut i = 0;
-        while i < n {
-            w[i] = 0;
-            i = i + 1;
-        }
+        w[..n].fill(0);
     }
 }
