@@ -7,7 +7,10 @@ use native.Mathlib.Numerals.{add-one}
 use native.Mathlib.Omega.{arith}
 use lib.ListN.{length, get_or, take, drop, drop_of_length-le}
 use lib.Seq.{drop-cons, take-suc, drop-append-le, slice, length-take-le, take-nil}
-use borrow.Author.Tests.{eq-eqb, ne_eqb}
+use borrow.Author.Tests.{eq-eqb, ne_eqb, ltb-true, ltb-false}
+use mathlib.Core.Bool.{true, false}
+use lib.Dec.{ltb}
+use Rattle.std.proofs.lemmas.List.{get_or_default}
 use Rattle.aut68.specs.Bytes.{Bytes}
 use Rattle.aut68.specs.Procedure.Answer.{done, stop, malformed}
 use Rattle.aut68.specs.Procedure.Parse.{spaces, byte, symbol}
@@ -32,6 +35,13 @@ part s zero end l = let e : end - 0 ≡ end = omega arith in rw e
 part s (suc from) zero l = absurd (omega arith)
 part [] (suc from) (suc end) l = take-nil (suc end - suc from)
 part (x ∷ s) (suc from) (suc end) l = let e : suc end - suc from ≡ end - from = omega arith in rw e (part s from end (omega arith))
+
+-- the byte that a test of the place gives
+pub got : (s : Bytes) (i : ℕ) {b : ℕ} → true ≡ ltb i (length s) → b ≡ get_or s i b → (i < length s) × (b ≡ get_or s i 0)
+got s i {b} e f = let l = ltb-true i (length s) (sym e) in (l, f ∙ get_or_default s i b 0 l)
+
+pub got_none : (s : Bytes) (i : ℕ) → false ≡ ltb i (length s) → length s ≤ i
+got_none s i e = ltb-false i (length s) (sym e)
 
 -- ---- spaces
 
@@ -73,12 +83,12 @@ module _ {s : Bytes} {at i : ℕ} (h : SpacesSoFar s at i) where
         rest = sym (h.rest ∙ ap spaces (step s i l) ∙ cons_other (get_or s i 0) (drop (i + 1) s) n ∙ sym (step s i l));
       }
 
-  pub spaces_last : length s ≤ i → PastSpaces s at i
-  spaces_last l =
+  pub spaces_last : {r : ℕ} → length s ≤ i → at ≤ r → length s ≤ r → (at ≤ length s → r ≤ length s) → PastSpaces s at r
+  spaces_last {r} l f e w =
       record {
-        from = h.from;
-        within = h.within;
-        rest = sym (h.rest ∙ ap spaces (ended s i l) ∙ no_spaces ∙ sym (ended s i l));
+        from = f;
+        within = w;
+        rest = sym (h.rest ∙ ap spaces (ended s i l) ∙ no_spaces ∙ sym (ended s r e));
       }
 
 -- ---- kinds

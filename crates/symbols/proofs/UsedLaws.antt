@@ -1,5 +1,5 @@
 -- A name where it is used, with the paragraph's name and a point before it, if any.
-use mathlib.Core.Path.{◌≡◌, refl, sym, ap, ◌∙◌}
+use mathlib.Core.Path.{◌≡◌, refl, sym, ap, ◌∙◌, subst}
 use mathlib.Core.Logic.{◌≢◌}
 use mathlib.Core.Bool.{Bool, true, false}
 use mathlib.Core.List.{[], ◌∷◌}
@@ -13,10 +13,12 @@ use borrow.Author.Tests.{eq-eqb, ne_eqb, leb-true, leb-false}
 use Rattle.aut68.specs.Language.{aut68}
 use Rattle.aut68.specs.Bytes.{Bytes, name_byte}
 use Rattle.aut68.specs.Source.{plain, inside}
-use Rattle.aut68.specs.Procedure.Answer.{done, stop, and_then, Refusal}
+use Rattle.aut68.specs.Procedure.Answer.{done, stop, malformed, and_then, Refusal}
 use Rattle.aut68.specs.Procedure.Parse.{symbol, a_name, point_if_any, a_used}
-use Rattle.kinds.specs.Kinds.{kind_of, place_or0}
-use Rattle.symbols.specs.Symbols.{PastSymbol, NameAt, used_in, used_by, UsedAt}
+use Rattle.std.specs.Prelude.{Option, None}
+use Rattle.kinds.specs.Kinds.{KindsTable, kind_of, place_or0}
+use Rattle.symbols.specs.Symbols.{PastSymbol, NameAt, used_in, used_by, UsedAt, UsedFound}
+use Rattle.symbols.specs.declared.UsedName.{UsedName}
 use Rattle.symbols.proofs.NextLaws.{after_stop, after_done, symbol_starts, symbol_starts_not}
 
 module _ (s : Bytes) (title size start len : ℕ) where
@@ -65,15 +67,22 @@ module _ (w bs : Bytes) where
 
 -- ---- the name
 
-pub used_outside : {ks s : Bytes} {at : ℕ} → length s < at → UsedAt ks s at 0 0 at 0
-used_outside l =
+no_used : {ks s : Bytes} {at : ℕ} → (KindsTable ks → at ≤ length s → (rest : Bytes) × (a_used aut68 (drop at s) ≡ stop malformed rest)) → UsedAt ks s at 0 0 at 0
+no_used f =
     record {
       from = omega arith;
       titled = λ b. omega arith;
-      within = λ b. absurd (omega arith);
+      within = λ b. omega arith;
       read = λ t b n. absurd (n refl);
-      missing = λ t b e. absurd (omega arith);
+      missing = λ t b e. f t b;
     }
+
+pub used_none : {ks s : Bytes} {at : ℕ} {r : Option UsedName} → r ≡ None → UsedAt ks s at 0 0 at 0 → UsedFound ks s at r
+used_none {ks} {s} {at} e u = subst (UsedFound ks s at) (sym e) u
+
+pub used_missing : {ks s : Bytes} {at start : ℕ} → NameAt ks s at start 0 → UsedAt ks s at 0 0 at 0
+unfolding a_used
+used_missing n = no_used (λ t b. (_, after_stop _ (n.missing t b refl)))
 
 module _ {ks s : Bytes} {at start len : ℕ} (n : NameAt ks s at start len) where
   -- a name stands inside the line
@@ -83,17 +92,6 @@ module _ {ks s : Bytes} {at start len : ℕ} (n : NameAt ks s at start len) wher
       split : (t : Bool) → leb at (length s) ≡ t → at ≤ length s
       split true q = leb-true at (length s) q
       split false q = absurd (m (n.outside (leb-false at (length s) q)))
-
-  pub used_missing : len ≡ 0 → UsedAt ks s at 0 0 start 0
-  unfolding a_used
-  used_missing e =
-      record {
-        from = n.from;
-        titled = λ b. omega arith;
-        within = λ b. omega (arith, n.within b);
-        read = λ t b m. absurd (m refl);
-        missing = λ t b z. (_, after_stop _ (n.missing t b e));
-      }
 
   module _ (m : len ≢ 0) {point : ℕ} (p : PastSymbol ks s (start + len) 14 point) where
     pub used_alone : length s < point → UsedAt ks s at 0 0 start len
@@ -121,3 +119,8 @@ module _ {ks s : Bytes} {at start len : ℕ} (n : NameAt ks s at start len) wher
               ∙ ap (λ u. done u (drop (first + size) s)) (sym (used_inside s start len first size m));
           missing = λ t b z. (_, after_done _ (n.read t b m) ∙ a_lone_point _ (drop (start + len) s) (p.read t 46 point_kind (omega arith) l) (q.missing t l z));
         }
+
+    pub used_lone_point : {first : ℕ} → point ≤ length s → NameAt ks s point first 0 → UsedAt ks s at 0 0 at 0
+    unfolding a_used
+    used_lone_point l q =
+        no_used (λ t b. (_, after_done _ (n.read t b m) ∙ a_lone_point _ (drop (start + len) s) (p.read t 46 point_kind (omega arith) l) (q.missing t l refl)))

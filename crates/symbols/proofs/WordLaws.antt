@@ -84,14 +84,15 @@ module _ {ks s : Bytes} {at i : ℕ} (h : WordSoFar ks s at i) where
         rest = λ t. sym (h.rest t ∙ ap after_word (step s i l) ∙ cons_no_after (get_or s i 0) (drop (i + 1) s) (no_name _ (n t)) ∙ sym (step s i l));
       }
 
-  pub word_last : length s ≤ i → WordEnd ks s at i
-  word_last l =
+  pub word_last : {r : ℕ} → length s ≤ i → at ≤ r → length s ≤ r → (at ≤ length s → r ≤ length s) → WordEnd ks s at r
+  word_last {r} l f e w =
       record {
-        from = h.from;
-        within = h.within;
+        from = f;
+        within = w;
         word = λ t b.
-            sym (h.word t b ∙ ap (λ x. slice at i s ++ x) (ap word_of (ended s i l) ∙ nil_word.0) ∙ append-nil (slice at i s));
-        rest = λ t. sym (h.rest t ∙ ap after_word (ended s i l) ∙ nil_word.1 ∙ sym (ended s i l));
+            let z : i ≡ r = omega (arith, h.within b, w b) in
+            sym (h.word t b ∙ ap (λ x. slice at i s ++ x) (ap word_of (ended s i l) ∙ nil_word.0) ∙ append-nil (slice at i s) ∙ ap (λ j. slice at j s) z);
+        rest = λ t. sym (h.rest t ∙ ap after_word (ended s i l) ∙ nil_word.1 ∙ sym (ended s r e));
       }
 
 -- ---- the three words
@@ -181,6 +182,9 @@ module _ {ks s : Bytes} {at start end : ℕ} (p : PastSpaces s at start) (q : Wo
         read = λ t b n. absurd (n refl);
         missing = λ t b e. f t b;
       }
+
+  pub name_empty : end - start ≡ 0 → NameAt ks s at start 0
+  name_empty e = no_name_at (λ t b. no_word p q t b e)
 
   pub name_long : name_limit < end - start → NameAt ks s at start 0
   name_long l = no_name_at (λ t b. long_word p q t b l)

@@ -1,63 +1,59 @@
 // Symbols and words: what stands at a place of a line. specs/Symbols has the contracts.
 #![tactic(auto)]
 
-ghost use Rattle.std.specs.Prelude.{◌≡◌, ◌+◌, ◌≤◌, ◌<◌, length, get_or};
+ghost use Rattle.std.specs.Prelude.{◌≡◌, ◌+◌, ◌≤◌, ◌<◌, length, get_or, IfSome};
 ghost use Rattle.aut68.specs.Language.{aut68};
 ghost use Rattle.aut68.specs.Bytes.{same_bytes, reserved};
-ghost use Rattle.symbols.specs.Symbols.{PastSpaces, KindAt, PastSymbol, WordEnd, four_at, NameAt, UsedAt};
+ghost use Rattle.symbols.specs.Symbols.{PastSpaces, KindAt, PastSymbol, past_in, WordEnd, four_at, NameFound, UsedFound};
 
 // The first byte from `at` on that is no space; the line's length where there is none (spaces).
 pub fn spaces(line: &[u8], at: usize) -> usize
     ensures { PastSpaces line.now at result }
 {
-    let mut i = at;
-    while i < line.len() {
-        if line[i] != 32 {
+    for i in at..line.len() {
+        if line[i] != b' ' {
             return i;
         }
-        i = i + 1;
     }
-    i
+    at.max(line.len())
 }
 
 // The kind of the byte at `at`; OTHER behind the line's end.
 pub fn kind_at(line: &[u8], kinds: &[u8; 256], at: usize) -> u8
     ensures { KindAt kinds.now line.now at result }
 {
-    if at < line.len() {
-        return kinds::kind_of(kinds, line[at]);
+    match line.get(at) {
+        Some(&b) => kinds::kind_of(kinds, b),
+        None => kinds::OTHER,
     }
-    kinds::OTHER
 }
 
-// Past the symbol of one byte of kind k that stands next, after spaces (symbol); past the line's length where another stands.
-pub fn symbol(line: &[u8], kinds: &[u8; 256], at: usize, k: u8) -> usize
-    ensures { PastSymbol kinds.now line.now at k result }
+// Past the symbol of one byte of kind k that stands next, after spaces (symbol); None where another stands.
+pub fn symbol(line: &[u8], kinds: &[u8; 256], at: usize, k: u8) -> Option<usize>
+    ensures past { PastSymbol kinds.now line.now at k (past_in line.now result) }
+    ensures inside { IfSome result (λ r. r ≤ length line.now) }
 {
     let i = spaces(line, at);
-    if i >= line.len() {
-        return line.len() + 1;
+    let Some(&b) = line.get(i) else {
+        return None;
+    };
+    if kinds::kind_of(kinds, b) == k {
+        Some(i + 1)
+    } else {
+        None
     }
-    let found = kinds::kind_of(kinds, line[i]);
-    if found != k {
-        return line.len() + 1;
-    }
-    i + 1
 }
 
 // The end of the longest run of name bytes from `at` on (wordOf, after_word).
 pub fn word_end(line: &[u8], kinds: &[u8; 256], at: usize) -> usize
     ensures { WordEnd kinds.now line.now at result }
 {
-    let mut i = at;
-    while i < line.len() {
-        let k = kinds::kind_of(kinds, line[i]);
-        if k != 1 {
+    for i in at..line.len() {
+        if kinds::kind_of(kinds, line[i]) != kinds::NAME {
             return i;
         }
-        i = i + 1;
     }
-    i
+    at.max(line.len())
 }
 
 // The four bytes of s from i on, as a number (four_at).
@@ -117,139 +113,74 @@ pub fn same_bytes(a: &[u8], b: &[u8]) -> bool
     four(a, last) == four(b, last)
 }
 
-// The same byte by byte, for a word beside one of the three fixed words.
-pub fn same_word(word: &[u8], fixed: &[u8]) -> bool
-    ensures { result ≡ same_bytes word.now fixed.now }
-{
-    if word.len() != fixed.len() {
-        return false;
-    }
-    let mut i = 0;
-    while i < word.len() {
-        if word[i] != fixed[i] {
-            return false;
-        }
-        i = i + 1;
-    }
-    true
-}
-
 // Is the word one of type, PN and EB (reserved)?
 pub fn is_reserved(word: &[u8]) -> bool
     ensures { result ≡ reserved aut68 word.now }
 {
-    if same_word(word, b"type") {
-        return true;
-    }
-    if same_word(word, b"PN") {
-        return true;
-    }
-    same_word(word, b"EB")
+    word == b"type".as_slice() || word == b"PN".as_slice() || word == b"EB".as_slice()
 }
 
-// A name in the line; length 0: no name.
+// A name in the line.
 #[derive(Clone, Copy)]
 pub struct Name {
     pub start: usize,
     pub len: usize,
 }
 
-// The name that stands next, after spaces (a_name): 1 to 32 name bytes and none of the three words; length 0 where none does.
-pub fn name_at(line: &[u8], kinds: &[u8; 256], at: usize) -> Name
-    ensures { NameAt kinds.now line.now at result.start result.len }
+// The name that stands next, after spaces (a_name): 1 to 32 name bytes and none of the three words.
+pub fn name_at(line: &[u8], kinds: &[u8; 256], at: usize) -> Option<Name>
+    ensures { NameFound kinds.now line.now at result }
 {
     if at > line.len() {
-        return Name { start: at, len: 0 };
+        return None;
     }
     let start = spaces(line, at);
     let end = word_end(line, kinds, start);
     let len = end - start;
-    if len > constants::NAME_LIMIT {
-        return Name {
-            start: start,
-            len: 0,
-        };
+    if len == 0 || len > constants::NAME_LIMIT {
+        return None;
     }
     if is_reserved(&line[start..end]) {
-        return Name {
-            start: start,
-            len: 0,
-        };
+        return None;
     }
-    Name {
-        start: start,
-        len: len,
-    }
+    Some(Name { start, len })
 }
 
-// A name where it is used. title, size: the paragraph's name before the point (size 0: there is no point). start, len: the name;
-// len 0: no such name.
+// A name where it is used, and the paragraph's name before the point; None: there is no point.
 #[derive(Clone, Copy)]
 pub struct UsedName {
-    pub title: usize,
-    pub size: usize,
-    pub start: usize,
-    pub len: usize,
+    pub paragraph: Option<Name>,
+    pub name: Name,
 }
 
 // The name that stands next, with the paragraph's name and the point before it, if any (a_used).
-pub fn used_at(line: &[u8], kinds: &[u8; 256], at: usize) -> UsedName
-    ensures { UsedAt kinds.now line.now at result.title result.size result.start result.len }
+pub fn used_at(line: &[u8], kinds: &[u8; 256], at: usize) -> Option<UsedName>
+    ensures { UsedFound kinds.now line.now at result }
 {
-    if at > line.len() {
-        return UsedName {
-            title: 0,
-            size: 0,
-            start: at,
-            len: 0,
-        };
-    }
-    let n = name_at(line, kinds, at);
-    let start = n.start;
-    let len = n.len;
-    if len == 0 {
-        return UsedName {
-            title: 0,
-            size: 0,
-            start: start,
-            len: 0,
-        };
-    }
-    let point = symbol(line, kinds, start + len, kinds::POINT);
-    if point > line.len() {
-        return UsedName {
-            title: 0,
-            size: 0,
-            start: start,
-            len: len,
-        };
-    }
-    let inner = name_at(line, kinds, point);
-    UsedName {
-        title: start,
-        size: len,
-        start: inner.start,
-        len: inner.len,
-    }
+    let first = name_at(line, kinds, at)?;
+    let Some(point) = symbol(line, kinds, first.start + first.len, kinds::POINT) else {
+        return Some(UsedName {
+            paragraph: None,
+            name: first,
+        });
+    };
+    let name = name_at(line, kinds, point)?;
+    Some(UsedName {
+        paragraph: Some(first),
+        name,
+    })
 }
 
 // The same for the reading of expressions, where most names have no point: those take no second call.
-pub fn used_plain_first(line: &[u8], kinds: &[u8; 256], at: usize) -> UsedName
-    ensures { UsedAt kinds.now line.now at result.title result.size result.start result.len }
+pub fn used_plain_first(line: &[u8], kinds: &[u8; 256], at: usize) -> Option<UsedName>
+    ensures { UsedFound kinds.now line.now at result }
 {
-    let n = name_at(line, kinds, at);
-    let start = n.start;
-    let len = n.len;
-    if len != 0 {
-        let behind = symbol(line, kinds, start + len, kinds::POINT);
-        if behind > line.len() {
-            return UsedName {
-                title: 0,
-                size: 0,
-                start: start,
-                len: len,
-            };
-        }
+    let name = name_at(line, kinds, at)?;
+    match symbol(line, kinds, name.start + name.len, kinds::POINT) {
+        None => Some(UsedName {
+            paragraph: None,
+            name,
+        }),
+        Some(_) => used_at(line, kinds, at),
     }
-    used_at(line, kinds, at)
 }

@@ -1,13 +1,17 @@
-use native.Mathlib.Omega.{arith}
-use mathlib.Core.Path.{sym, ◌∙◌}
-use Rattle.symbols.proofs.SymbolLaws.{symbol_here, symbol_other, symbol_end}
+use mathlib.Core.Path.{sym, ap, ◌∙◌}
+use Rattle.kinds.specs.Kinds.{kind_of}
+use Rattle.symbols.proofs.SymbolLaws.{symbol_here, symbol_other, symbol_end, got, got_none}
 use Rattle.symbols.proofs.symbol.Goals as goal
 
-pub returns-then-i-line : goal.returns-then-i-line
-returns-then-i-line c = symbol_end c.spaces-i.ensures (omega arith)
+pub returns-then-kind_of-k-clause-past : goal.returns-then-kind_of-k-clause-past
+returns-then-kind_of-k-clause-past c =
+    let g = got _ _ c.in-Some.ensures.lookup.0 c.in-Some.ensures.lookup.1 in
+    symbol_here c.spaces-i.ensures g.0 (λ t. sym (c.kind_of.ensures t ∙ ap kind_of g.1) ∙ c.if-kind_of-k.true)
 
-pub returns-then-found-k : goal.returns-then-found-k
-returns-then-found-k c = symbol_other c.spaces-i.ensures (omega arith) (λ t e. c.if-found-k.true (c.kind_of-found.ensures t ∙ e))
+pub returns-else-kind_of-k-clause-past : goal.returns-else-kind_of-k-clause-past
+returns-else-kind_of-k-clause-past c =
+    let g = got _ _ c.in-Some.ensures.lookup.0 c.in-Some.ensures.lookup.1 in
+    symbol_other c.spaces-i.ensures g.0 (λ t e. c.if-kind_of-k.false (c.kind_of.ensures t ∙ ap kind_of g.1 ∙ e))
 
-pub returns : goal.returns
-returns c = symbol_here c.spaces-i.ensures (omega arith) (λ t. sym (c.kind_of-found.ensures t) ∙ c.if-found-k.false)
+pub returns-in_default-clause-past : goal.returns-in_default-clause-past
+returns-in_default-clause-past c = symbol_end c.spaces-i.ensures (got_none _ _ c.in_default.ensures.lookup.0)

@@ -1,21 +1,22 @@
 use native.Mathlib.Omega.{arith}
-use Rattle.symbols.proofs.UsedLaws.{used_outside, used_missing, used_alone, used_pointed}
+use Rattle.symbols.proofs.UsedLaws.{name_inside, used_none, used_missing, used_alone, used_pointed, used_lone_point}
 use Rattle.symbols.proofs.used_at.Goals as goal
 
-pub returns-then-at-line : goal.returns-then-at-line
-returns-then-at-line c = used_outside c.if-at-line.true
+pub returns-in_err-first : goal.returns-in_err-first
+returns-in_err-first c = used_none c.from_residual.ensures (used_missing c.in_err-first.ensures.1)
 
-pub returns-then-len-eq0 : goal.returns-then-len-eq0
-returns-then-len-eq0 c = used_missing c.name_at-n.ensures c.if-len-eq0.true
+pub returns-in_default : goal.returns-in_default
+returns-in_default c =
+    let (m, n) = c.in_ok-first.ensures in
+    (m, tt, used_alone n m c.in_default.ensures.past (omega arith))
 
-pub overflow_add-start : goal.overflow_add-start
-overflow_add-start c = omega (arith, c.name_at-n.ensures.within c.if-at-line.false)
-
-pub returns-then-point-line : goal.returns-then-point-line
-returns-then-point-line c =
-    used_alone c.name_at-n.ensures c.if-len-eq0.false c.symbol-point.ensures c.if-point-line.true
+pub returns-in_err-name : goal.returns-in_err-name
+returns-in_err-name c =
+    let (m, n) = c.in_ok-first.ensures in
+    used_none c.from_residual-in_err-name.ensures (used_lone_point n m c.in-Some.ensures.past c.in-Some.ensures.inside c.in_err-name.ensures.1)
 
 pub returns : goal.returns
 returns c =
-    used_pointed c.name_at-n.ensures c.if-len-eq0.false c.symbol-point.ensures c.if-at-line.false
-    c.if-point-line.false c.name_at-inner.ensures
+    let (m, n) = c.in_ok-first.ensures in
+    let (l, o) = c.in_ok-name.ensures in
+    (l, m, used_pointed n m c.in-Some.ensures.past (name_inside n m) c.in-Some.ensures.inside o)

@@ -1,9 +1,11 @@
 use native.Mathlib.Omega.{arith}
-use Rattle.symbols.proofs.UsedLaws.{name_inside, used_alone}
+use Rattle.symbols.proofs.UsedLaws.{used_none, used_missing, used_alone}
 use Rattle.symbols.proofs.used_plain_first.Goals as goal
 
-pub overflow_add-start : goal.overflow_add-start
-overflow_add-start c = let n = c.name_at-n.ensures in omega (arith, n.within (name_inside n c.if-len-ne0.true))
+pub returns-in_err-name : goal.returns-in_err-name
+returns-in_err-name c = used_none c.from_residual.ensures (used_missing c.in_err-name.ensures.1)
 
-pub returns-then-behind-line : goal.returns-then-behind-line
-returns-then-behind-line c = used_alone c.name_at-n.ensures c.if-len-ne0.true c.symbol-behind.ensures c.if-behind-line.true
+pub returns-in-None : goal.returns-in-None
+returns-in-None c =
+    let (m, n) = c.in_ok-name.ensures in
+    (m, tt, used_alone n m c.in-None.ensures.past (omega arith))
