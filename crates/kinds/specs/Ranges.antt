@@ -1,6 +1,9 @@
 -- A table filled with one kind over a range of bytes.
-use Rattle.std.specs.Prelude.{◌≡◌, List, ℕ, zero, suc, ◌+◌, ◌-◌, ◌≤◌, ◌<◌, set}
-use Rattle.std.proofs.Common.{ap, arith}
+use Rattle.std.specs.Prelude.{◌≡◌, refl, List, ℕ, zero, suc, ◌+◌, ◌-◌, ◌≤◌, ◌<◌, ◌++◌, length, take, drop, set, replicate}
+use Rattle.std.proofs.Common.{ap, ap₂, sym, ◌∙◌, add-one, arith, drop-drop, append_assoc}
+use Rattle.std.proofs.Math.ListN.{length-replicate}
+use Rattle.std.proofs.lemmas.List.Edits.{sets, sets-eq}
+use borrow.Rule.Slice.PartMut.{put_mid}
 
 -- kind k for n bytes from a on
 abbrev run : ℕ → ℕ → ℕ → List ℕ → List ℕ
@@ -28,3 +31,17 @@ filled_none a b k ks h = ap (λ (n : ℕ). run a n k ks) none
   where
     none : b - a ≡ 0
     none = omega arith
+
+run_is : (a n k : ℕ) (ks : List ℕ) → run a n k ks ≡ sets ks a (replicate n k)
+run_is a zero k ks = refl
+run_is a (suc n) k ks = run_is (a + 1) n k (set ks a k) ∙ ap (λ (m : ℕ). sets (set ks a k) m (replicate n k)) (add-one a)
+
+-- a part filled at once
+pub filled_part : (a b k : ℕ) (ks : List ℕ) {xs : List ℕ} → a ≤ b → b < length ks → xs ≡ replicate (b + 1 - a) k → put_mid a (b + 1 - a) ks xs ≡ filled a b k ks
+filled_part a b k ks {xs} h l e =
+    let n = b + 1 - a in
+    let m : length (replicate n k) ≡ n = length-replicate n k in
+    ap₂ (λ (ys zs : List ℕ). take a ks ++ (ys ++ zs)) e (drop-drop n a ks ∙ ap (λ (i : ℕ). drop (a + i) ks) (sym m))
+    ∙ sym (append_assoc (take a ks) (replicate n k) (drop (a + length (replicate n k)) ks))
+    ∙ sym (sets-eq (replicate n k) ks a (omega arith))
+    ∙ sym (run_is a n k ks)

@@ -1,5 +1,5 @@
 // The table of kinds, filled from ranges of bytes. It is built on the stack once a book, so read-only memory holds none.
-ghost use Rattle.std.specs.Prelude.{◌≡◌, length};
+ghost use Rattle.std.specs.Prelude.{◌≡◌, ◌≤◌, length};
 ghost use Rattle.kinds.specs.Kinds.{KindsTable};
 ghost use Rattle.kinds.specs.Ranges.{filled};
 
@@ -10,15 +10,10 @@ use crate::{
 
 // The bytes from `first` to `last`, both among them, are of this kind.
 fn fill(kinds: &mut [u8; 256], first: u8, last: u8, kind: u8)
-    requires { length kinds.old ≡ 256 }
+    requires { (length kinds.old ≡ 256) × (first ≤ last) }
     ensures { kinds.new ≡ filled first last kind kinds.old }
 {
-    let end = last as usize + 1;
-    let mut b = first as usize;
-    while b < end {
-        kinds[b] = kind;
-        b = b + 1;
-    }
+    kinds[first as usize..=last as usize].fill(kind);
 }
 
 // The kind of each byte. A caller takes the table once and hands it down.

@@ -1,5 +1,6 @@
 -- The table's rule is one test, computed at each of the 256 entries as the ranges fill them.
 use mathlib.Core.Path.{refl}
+use native.Mathlib.Omega.{arith}
 use mathlib.Core.Bool.{Bool}
 use mathlib.Core.List.{List}
 use Prim.Native.Nat.{ℕ, ◌≤◌}
@@ -18,10 +19,10 @@ tested ks t l =
     record { kind = λ b h. eqb→eq (get_or ks b 0) (kind_of b) (at right ks t b (native.Mathlib.Nat.le_trans h l)) }
 
 pub fill-requires-2 : goal.fill-requires-2
-fill-requires-2 c = rw c.fill.ensures refl
+fill-requires-2 c = (rw c.fill.ensures refl, omega arith)
 
 pub fill-requires-3 : goal.fill-requires-3
-fill-requires-3 c = rw (c.fill-2.ensures, c.fill.ensures) refl
+fill-requires-3 c = (rw (c.fill-2.ensures, c.fill.ensures) refl, omega arith)
 
 pub returns : goal.returns
 unfolding kind_of place_or0 name_byte
