@@ -10,7 +10,7 @@ use Rattle.aut68.specs.Expr.{Expr, Exprs, abs, nil, cons, first_cell, parts, cel
 use Rattle.cells.specs.Cells.{AllFormed, At, Below, Wrote}
 use Rattle.cells.specs.Forests.{cells_split, join, at_head, at_tail, at_one}
 use Rattle.terms.specs.Kinds.{of_leaf, of_branch}
-use Rattle.terms.specs.Grafts.{Choice, graft, grafts, Fit, Fits, Kept, Full, Grafted, GraftPost, graft_prop, graft_const, graft_app, graft_abs, grafts_nil, grafts_cons}
+use Rattle.terms.specs.Grafts.{Choice, graft, grafts, Fit, Fits, Kept, Full, Grafted, Ended, Stopped, graft_prop, graft_const, graft_app, graft_abs, grafts_nil, grafts_cons}
 use Rattle.terms.proofs.Writes.{kept_none, kept_more, wrote_none, wrote_more, full_more, full_longer, below_front, below_back}
 
 -- ---- a walk over trees
@@ -160,35 +160,27 @@ module _ {top : ℕ} {P : List ℕ → Choice → Type 0} {tb low s : List ℕ} 
   }
 
   -- the walk ends for want of room
-  pub stopped : {w w' : List ℕ} {i at pending full : ℕ} → Inv top P tb low s from w₀ to cut w i at pending → 0 < pending → length w < full → Kept w w' at
-      → Each top P tb low s cut i pending (λ k e es rest. Last cut k e w w' at) → GraftPost top P tb low s w₀ w' from to cut i full
-  stopped {w} {w'} {i} {at} {pending} {full} I pos past K st = record {
-    past = I.past;
-    within = λ l. I.within;
-    ahead = omega (arith, I.ahead, I.room, I.kept.long);
+  pub stopped : {w w' : List ℕ} {i at pending : ℕ} → Inv top P tb low s from w₀ to cut w i at pending → 0 < pending → Kept w w' at
+      → Each top P tb low s cut i pending (λ k e es rest. Last cut k e w w' at) → Stopped top P tb low s w₀ w' from to cut
+  stopped {w} {w'} {i} {at} {pending} I pos K st = record {
     kept = kept_more I.ahead I.kept K;
     means = λ k pk x rest f a b.
-        first_pending (λ k e es rest. Last cut k e w w' at) (Grafted s w₀ w' rest (cells (graft k cut x)) to i full) I pos st k pk x rest f a b
+        first_pending (λ k e es rest. Last cut k e w w' at) (Full w₀ w' to (cells (graft k cut x))) I pos st k pk x rest f a b
         λ e td vs W sm T.
         let q : cells (graft k cut x) ≡ vs ++ (T.us ++ (T.tail ++ cellss (grafts k cut td))) =
         sm ∙ ap (λ (l : List ℕ). vs ++ (l ++ cellss (grafts k cut td))) T.same ∙ ap (λ (l : List ℕ). vs ++ l) (append_assoc T.us T.tail _)
         in
-        record {
-          laid = record {
-            whole = λ l. absurd (omega (arith, I.kept.long));
-            full = λ l. rw q (full_more W (full_longer (T.tail ++ cellss (grafts k cut td)) T.full));
-          };
-          read = λ l. absurd (omega (arith, I.kept.long));
-        };
+        rw q (full_more W (full_longer (T.tail ++ cellss (grafts k cut td)) T.full));
   }
 
   -- all is written
-  pub finish : {w : List ℕ} {i at pending : ℕ} → Inv top P tb low s from w₀ to cut w i at pending → pending ≡ 0 → GraftPost top P tb low s w₀ w from to cut i at
+  pub finish : {w : List ℕ} {i at pending : ℕ} → Inv top P tb low s from w₀ to cut w i at pending → pending ≡ 0 → Ended top P tb low s w₀ w from to cut i at
   unfolding count_exprs cellss
   finish {w} {i} {at} {pending} I z = record {
     past = I.past;
-    within = λ l. I.within;
+    within = I.within;
     ahead = I.ahead;
+    room = I.room;
     kept = I.kept;
     means = λ k pk x rest f a b.
         let L = I.means k pk x rest f a b in go k x rest L.todo L.counted L.lies L.vs L.wrote L.same;
@@ -198,8 +190,5 @@ module _ {top : ℕ} {P : List ℕ → Choice → Type 0} {tb low s : List ℕ} 
           → cells (graft k cut x) ≡ vs ++ cellss (grafts k cut td) → Grafted s w₀ w rest (cells (graft k cut x)) to i at
       go k x rest nil c a vs W sm =
           let q : cells (graft k cut x) ≡ vs = sm ∙ ap (λ (l : Exprs). vs ++ cellss l) (grafts_nil cut k) ∙ append-nil vs in
-          record {
-            laid = record { whole = λ l. rw q W; full = λ l. absurd (omega (arith, W.room)) };
-            read = λ l. a;
-          }
+          record { wrote = rw q W; read = a }
       go k x rest (cons e td) c a vs W sm = absurd (omega arith)

@@ -7,12 +7,12 @@ use native.Mathlib.Omega.{arith}
 use lib.ListN.{length, get_or, set, take, drop, take-append-drop, length-set, get_or-append}
 use lib.Seq.{sets, take-take, take_all, get_or-take, get_or-drop, get_or-append-add, set-append_left, length-take-le, length_front}
 use Rattle.aut68.specs.Sizes.{cell_values}
-use Rattle.aut68.specs.Expr.{Expr, cells}
-use Rattle.cells.specs.Cells.{At, Below, Outside}
+use Rattle.cells.specs.Cells.{Outside, Wrote}
 use Rattle.cells.specs.Forests.{size_is_length}
 use Rattle.cells.specs.Stores.{outside_same}
 use Rattle.terms.specs.Made.{no_room, RaisePost, SubstitutePost}
-use Rattle.terms.specs.Grafts.{Choice, lifting, substituting, graft, Fit, Stands, raises, substitutes_one, Kept, Laid, GraftPost, WholePost}
+use Rattle.terms.specs.declared.leaves.Change.TheVariants.{Lift, Substitute}
+use Rattle.terms.specs.Grafts.{Choice, lifting, substituting, graft, Stands, raises, substitutes_one, Kept, Full, Ended, Stopped, WholePost}
 
 -- writes within the front of a list
 sets_front : (vs p q : List ℕ) (i : ℕ) → i + length vs ≤ length p → sets (p ++ q) i vs ≡ sets p i vs ++ q
@@ -55,18 +55,15 @@ module _ (w : List ℕ) (to room : ℕ) {p : List ℕ} (h : to + room ≤ length
       ∙ sym (sets_front vs (take (to + room) w) (drop (to + room) w) to (omega (arith, length-take-le (to + room) w h)))
       ∙ ap (λ (m : List ℕ). sets m to vs) (take-append-drop (to + room) w)
 
-  part_whole : {at : ℕ} {vs : List ℕ} → at ≤ to + room → Laid (take (to + room) w) p to at vs
+  part_whole : {at : ℕ} {vs : List ℕ} → Wrote (take (to + room) w) p to at vs
       → (at ≡ to + length vs) × (p ++ drop (to + room) w ≡ sets w to (take room vs))
-  part_whole {at} {vs} l W =
-      let R = W.whole (omega (arith, length-take-le (to + room) w h)) in
-      let m : length vs ≤ room = omega (arith, R.ends) in
+  part_whole {at} {vs} R =
+      let m : length vs ≤ room = omega (arith, R.ends, R.room, part_long) in
       (R.ends, part_sets vs m R.is ∙ ap (sets w to) (sym (take_all room vs m)))
 
-  part_full : {at : ℕ} {vs : List ℕ} → to + room < at → Laid (take (to + room) w) p to at vs
-      → (room < length vs) × (p ++ drop (to + room) w ≡ sets w to (take room vs))
-  part_full {at} {vs} l W =
+  part_full : {vs : List ℕ} → Full (take (to + room) w) p to vs → (room < length vs) × (p ++ drop (to + room) w ≡ sets w to (take room vs))
+  part_full {vs} F =
       let q : length (take (to + room) w) ≡ to + room = length-take-le (to + room) w h in
-      let F = W.full (omega arith) in
       let e : length (take (to + room) w) - to ≡ room = omega arith in
       let m : room ≤ length vs = omega (arith, F.over) in (
         omega (arith, F.over),
@@ -74,39 +71,35 @@ module _ (w : List ℕ) (to room : ℕ) {p : List ℕ} (h : to + room ≤ length
       )
 
 -- the part of the store that the walk is lent has its sources where the whole has them; S says where it reads
-module _ (S : List ℕ → List ℕ) (w : List ℕ) (to room : ℕ) {top : ℕ} {P : List ℕ → Choice → Type 0} {tb p : List ℕ} {e i at : ℕ} (h : to + room ≤ length w)
-    (G : GraftPost top P tb (take to (take (to + room) w)) (S (take to (take (to + room) w))) (take (to + room) w) p e to 0 i at) where
-  walked : (k : Choice) → P (take to w) k → (x : Expr) (rest : List ℕ) → Fit tb k x → At (S (take to w)) e (cells x) rest → Below top (cells (graft k 0 x))
-      → Laid (take (to + room) w) p to at (cells (graft k 0 x))
-  walked k pk x rest f a b =
-      let q : take to (take (to + room) w) ≡ take to w = take-take to (to + room) w (omega arith) in
-      let G' : GraftPost top P tb (take to w) (S (take to w)) (take (to + room) w) p e to 0 i at = rw q at G in
-      (G'.means k pk x rest f a b).laid
+module _ (S : List ℕ → List ℕ) (w : List ℕ) (to room : ℕ) {top : ℕ} {P : List ℕ → Choice → Type 0} {tb p : List ℕ} {e : ℕ} (h : to + room ≤ length w) where
+  pub whole_made : {i at : ℕ} → Ended top P tb (take to (take (to + room) w)) (S (take to (take (to + room) w))) (take (to + room) w) p e to 0 i at
+      → WholePost top P tb (S (take to w)) w (p ++ drop (to + room) w) e to room (at - to)
+  whole_made {i} {at} G =
+      let G' : Ended top P tb (take to w) (S (take to w)) (take (to + room) w) p e to 0 i at = rw (take-take to (to + room) w (omega arith)) at G in
+      record {
+        confined = record { outside = part_outside w to room h G.kept; answers = inl (omega (arith, G.room, length-take-le (to + room) w h)) };
+        made = λ k pk x rest h' f a b.
+            let W = part_whole w to room h G.kept (G'.means k pk x rest f a b).wrote in
+            record {
+              fits = λ m. omega (arith, W.0, size_is_length (graft k 0 x));
+              large = λ m. absurd (omega (arith, G.room, length-take-le (to + room) w h, W.0, size_is_length (graft k 0 x)));
+              cells_are = W.1;
+            };
+      }
 
-  pub whole_made : at ≤ to + room → WholePost top P tb (S (take to w)) w (p ++ drop (to + room) w) e to room (at - to)
-  whole_made l = record {
-    confined = record { outside = part_outside w to room h G.kept; answers = inl (omega arith) };
-    made = λ k pk x rest h' f a b.
-        let W = part_whole w to room h G.kept l (walked k pk x rest f a b) in
-        record {
-          fits = λ m. omega (arith, W.0, size_is_length (graft k 0 x));
-          large = λ m. absurd (omega (arith, W.0, size_is_length (graft k 0 x)));
-          cells_are = W.1;
-        };
-  }
-
-  pub whole_full : to + room < at → WholePost top P tb (S (take to w)) w (p ++ drop (to + room) w) e to room cell_values
-  unfolding no_room
-  whole_full l = record {
-    confined = record { outside = part_outside w to room h G.kept; answers = inr refl };
-    made = λ k pk x rest h' f a b.
-        let W = part_full w to room h G.kept l (walked k pk x rest f a b) in
-        record { fits = λ m. absurd (omega (arith, W.0, size_is_length (graft k 0 x))); large = λ m. refl; cells_are = W.1 };
-  }
+  pub whole_full : Stopped top P tb (take to (take (to + room) w)) (S (take to (take (to + room) w))) (take (to + room) w) p e to 0
+      → WholePost top P tb (S (take to w)) w (p ++ drop (to + room) w) e to room no_room
+  whole_full G =
+      let G' : Stopped top P tb (take to w) (S (take to w)) (take (to + room) w) p e to 0 = rw (take-take to (to + room) w (omega arith)) at G in
+      record {
+        confined = record { outside = part_outside w to room h G.kept; answers = inr refl };
+        made = λ k pk x rest h' f a b.
+            let W = part_full w to room h G.kept (G'.means k pk x rest f a b) in
+            record { fits = λ m. absurd (omega (arith, W.0, size_is_length (graft k 0 x))); large = λ m. refl; cells_are = W.1 };
+      }
 
 -- the room is not within the store
-pub whole_none : {top : ℕ} {P : List ℕ → Choice → Type 0} {tb s w : List ℕ} {e to room : ℕ} → length w < to + room → WholePost top P tb s w w e to room cell_values
-unfolding no_room
+pub whole_none : {top : ℕ} {P : List ℕ → Choice → Type 0} {tb s w : List ℕ} {e to room : ℕ} → length w < to + room → WholePost top P tb s w w e to room no_room
 whole_none h = record {
   confined = record { outside = outside_same; answers = inr refl };
   made = λ k pk x rest h' f a b. absurd (omega arith);
@@ -115,11 +108,11 @@ whole_none h = record {
 -- ---- what lifting and substitution make
 
 module _ {tb w w' : List ℕ} {e number to room r : ℕ} where
-  pub raise_post : WholePost cell_values (Stands tb 0 number) tb (take to w) w w' e to room r → RaisePost tb w w' e number to room r
+  pub raise_post : WholePost cell_values (Stands tb (Lift number)) tb (take to w) w w' e to room r → RaisePost tb w w' e number to room r
   unfolding graft
   raise_post W = record { confined = W.confined; made = λ x rest h f a b. W.made (lifting number) (raises refl) x rest h f a b }
 
-  pub substitute_post : WholePost cell_values (Stands tb 1 number) tb (take to w) w w' e to room r → SubstitutePost tb w w' e number to room r
+  pub substitute_post : WholePost cell_values (Stands tb (Substitute number)) tb (take to w) w w' e to room r → SubstitutePost tb w w' e number to room r
   unfolding graft
   substitute_post W = record {
     confined = W.confined;

@@ -1,14 +1,18 @@
 -- Lifting, substitution and instantiation as one walk over an expression: they differ at its leaves alone (`type`, a variable,
 -- a bound variable). What the walk says of a forest of expressions and of a leaf.
-use Rattle.std.specs.Prelude.{◌≡◌, List, [], ◌∷◌, ℕ, ◌+◌, ◌-◌, ◌%◌, ◌≤◌, ◌<◌, length, take, drop}
+use Rattle.std.specs.Prelude.{◌≡◌, List, [], ◌∷◌, ℕ, ◌+◌, ◌-◌, ◌≤◌, ◌<◌, length, take, Option, None, Some, ⊤}
 use Rattle.std.proofs.Math.Path.{refl}
 use Rattle.std.proofs.lemmas.List.Edits.{sets}
 use Rattle.std.proofs.Math.Numerals.{add-one}
-use Rattle.aut68.specs.Sizes.{cell_factor, cell_values}
-use Rattle.aut68.specs.Expr.{Expr, Exprs, prop, const, app, abs, nil, cons, first_cell, parts, cells, cellss, count_exprs}
+use Rattle.aut68.specs.Expr.{Expr, Exprs, prop, const, app, abs, nil, cons, first_cell, cells}
 use Rattle.aut68.specs.Substitution.{lift, lifts, substitute, substitutes, instantiate, instantiates}
 use Rattle.cells.specs.Cells.{Formed, AllFormed, AnyVariable, RightCount, Wf, At, Below, Wrote}
-use Rattle.terms.specs.Made.{Numbered, Confined, Made, start_of, Started, ArgumentsLie}
+use Rattle.terms.specs.declared.leaves.Change.{Change}
+use Rattle.terms.specs.declared.leaves.Change.TheVariants.{Lift, Substitute}
+use Rattle.terms.specs.declared.leaves.Leaf.{Leaf}
+use Rattle.terms.specs.declared.leaves.Leaf.TheVariants.{One, Expression, TooHigh}
+use Rattle.terms.specs.declared.walk.Ends.{Ends}
+use Rattle.terms.specs.Made.{Numbered, Confined, Made, start_of, ArgumentsLie}
 
 -- by how many bindings; what for the bound variable; the context's variables and their arguments
 pub data Choice : Type 0 where
@@ -41,19 +45,16 @@ Fits tb k = AllFormed (Allowed tb k) (RightCount tb)
 
 -- ---- which choice the code's arguments stand for
 
--- low is the part of the working store below the result, where what is put in lies; of kind 0 a walk lifts, of kind 1 it substitutes
-pub data Stands (tb : List ℕ) (kind number : ℕ) (low : List ℕ) : Choice → Type 0 where
-  raises : kind ≡ 0 → Stands tb kind number low (lifting number)
-  substitutes_one : {y : Expr} {ry : List ℕ} → kind ≡ 1 → Wf tb y → At low number (cells y) ry → Stands tb kind number low (substituting y)
+-- low is the part of the working store below the result, where what is put in lies
+pub data Stands (tb : List ℕ) (change : Change) (low : List ℕ) : Choice → Type 0 where
+  raises : {d : ℕ} → change ≡ Lift d → Stands tb change low (lifting d)
+  substitutes_one : {number : ℕ} {y : Expr} {ry : List ℕ} → change ≡ Substitute number → Wf tb y → At low number (cells y) ry
+      → Stands tb change low (substituting y)
 
 pub data Instantiates (tb : List ℕ) (base count : ℕ) (starts low : List ℕ) : Choice → Type 0 where
   instantiates_all : {vs : List ℕ} {xs : Exprs} → ArgumentsLie tb low base count starts xs → Instantiates tb base count starts low (instantiating vs xs)
 
 -- ---- what a walk writes
-
--- past the end of every store
-abbrev pub past_end : ℕ
-past_end = 18446744073709551615
 
 -- nothing below `to` is changed
 pub record Kept (w w' : List ℕ) (to : ℕ) : Type 0 where
@@ -65,11 +66,6 @@ pub record Full (w w' : List ℕ) (to : ℕ) (vs : List ℕ) : Type 0 where
   pub over : length w < to + length vs
   pub is : w' ≡ sets w to (take (length w - to) vs)
 
--- the cells vs from index `to` on: all of them up to index `at`, or as far as the store goes, where `at` is past its end
-pub record Laid (w w' : List ℕ) (to at : ℕ) (vs : List ℕ) : Type 0 where
-  pub whole : at ≤ length w → Wrote w w' to at vs
-  pub full : length w < at → Full w w' to vs
-
 -- Here and below every cell of a result is below top, the number of values of a cell.
 
 -- e is the expression at index `from` of low, lifted
@@ -80,26 +76,44 @@ pub record Put (tb low : List ℕ) (from cut : ℕ) (e : Expr) : Type 0 where
   pub lies : At low from (cells whole) rest
   pub is : e ≡ lift cut 0 whole
 
--- what stands for the leaf whose cell is x: `cell`; where that is too large for a cell, the expression at `from`, lifted; where x is
--- itself lifted, there is then no cell for it
-pub record LeafPost (top : ℕ) (Q : Choice → Type 0) (tb low : List ℕ) (kind x cut cell from : ℕ) : Type 0 where
-  pub one : cell < top → (k : Choice) → Q k → (e : Expr) → first_cell e ≡ x → Fit tb k e → cells (graft k cut e) ≡ cell ∷ []
-  pub high : top ≤ cell → kind ≡ 0 → (k : Choice) → Q k → (e : Expr) → first_cell e ≡ x → Below top (cells (graft k cut e)) → ⊥
-  pub put : top ≤ cell → (kind ≡ 0 → ⊥) → (k : Choice) → Q k → (e : Expr) → first_cell e ≡ x → Fit tb k e → Put tb low from cut (graft k cut e)
+-- what stands for the leaf whose cell is x: one cell; an expression, lifted; nothing, where x is lifted too high for a cell
+abbrev pub LeafPost : (top : ℕ) (Q : Choice → Type 0) (tb low : List ℕ) (x cut : ℕ) → Leaf → Type 0
+LeafPost top Q tb low x cut (One cell) = (k : Choice) → Q k → (e : Expr) → first_cell e ≡ x → Fit tb k e → cells (graft k cut e) ≡ cell ∷ []
+LeafPost top Q tb low x cut (Expression from) = (k : Choice) → Q k → (e : Expr) → first_cell e ≡ x → Fit tb k e → Put tb low from cut (graft k cut e)
+LeafPost top Q tb low x cut TooHigh = (k : Choice) → Q k → (e : Expr) → first_cell e ≡ x → Below top (cells (graft k cut e)) → ⊥
 
--- an expression is written, and where all of it is, the reading stops behind it
+-- an expression stands for a leaf in a substitution alone
+abbrev pub PutFor : Leaf → Change → Type 0
+PutFor (One cell) change = ⊤
+PutFor (Expression from) (Lift d) = ⊥
+PutFor (Expression from) (Substitute number) = ⊤
+PutFor TooHigh change = ⊤
+
+-- an expression is written up to index `at`, and the reading stops behind it, at i
 pub record Grafted (s w w' rest vs : List ℕ) (to i at : ℕ) : Type 0 where
-  pub laid : Laid w w' to at vs
-  pub read : at ≤ length w → At s i [] rest
+  pub wrote : Wrote w w' to at vs
+  pub read : At s i [] rest
 
--- the expression at index `from` of s
-pub record GraftPost (top : ℕ) (P : List ℕ → Choice → Type 0) (tb low s w w' : List ℕ) (from to cut i at : ℕ) : Type 0 where
+-- the expression at index `from` of s is read up to i, and what is made of it is written up to `at`
+pub record Ended (top : ℕ) (P : List ℕ → Choice → Type 0) (tb low s w w' : List ℕ) (from to cut i at : ℕ) : Type 0 where
   pub past : from ≤ i
-  pub within : at ≤ length w → i ≤ length s
+  pub within : i ≤ length s
   pub ahead : to ≤ at
+  pub room : at ≤ length w
   pub kept : Kept w w' to
   pub means : (k : Choice) → P low k → (e : Expr) (rest : List ℕ) → Fit tb k e → At s from (cells e) rest → Below top (cells (graft k cut e))
       → Grafted s w w' rest (cells (graft k cut e)) to i at
+
+-- what is made of it is written as far as the store goes
+pub record Stopped (top : ℕ) (P : List ℕ → Choice → Type 0) (tb low s w w' : List ℕ) (from to cut : ℕ) : Type 0 where
+  pub kept : Kept w w' to
+  pub means : (k : Choice) → P low k → (e : Expr) (rest : List ℕ) → Fit tb k e → At s from (cells e) rest → Below top (cells (graft k cut e))
+      → Full w w' to (cells (graft k cut e))
+
+-- the walk over the expression at index `from` of s
+abbrev pub GraftPost : (top : ℕ) (P : List ℕ → Choice → Type 0) (tb low s w w' : List ℕ) (from to cut : ℕ) → Option Ends → Type 0
+GraftPost top P tb low s w w' from to cut None = Stopped top P tb low s w w' from to cut
+GraftPost top P tb low s w w' from to cut (Some ends) = Ended top P tb low s w w' from to cut ends.from ends.to
 
 -- the one expression at index e of s, made in at most `room` cells
 pub record WholePost (top : ℕ) (P : List ℕ → Choice → Type 0) (tb s w w' : List ℕ) (e to room r : ℕ) : Type 0 where
@@ -112,16 +126,6 @@ pub record WholePost (top : ℕ) (P : List ℕ → Choice → Type 0) (tb s w w'
 -- r is where argument i starts
 pub record StartPost (tb w : List ℕ) (base count : ℕ) (starts : List ℕ) (i r : ℕ) : Type 0 where
   pub is : (xs : Exprs) → ArgumentsLie tb w base count starts xs → i < count → r ≡ base + start_of xs i
-
--- what stands for the cell x, which is no abstraction's, outside every binding: itself where len is 0, else len cells of the
--- arguments from index `start` on; more than there are where that is not known
-pub record RunPost (tb : List ℕ) (x count : ℕ) (starts : List ℕ) (start len : ℕ) : Type 0 where
-  pub short : start < cell_values
-  pub itself : len ≡ 0 → (x % cell_factor ≡ 5 → ⊥) → (vs : List ℕ) (xs : Exprs) → count_exprs xs ≡ count → (e : Expr) → first_cell e ≡ x
-      → Fit tb (instantiating vs xs) e → cells (instantiate vs xs 0 e) ≡ x ∷ cellss (instantiates vs xs 0 (parts e))
-  pub argument : 0 < len → len < past_end → (vs : List ℕ) (xs : Exprs) → count_exprs xs ≡ count → Started xs starts → (e : Expr) → first_cell e ≡ x
-      → Fit tb (instantiating vs xs) e
-      → (parts e ≡ nil) × (start + len ≤ length (cellss xs)) × (cells (instantiate vs xs 0 e) ≡ take len (drop start (cellss xs)))
 
 -- ---- laws: the walk leaves `prop`, and goes through constants, applications and abstractions
 

@@ -1,6 +1,7 @@
 -- What lifting, substitution and instantiation answer and write.
-use Rattle.std.specs.Prelude.{◌≡◌, ◌⊎◌, Bool, true, List, ℕ, zero, suc, ◌+◌, ◌≤◌, ◌<◌, length, get_or, take}
+use Rattle.std.specs.Prelude.{◌≡◌, ◌⊎◌, Bool, true, List, ℕ, zero, suc, ◌+◌, ◌≤◌, ◌<◌, length, get_or, take, None, Some, ⊤}
 use Rattle.std.proofs.Math.Option.{Option, none, some}
+use Rattle.std.specs.Prelude as Code
 use Rattle.std.proofs.lemmas.List.Edits.{sets}
 use Rattle.std.proofs.Math.Seq.{slice}
 use Rattle.aut68.specs.Lines.{row_cell}
@@ -12,6 +13,16 @@ use Rattle.cells.specs.Cells.{Formed, RightCount, Wf, Wfs, At, Below, Outside}
 -- The answer where a result has more cells than its room: more than any limit.
 unfoldable pub no_room : ℕ
 no_room = cell_values
+
+-- the size that the code answers
+abbrev pub size_in : Code.Option ℕ → ℕ
+size_in None = no_room
+size_in (Some n) = n
+
+-- which is at most the room
+abbrev pub WithinRoom : ℕ → Code.Option ℕ → Type 0
+WithinRoom room None = ⊤
+WithinRoom room (Some n) = n ≤ room
 
 -- A result made from index `to` on in at most `room` cells: the answer r is its size, or no_room exactly where it has more
 -- cells than the room; its cells are written as far as the room goes, and every other cell is as it was.

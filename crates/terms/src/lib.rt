@@ -12,7 +12,7 @@ mod made;
 mod starts;
 mod walk;
 
-pub use leaves::{LIFTING, Leaf};
-pub use made::{NO_ROOM, raise, substitute};
+pub use leaves::{Change, Leaf};
+pub use made::{raise, substitute};
 pub use starts::start_at;
-pub use walk::{Ends, PAST, graft};
+pub use walk::{Ends, graft};

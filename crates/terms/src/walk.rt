@@ -1,24 +1,22 @@
 // The walk: over a forest of pending expressions, a leaf, a cell that stays, or an abstraction a turn. Lifting and substitution are one
 // walk: what it reads and what it puts in lie below `end` in the store w that is written to.
-ghost use Rattle.std.specs.Prelude.{◌<◌, ◌≤◌, length, take};
+ghost use Rattle.std.specs.Prelude.{◌≤◌, length, take};
 ghost use Rattle.aut68.specs.Sizes.{cell_values};
 ghost use Rattle.terms.specs.Grafts.{Stands, GraftPost};
 
-use crate::leaves::{LIFTING, bound_for};
+use crate::leaves::{Change, Leaf, bound_for};
 use cells::kids;
-use constants::{CELL_FACTOR, CELL_VALUES, Cell};
+use constants::{CELL_FACTOR, Cell};
 
-// Past the end of every store.
-pub const PAST: usize = 18446744073709551615;
-
-// Where a walk stopped reading and writing; PAST where the result has no room.
+// Where a walk stopped reading and writing.
 #[derive(Clone, Copy)]
 pub struct Ends {
     pub from: usize,
     pub to: usize,
 }
 
-// The expression at `from` below `end`, from under `cut` bindings, lifted or with an expression put in, at `to`.
+// The expression at `from` below `end`, from under `cut` bindings, lifted or with an expression put in, at `to`. None where the store
+// ends before the result does.
 pub fn graft(
     table: &[u32],
     w: &mut [Cell],
@@ -26,72 +24,55 @@ pub fn graft(
     from: usize,
     to: usize,
     cut: usize,
-    kind: usize,
-    number: usize,
-) -> Ends
+    change: Change,
+) -> Option<Ends>
     requires { (end ≤ to) × (to ≤ length w.old) × (cut ≤ from) }
-    ensures { GraftPost cell_values (Stands table.now kind number) table.now (take end w.old) (take end w.old)
-        w.old w.new from to cut result.from result.to }
+    ensures { GraftPost cell_values (Stands table.now change) table.now (take end w.old) (take end w.old)
+        w.old w.new from to cut result }
 {
     if from > end {
-        return Ends { from, to: PAST };
+        return None;
     }
     let mut i = from;
     let mut at = to;
     let mut pending = 1;
     while pending > 0 {
         if pending > end - i {
-            return Ends { from: i, to: PAST };
+            return None;
         }
         if at >= w.len() {
-            return Ends { from: i, to: PAST };
+            return None;
         }
         let x = w[i];
         let k = x % CELL_FACTOR;
         if k == 5 {
             w[at] = x;
-            let p = graft(table, w, end, i + 1, at + 1, cut, kind, number);
-            let i1 = p.from;
-            let at1 = p.to;
-            if at1 > w.len() {
-                return Ends { from: i, to: PAST };
-            }
-            let q = graft(table, w, end, i1, at1, cut + 1, kind, number);
-            let i2 = q.from;
-            let at2 = q.to;
-            if at2 > w.len() {
-                return Ends { from: i, to: PAST };
-            }
-            i = i2;
-            at = at2;
-            pending = pending - 1;
+            let domain = graft(table, w, end, i + 1, at + 1, cut, change)?;
+            let body = graft(table, w, end, domain.from, domain.to, cut + 1, change)?;
+            i = body.from;
+            at = body.to;
+            pending -= 1;
         } else if k < 3 {
-            let leaf = bound_for(x, cut, kind, number);
-            let cell = leaf.cell;
-            if cell < CELL_VALUES {
-                w[at] = cell as Cell;
-                i = i + 1;
-                at = at + 1;
-                pending = pending - 1;
-            } else {
-                if kind == LIFTING {
-                    return Ends { from: i, to: PAST };
+            match bound_for(x, cut, change) {
+                Leaf::One(cell) => {
+                    w[at] = cell;
+                    i += 1;
+                    at += 1;
                 }
-                let r = graft(table, w, end, leaf.from, at, 0, LIFTING, cut);
-                let at1 = r.to;
-                if at1 > w.len() {
-                    return Ends { from: i, to: PAST };
+                Leaf::Expression(start) => {
+                    let put = graft(table, w, end, start, at, 0, Change::Lift(cut))?;
+                    i += 1;
+                    at = put.to;
                 }
-                i = i + 1;
-                at = at1;
-                pending = pending - 1;
+                Leaf::TooHigh => return None,
             }
+            pending -= 1;
         } else {
             w[at] = x;
             pending = pending - 1 + kids(table, x);
-            i = i + 1;
-            at = at + 1;
+            i += 1;
+            at += 1;
         }
     }
-    Ends { from: i, to: at }
+    Some(Ends { from: i, to: at })
 }
