@@ -1,9 +1,10 @@
 -- `indicator*identifier:=`.
-use mathlib.Core.Path.{◌≡◌, refl, sym, ap, ◌∙◌}
+use mathlib.Core.Path.{◌≡◌, refl, sym, ap, ◌∙◌, subst}
 use mathlib.Core.Logic.{◌≢◌}
 use mathlib.Core.Bool.{Bool, true, false}
 use mathlib.Core.Option.{none, some}
 use mathlib.Core.List.{[], ◌∷◌}
+use Rattle.std.specs.Prelude.{Option, Some, None}
 use Prim.Native.Nat.{ℕ, ◌+◌, ◌-◌, ◌≤◌, ◌<◌}
 use native.Mathlib.Omega.{arith}
 use lib.ListN.{length, get_or, drop, length-drop}
@@ -15,13 +16,14 @@ use Rattle.aut68.specs.Source.{Used}
 use Rattle.aut68.specs.Procedure.Answer.{done, stop, and_then, malformed}
 use Rattle.aut68.specs.Procedure.Parse.{spaces, starts, byte, a_used, an_indicator, a_line, bytes_left}
 use Rattle.kinds.specs.Kinds.{KindsTable, kind_of, place_or0, kind_of_name, name_of_kind, one_of_kind}
-use Rattle.symbols.specs.Symbols.{first_kind, PastSpaces, KindAt, PastSymbol, NameAt, used_in, UsedAt}
+use Rattle.symbols.specs.Symbols.{first_kind, PastSpaces, KindAt, PastSymbol, NameAt, used_in, title_in, size_in, UsedAt, UsedFound}
+use Rattle.symbols.specs.declared.UsedName.{UsedName}
 use Rattle.symbols.proofs.SymbolLaws.{step, byte_here, byte_missing, byte_end}
 use Rattle.symbols.proofs.NextLaws.{after_stop, after_done}
 use Rattle.headings.specs.declared.before_middle.Prefix.{Prefix}
 use Rattle.headings.specs.declared.before_middle.Head.{Head}
-use Rattle.headings.specs.ReadLine.{after_heading, used_or}
-use Rattle.headings.specs.Posts.{PrefixRead, HeadRead}
+use Rattle.headings.specs.ReadLine.{after_heading, used_or, indicator_in}
+use Rattle.headings.specs.Posts.{PrefixRead, PrefixFound, HeadRead, HeadFound}
 
 -- ---- a name that may be missing
 
@@ -66,38 +68,30 @@ module _ {ks s : Bytes} {start k : ℕ} (p : PastSpaces s 0 start) (q : KindAt k
   first_kind_lem : KindsTable ks → k ≡ first_kind (spaces s)
   first_kind_lem t = q.kind t ∙ ap first_kind p.rest
 
-  pub prefix_empty : k ≢ 1 → PrefixRead ks s (record { code = 0; at = 0; title = 0; span = 0; start = 0; len = 0 })
+  pub prefix_empty : k ≢ 1 → PrefixRead ks s (record { at = 0; indicator = None })
   prefix_empty n =
       record {
         inside = omega arith;
-        titled = omega arith;
-        named = omega arith;
-        read = λ t z. no_indicator_lem s (λ e. n (first_kind_lem t ∙ e)) ∙ ap (λ o. done o s) (sym (used_none s 0 0 0 0 refl));
-        missing = λ t z. absurd (z refl);
+        indicated = tt;
+        read = λ t. no_indicator_lem s (λ e. n (first_kind_lem t ∙ e));
       }
 
-  module _ (e : k ≡ 1) {title size first len : ℕ} (n : UsedAt ks s 0 title size first len) where
-    pub prefix_malformed : len ≡ 0 → PrefixRead ks s (record { code = 3; at = 0; title = 0; span = 0; start = 0; len = 0 })
-    prefix_malformed z =
-        record {
-          inside = omega arith;
-          titled = omega arith;
-          named = omega arith;
-          read = λ t z. absurd (omega arith);
-          missing = λ t x. let (rest, m) = n.missing t (omega arith) z in (rest, indicator_missing s (sym (first_kind_lem t) ∙ e) m);
-        }
+  module _ (e : k ≡ 1) where
+    pub prefix_malformed : UsedAt ks s 0 0 0 0 0 → PrefixFound ks s None
+    prefix_malformed n t = let (rest, m) = n.missing t (omega arith) refl in (rest, indicator_missing s (sym (first_kind_lem t) ∙ e) m)
 
-    pub prefix_named : len ≢ 0 → PrefixRead ks s (record { code = 0; at = first + len; title = title; span = size; start = first; len = len })
-    prefix_named z =
+    pub prefix_named : {u : UsedName} → UsedFound ks s 0 (Some u) → PrefixRead ks s (record { at = u.name.start + u.name.len; indicator = Some u })
+    prefix_named {u} (z, l, n) =
         record {
           inside = n.within (omega arith);
-          titled = n.titled (omega arith);
-          named = n.within (omega arith);
-          read = λ t x.
+          indicated = (n.titled (omega arith), n.within (omega arith), z, l);
+          read = λ t.
               indicator_read s (sym (first_kind_lem t) ∙ e) (n.read t (omega arith) z)
-              ∙ ap (λ o. done o (drop (first + len) s)) (sym (used_some s title size first len z));
-          missing = λ t x. absurd (x refl);
+              ∙ ap (λ o. done o (drop (u.name.start + u.name.len) s)) (sym (used_some s (title_in u.paragraph) (size_in u.paragraph) u.name.start u.name.len z));
         }
+
+pub prefix_none : {ks : Bytes} (s : Bytes) {r : Option Prefix} → r ≡ None → PrefixFound ks s None → PrefixFound ks s r
+prefix_none {ks} s e m = subst (PrefixFound ks s) (sym e) m
 
 -- ---- the whole heading
 
@@ -123,82 +117,63 @@ byte_of_other {s = s} {at} c q t n = split _ refl
         no_byte c = byte_end [] c 0 (omega arith)
     split (b ∷ bs) e = ap (byte c) e ∙ byte_missing (b ∷ bs) c 0 (omega arith) (λ z. n (sym (q.kind t ∙ ap first_kind e ∙ ap kind_of z))) ∙ ap (stop malformed) (sym e)
 
-abbrev BadHead : Head → Type 0
-BadHead h = (h.code ≡ 3) × (h.at ≡ 0) × (h.title + h.span ≡ 0) × (h.start + h.len ≡ 0) × (h.first + h.size ≡ 0)
-
-bad_heading : {ks s : Bytes} {h : Head} → BadHead h → (KindsTable ks → (rest : Bytes) × (a_line aut68 (length s) s ≡ stop malformed rest)) → HeadRead ks s h
-bad_heading b m =
-    record {
-      inside = omega (arith, b.1);
-      titled = omega (arith, b.2);
-      indicated = omega (arith, b.3);
-      named = omega (arith, b.4);
-      sized = λ z. absurd (omega (arith, b.0));
-      read = λ t z. absurd (omega (arith, b.0));
-      missing = λ t n. let (rest, e) = m t in (rest, b.0, e);
-    }
+pub head_none : {ks : Bytes} (s : Bytes) {r : Option Head} → r ≡ None → HeadFound ks s None → HeadFound ks s r
+head_none {ks} s e m = subst (HeadFound ks s) (sym e) m
 
 bytes_left_lem : (bs : Bytes) → bytes_left bs ≡ done (length (spaces bs)) bs
 unfolding bytes_left
 bytes_left_lem bs = refl
 
-module _ {ks s : Bytes} {p : Prefix} (P : PrefixRead ks s p) where
-  pub heading_no_indicator : {h : Head} → p.code ≢ 0 → BadHead h → HeadRead ks s h
+pub heading_no_indicator : {ks : Bytes} (s : Bytes) → PrefixFound ks s None → HeadFound ks s None
+unfolding a_line
+heading_no_indicator s P t = let (rest, e) = P t in (rest, after_stop _ e)
+
+module _ {ks s : Bytes} {p : Prefix} (P : PrefixRead ks s p) {star : ℕ} (q : PastSymbol ks s p.at 4 star) where
+  pub heading_no_star : length s < star → HeadFound ks s None
   unfolding a_line
-  heading_no_indicator n b = bad_heading b (λ t. let (rest, e) = P.missing t n in (rest, after_stop _ e))
+  heading_no_star m t = (_, after_done _ (P.read t) ∙ after_stop _ (q.missing t 42 heading_kinds.0 (omega arith) m))
 
-  module _ (z : p.code ≡ 0) {star : ℕ} (q : PastSymbol ks s p.at 4 star) where
-    pub heading_no_star : {h : Head} → length s < star → BadHead h → HeadRead ks s h
+  module _ (i : star ≤ length s) {first size : ℕ} (n : NameAt ks s star first size) where
+    pub heading_no_name : size ≡ 0 → HeadFound ks s None
     unfolding a_line
-    heading_no_star m b =
-        bad_heading b (λ t. (_, after_done _ (P.read t z) ∙ after_stop _ (q.missing t 42 heading_kinds.0 (omega arith) m)))
+    heading_no_name e t = (
+      _,
+      after_done _ (P.read t) ∙ after_done _ (q.read t 42 heading_kinds.0 (omega arith) i) ∙ after_done _ (bytes_left_lem (drop star s))
+          ∙ after_stop _ (n.missing t i e),
+    )
 
-    module _ (i : star ≤ length s) {first size : ℕ} (n : NameAt ks s star first size) where
-      pub heading_no_name : {h : Head} → size ≡ 0 → BadHead h → HeadRead ks s h
+    module _ (e : size ≢ 0) {colon : ℕ} (c : PastSymbol ks s (first + size) 5 colon) where
+      pub heading_no_colon : length s < colon → HeadFound ks s None
       unfolding a_line
-      heading_no_name e b =
-          bad_heading b (λ t. (
-            _,
-            after_done _ (P.read t z) ∙ after_done _ (q.read t 42 heading_kinds.0 (omega arith) i) ∙ after_done _ (bytes_left_lem (drop star s))
-                ∙ after_stop _ (n.missing t i e),
-          ))
+      heading_no_colon m t = (
+        _,
+        after_done _ (P.read t) ∙ after_done _ (q.read t 42 heading_kinds.0 (omega arith) i) ∙ after_done _ (bytes_left_lem (drop star s))
+            ∙ after_done _ (n.read t i e) ∙ after_stop _ (c.missing t 58 heading_kinds.1 (omega arith) m),
+      )
 
-      module _ (e : size ≢ 0) {colon : ℕ} (c : PastSymbol ks s (first + size) 5 colon) where
-        pub heading_no_colon : {h : Head} → length s < colon → BadHead h → HeadRead ks s h
+      module _ (j : colon ≤ length s) {k : ℕ} (d : KindAt ks s colon k) where
+        pub heading_no_equals : k ≢ 6 → HeadFound ks s None
         unfolding a_line
-        heading_no_colon m b =
-            bad_heading b (λ t. (
-              _,
-              after_done _ (P.read t z) ∙ after_done _ (q.read t 42 heading_kinds.0 (omega arith) i) ∙ after_done _ (bytes_left_lem (drop star s))
-                  ∙ after_done _ (n.read t i e) ∙ after_stop _ (c.missing t 58 heading_kinds.1 (omega arith) m),
-            ))
+        heading_no_equals m t = (
+          _,
+          after_done _ (P.read t) ∙ after_done _ (q.read t 42 heading_kinds.0 (omega arith) i) ∙ after_done _ (bytes_left_lem (drop star s))
+              ∙ after_done _ (n.read t i e) ∙ after_done _ (c.read t 58 heading_kinds.1 (omega arith) j)
+              ∙ after_stop _ (byte_of_other 61 d t (λ x. m (sym x ∙ heading_kinds.2))),
+        )
 
-        module _ (j : colon ≤ length s) {k : ℕ} (d : KindAt ks s colon k) where
-          pub heading_no_equals : {h : Head} → k ≢ 6 → BadHead h → HeadRead ks s h
-          unfolding a_line
-          heading_no_equals m b =
-              bad_heading b (λ t. (
-                _,
-                after_done _ (P.read t z) ∙ after_done _ (q.read t 42 heading_kinds.0 (omega arith) i) ∙ after_done _ (bytes_left_lem (drop star s))
-                    ∙ after_done _ (n.read t i e) ∙ after_done _ (c.read t 58 heading_kinds.1 (omega arith) j)
-                    ∙ after_stop _ (byte_of_other 61 d t (λ x. m (sym x ∙ heading_kinds.2))),
-              ))
-
-          pub heading_read : k ≡ 6 → HeadRead ks s (record { code = 0; at = colon + 1; title = p.title; span = p.span; start = p.start; len = p.len; first = first; size = size })
-          unfolding a_line after_heading
-          heading_read x =
-              record {
-                inside = omega (arith, d.inside (λ y. omega arith));
-                titled = P.titled;
-                indicated = P.named;
-                named = n.within i;
-                sized = λ y. e;
-                read = λ t y.
-                    let before : length s - length (spaces (drop star s)) ≡ first =
-                    ap (λ bs. length s - length bs) (sym (n.ahead i)) ∙ omega (arith, length-drop first s, n.within i) in
-                    after_done _ (P.read t z) ∙ after_done _ (q.read t 42 heading_kinds.0 (omega arith) i) ∙ after_done _ (bytes_left_lem (drop star s))
-                    ∙ after_done _ (n.read t i e) ∙ after_done _ (c.read t 58 heading_kinds.1 (omega arith) j)
-                    ∙ after_done _ (byte_of_kind 61 d t (heading_kinds.2 ∙ sym x) (omega arith))
-                    ∙ ap (λ b. after_heading aut68 (used_or s p.title p.span p.start p.len) b (slice first (first + size) s) (drop (colon + 1) s)) before;
-                missing = λ t y. absurd (y refl);
-              }
+        pub heading_read : k ≡ 6 → HeadRead ks s (record { at = colon + 1; indicator = p.indicator; identifier = record { start = first; len = size } })
+        unfolding a_line after_heading
+        heading_read x =
+            record {
+              inside = omega (arith, d.inside (λ y. omega arith));
+              indicated = P.indicated;
+              named = n.within i;
+              sized = e;
+              read = λ t.
+                  let before : length s - length (spaces (drop star s)) ≡ first =
+                  ap (λ bs. length s - length bs) (sym (n.ahead i)) ∙ omega (arith, length-drop first s, n.within i) in
+                  after_done _ (P.read t) ∙ after_done _ (q.read t 42 heading_kinds.0 (omega arith) i) ∙ after_done _ (bytes_left_lem (drop star s))
+                  ∙ after_done _ (n.read t i e) ∙ after_done _ (c.read t 58 heading_kinds.1 (omega arith) j)
+                  ∙ after_done _ (byte_of_kind 61 d t (heading_kinds.2 ∙ sym x) (omega arith))
+                  ∙ ap (λ b. after_heading aut68 (indicator_in s p.indicator) b (slice first (first + size) s) (drop (colon + 1) s)) before;
+            }

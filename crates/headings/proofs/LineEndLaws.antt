@@ -92,16 +92,18 @@ module _ {book : Bytes} {at i : ℕ} (h : NoEndSoFar book at i) where
             ∙ ap (λ xs. xs ∷ lines (drop (i + 1) book)) (sym (taken_more book at i h.from l ∙ ap (λ b. take (i - at) (drop at book) ++ (b ∷ [])) e));
       }
 
-  pub book_ends_here : length book ≤ i → LineEnd book at i
-  book_ends_here l =
+  pub book_ends_here : {r : ℕ} → length book ≤ i → length book ≤ r → (at ≤ length book → r ≤ length book) → LineEnd book at r
+  book_ends_here {r} l e f =
       record {
         from = λ m. omega arith;
-        within = h.within;
+        within = f;
         is = λ m.
+            let z : i ≡ r = omega (arith, h.within (omega arith), f (omega arith)) in
             h.rest
             ∙ ap (onto_all (take (i - at) (drop at book))) (ap lines (ended book i l) ∙ no_lines_lem)
             ∙ all_last (take (i - at) (drop at book)) (λ e. omega (arith, length-take (i - at) (drop at book), length-drop at book))
-            ∙ ap (λ ls. take (i - at) (drop at book) ∷ ls) (sym (ap lines (ended book i l) ∙ no_lines_lem));
+            ∙ ap (λ (j : ℕ). take (j - at) (drop at book) ∷ []) z
+            ∙ ap (λ ls. take (r - at) (drop at book) ∷ ls) (sym (ap lines (ended book r e) ∙ no_lines_lem));
       }
 
   -- what ends the line from i on ends it from `at` on

@@ -1,12 +1,14 @@
 -- Paragraph lines.
-use mathlib.Core.Path.{◌≡◌, refl, sym, ap, ◌∙◌}
+use mathlib.Core.Path.{◌≡◌, refl, sym, ap, ◌∙◌, subst}
 use mathlib.Core.Logic.{◌≢◌}
 use mathlib.Core.Bool.{Bool, true, false}
+use Rattle.std.specs.Prelude.{Option, None}
+use Rattle.symbols.specs.declared.Name.{Name}
 use Prim.Native.Nat.{ℕ, ◌+◌, ◌≤◌, ◌<◌}
 use native.Mathlib.Omega.{arith}
 use lib.Dec.{eqb, leb}
 use lib.ListN.{length, drop, length-drop}
-use borrow.Author.Tests.{leb-true, leb-false}
+use borrow.Author.Tests.{leb-true, leb-false, ne_eqb}
 use Rattle.aut68.specs.Language.{aut68}
 use Rattle.aut68.specs.Bytes.{Bytes, name_byte}
 use Rattle.aut68.specs.Rules.Grammar.{IsSign, plus, minus}
@@ -15,7 +17,7 @@ use Rattle.aut68.specs.Procedure.Parse.{spaces, symbol, a_sign_line, signed}
 use Rattle.kinds.specs.Kinds.{KindsTable, kind_of, place_or0}
 use Rattle.symbols.specs.Symbols.{first_kind, PastSpaces, KindAt, PastSymbol, NameAt}
 use Rattle.symbols.proofs.NextLaws.{after_stop, after_done, starts_kind}
-use Rattle.headings.specs.Posts.{SignOf, SignRead}
+use Rattle.headings.specs.Posts.{SignOf, SignRead, SignNamed}
 use Rattle.headings.proofs.LineEndLaws.{line_ends, line_goes_on}
 
 sign_kinds : (kind_of 43 ≡ 15) × (kind_of 45 ≡ 16) × (kind_of 10 ≡ 13)
@@ -33,7 +35,22 @@ sign_is_lem {ks} {s} {start} {k} p q =
     first : KindsTable ks → k ≡ first_kind (spaces s)
     first t = q.kind t ∙ ap first_kind p.rest
 
+pub sign_opens : {ks s : Bytes} {k : ℕ} → SignOf ks s k → k ≡ 15 → SignOf ks s 15
+sign_opens {ks} {s} h e = subst (SignOf ks s) e h
+
+pub sign_closes : {ks s : Bytes} {k : ℕ} → SignOf ks s k → k ≡ 16 → SignOf ks s 16
+sign_closes {ks} {s} h e = subst (SignOf ks s) e h
+
+pub sign_other : {ks s : Bytes} {k : ℕ} → SignOf ks s k → k ≢ 15 → k ≢ 16 → SignOf ks s 0
+sign_other {ks} {s} {k} h n m = record { opens = λ t. h.opens t ∙ ne_eqb k 15 n; closes = λ t. h.closes t ∙ ne_eqb k 16 m }
+
 -- ---- the name behind the sign
+
+pub sign_none : {ks s : Bytes} {k : ℕ} {r : Option Name} → r ≡ None → SignRead ks s k 0 0 → SignNamed ks s k r
+sign_none {ks} {s} {k} e m = subst (SignNamed ks s k) (sym e) m
+
+pub past_kind : {ks s : Bytes} {at k k' r : ℕ} → k ≡ k' → PastSymbol ks s at k r → PastSymbol ks s at k' r
+past_kind {ks} {s} {at} {k} {k'} {r} e p = subst (λ (k : ℕ). PastSymbol ks s at k r) e p
 
 sign_kind : {sign : ℕ} → IsSign sign → 2 ≤ kind_of sign
 sign_kind plus = omega (arith, sign_kinds.0)

@@ -1,5 +1,5 @@
 -- What the functions on headings and on the ends of lines leave.
-use Rattle.std.specs.Prelude.{◌≡◌, ◌≢◌, ◌∷◌, ℕ, ◌+◌, ◌-◌, ◌≤◌, ◌<◌, eqb, length, get_or, drop, take}
+use Rattle.std.specs.Prelude.{◌≡◌, ◌≢◌, ◌∷◌, ℕ, ◌+◌, ◌-◌, ◌≤◌, ◌<◌, eqb, length, get_or, drop, take, Option, Some, None}
 use Rattle.std.proofs.Math.Seq.{slice}
 use Rattle.aut68.specs.Language.{aut68}
 use Rattle.aut68.specs.Bytes.{Bytes, lines}
@@ -7,28 +7,33 @@ use Rattle.aut68.specs.Procedure.Answer.{done, stop, malformed}
 use Rattle.aut68.specs.Procedure.Parse.{a_line, an_indicator, a_sign_line, signed}
 use Rattle.aut68.specs.Rules.Grammar.{IsSign}
 use Rattle.kinds.specs.Kinds.{KindsTable, kind_of}
+use Rattle.symbols.specs.declared.Name.{Name}
 use Rattle.headings.specs.declared.before_middle.Prefix.{Prefix}
 use Rattle.headings.specs.declared.before_middle.Head.{Head}
-use Rattle.headings.specs.ReadLine.{after_heading, used_or}
+use Rattle.headings.specs.ReadLine.{after_heading, indicator_in, IndicatorInside}
 
 -- the indicator was read, if there is one
 pub record PrefixRead (ks s : Bytes) (p : Prefix) : Type 0 where
   pub inside : p.at ≤ length s
-  pub titled : p.title + p.span ≤ length s
-  pub named : p.start + p.len ≤ length s
-  pub read : KindsTable ks → p.code ≡ 0 → an_indicator aut68 s ≡ done (used_or s p.title p.span p.start p.len) (drop p.at s)
-  pub missing : KindsTable ks → p.code ≢ 0 → (rest : Bytes) × (an_indicator aut68 s ≡ stop malformed rest)
+  pub indicated : IndicatorInside s p.indicator
+  pub read : KindsTable ks → an_indicator aut68 s ≡ done (indicator_in s p.indicator) (drop p.at s)
+
+abbrev pub PrefixFound : Bytes → Bytes → Option Prefix → Type 0
+PrefixFound ks s (Some p) = PrefixRead ks s p
+PrefixFound ks s None = KindsTable ks → (rest : Bytes) × (an_indicator aut68 s ≡ stop malformed rest)
 
 -- `indicator*identifier:=` was read
 pub record HeadRead (ks s : Bytes) (h : Head) : Type 0 where
   pub inside : h.at ≤ length s
-  pub titled : h.title + h.span ≤ length s
-  pub indicated : h.start + h.len ≤ length s
-  pub named : h.first + h.size ≤ length s
-  pub sized : h.code ≡ 0 → h.size ≢ 0
-  pub read : KindsTable ks → h.code ≡ 0
-      → a_line aut68 (length s) s ≡ after_heading aut68 (used_or s h.title h.span h.start h.len) h.first (slice h.first (h.first + h.size) s) (drop h.at s)
-  pub missing : KindsTable ks → h.code ≢ 0 → (rest : Bytes) × (h.code ≡ 3) × (a_line aut68 (length s) s ≡ stop malformed rest)
+  pub indicated : IndicatorInside s h.indicator
+  pub named : h.identifier.start + h.identifier.len ≤ length s
+  pub sized : h.identifier.len ≢ 0
+  pub read : KindsTable ks
+      → a_line aut68 (length s) s ≡ after_heading aut68 (indicator_in s h.indicator) h.identifier.start (slice h.identifier.start (h.identifier.start + h.identifier.len) s) (drop h.at s)
+
+abbrev pub HeadFound : Bytes → Bytes → Option Head → Type 0
+HeadFound ks s (Some h) = HeadRead ks s h
+HeadFound ks s None = KindsTable ks → (rest : Bytes) × (a_line aut68 (length s) s ≡ stop malformed rest)
 
 -- r is the kind of one of the two signs exactly if the line is a paragraph line with it
 pub record SignOf (ks s : Bytes) (r : ℕ) : Type 0 where
@@ -41,6 +46,11 @@ pub record SignRead (ks s : Bytes) (k start len : ℕ) : Type 0 where
   pub read : KindsTable ks → (sign : ℕ) → IsSign sign → k ≡ kind_of sign → len ≢ 0
       → (rest : Bytes) × (a_sign_line aut68 sign s ≡ done (slice start (start + len) s) rest)
   pub missing : KindsTable ks → (sign : ℕ) → IsSign sign → k ≡ kind_of sign → len ≡ 0 → (rest : Bytes) × (a_sign_line aut68 sign s ≡ stop malformed rest)
+
+-- the name of a paragraph line, if it is well formed
+abbrev pub SignNamed : Bytes → Bytes → ℕ → Option Name → Type 0
+SignNamed ks s k (Some n) = (n.len ≢ 0) × SignRead ks s k n.start n.len
+SignNamed ks s k None = SignRead ks s k 0 0
 
 -- how many bytes are looked at at once for the end of a line
 abbrev pub stride : ℕ

@@ -1,122 +1,55 @@
 // `indicator*identifier:=`.
-ghost use Rattle.std.specs.Prelude.{◌≡◌, ◌+◌};
-ghost use Rattle.headings.specs.Posts.{PrefixRead, HeadRead};
+ghost use Rattle.headings.specs.Posts.{PrefixFound, HeadFound};
 
-use symbols::{kind_at, name_at, spaces, symbol, used_at};
+use symbols::{Name, UsedName, kind_at, name_at, spaces, symbol, used_at};
 
-// The indicator: code 0 or 3, the byte behind it, its name (start, len; length 0 if empty), and the paragraph's name before its point
-// (title, span; length 0 if there is no point).
+// The indicator (None: it is empty), and the byte behind it.
 #[derive(Clone, Copy)]
 pub struct Prefix {
-    pub code: u32,
     pub at: usize,
-    pub title: usize,
-    pub span: usize,
-    pub start: usize,
-    pub len: usize,
+    pub indicator: Option<UsedName>,
 }
 
-// The indicator, if a name stands at the line's start (an_indicator).
-fn prefix_of(line: &[u8], kinds: &[u8; 256]) -> Prefix
-    ensures { PrefixRead kinds.now line.now result }
+// The indicator, if a name stands at the line's start (an_indicator); None where it is malformed.
+fn prefix_of(line: &[u8], kinds: &[u8; 256]) -> Option<Prefix>
+    ensures { PrefixFound kinds.now line.now result }
 {
     let start = spaces(line, 0);
-    let k = kind_at(line, kinds, start);
-    if k != 1 {
-        return Prefix {
-            code: 0,
+    if kind_at(line, kinds, start) != kinds::NAME {
+        return Some(Prefix {
             at: 0,
-            title: 0,
-            span: 0,
-            start: 0,
-            len: 0,
-        };
+            indicator: None,
+        });
     }
-    let n = used_at(line, kinds, 0);
-    let first = n.start;
-    let len = n.len;
-    if len == 0 {
-        return Prefix {
-            code: constants::MALFORMED,
-            at: 0,
-            title: 0,
-            span: 0,
-            start: 0,
-            len: 0,
-        };
-    }
-    Prefix {
-        code: 0,
-        at: first + len,
-        title: n.title,
-        span: n.size,
-        start: first,
-        len: len,
-    }
+    let used = used_at(line, kinds, 0)?;
+    Some(Prefix {
+        at: used.name.start + used.name.len,
+        indicator: Some(used),
+    })
 }
 
-// The words before the middle. code: 0 or 3. at: the byte behind `:=`. The indicator, as in Prefix. The identifier (first, size).
+// The words before the middle: the indicator, as in Prefix, the identifier, and the byte behind `:=`.
 #[derive(Clone, Copy)]
 pub struct Head {
-    pub code: u32,
     pub at: usize,
-    pub title: usize,
-    pub span: usize,
-    pub start: usize,
-    pub len: usize,
-    pub first: usize,
-    pub size: usize,
+    pub indicator: Option<UsedName>,
+    pub identifier: Name,
 }
 
-fn bad_head() -> Head
-    ensures { (result.code ≡ 3) × (result.at ≡ 0) × (result.title + result.span ≡ 0) × (result.start + result.len ≡ 0) × (result.first + result.size ≡ 0) }
+// `indicator*identifier:=`, up to the byte behind it; None where it is malformed.
+pub fn heading(line: &[u8], kinds: &[u8; 256]) -> Option<Head>
+    ensures { HeadFound kinds.now line.now result }
 {
-    Head {
-        code: constants::MALFORMED,
-        at: 0,
-        title: 0,
-        span: 0,
-        start: 0,
-        len: 0,
-        first: 0,
-        size: 0,
+    let prefix = prefix_of(line, kinds)?;
+    let star = symbol(line, kinds, prefix.at, kinds::STAR)?;
+    let identifier = name_at(line, kinds, star)?;
+    let colon = symbol(line, kinds, identifier.start + identifier.len, kinds::COLON)?;
+    if kind_at(line, kinds, colon) != kinds::EQUALS {
+        return None;
     }
-}
-
-// `indicator*identifier:=`, up to the byte behind it.
-pub fn heading(line: &[u8], kinds: &[u8; 256]) -> Head
-    ensures { HeadRead kinds.now line.now result }
-{
-    let p = prefix_of(line, kinds);
-    if p.code != 0 {
-        return bad_head();
-    }
-    let star = symbol(line, kinds, p.at, kinds::STAR);
-    if star > line.len() {
-        return bad_head();
-    }
-    let n = name_at(line, kinds, star);
-    let first = n.start;
-    let size = n.len;
-    if size == 0 {
-        return bad_head();
-    }
-    let colon = symbol(line, kinds, first + size, kinds::COLON);
-    if colon > line.len() {
-        return bad_head();
-    }
-    let k = kind_at(line, kinds, colon);
-    if k != 6 {
-        return bad_head();
-    }
-    Head {
-        code: 0,
+    Some(Head {
         at: colon + 1,
-        title: p.title,
-        span: p.span,
-        start: p.start,
-        len: p.len,
-        first: first,
-        size: size,
-    }
+        indicator: prefix.indicator,
+        identifier,
+    })
 }

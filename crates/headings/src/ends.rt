@@ -11,12 +11,10 @@ fn has_end(part: &[u8]) -> bool
     ensures { result ≡ false → NoEnd part.now stride }
 {
     let mut found = false;
-    let mut j = 0;
-    while j < STRIDE {
-        if part[j] == 10 {
+    for j in 0..STRIDE {
+        if part[j] == b'\n' {
             found = true;
         }
-        j = j + 1;
     }
     found
 }
@@ -25,14 +23,12 @@ fn has_end(part: &[u8]) -> bool
 fn byte_end(book: &[u8], at: usize) -> usize
     ensures { LineEnd book.now at result }
 {
-    let mut i = at;
-    while i < book.len() {
-        if book[i] == 10 {
+    for i in at..book.len() {
+        if book[i] == b'\n' {
             return i + 1;
         }
-        i = i + 1;
     }
-    i
+    book.len()
 }
 
 // The end of the line that starts at `at`: behind its byte 10, or the book's end. STRIDE bytes at once are passed that do not end it.
@@ -41,14 +37,10 @@ pub fn line_end(book: &[u8], at: usize) -> usize
 {
     let mut i = at;
     while i < book.len() {
-        if book.len() - i < STRIDE {
+        if book.len() - i < STRIDE || has_end(&book[i..i + STRIDE]) {
             return byte_end(book, i);
         }
-        let next = i + STRIDE;
-        if has_end(&book[i..next]) {
-            return byte_end(book, i);
-        }
-        i = next;
+        i += STRIDE;
     }
     i
 }

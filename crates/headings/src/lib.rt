@@ -7,4 +7,4 @@ mod signs;
 
 pub use before_middle::{Head, heading};
 pub use ends::line_end;
-pub use signs::{sign_line, sign_of};
+pub use signs::{Sign, sign_line, sign_of};

@@ -1,36 +1,46 @@
 // Paragraph lines: `+p` and `-p`.
-ghost use Rattle.headings.specs.Posts.{SignOf, SignRead};
+ghost use Rattle.std.specs.Prelude.{◌≡◌};
+ghost use Rattle.headings.specs.Signs.{kind_of_sign, kind_in};
+ghost use Rattle.headings.specs.Posts.{SignOf, SignNamed};
 
 use symbols::{Name, kind_at, name_at, spaces, symbol};
 
-// PLUS or MINUS where the line is a paragraph line, by its first byte behind spaces (signed); else the kind of that byte, or OTHER.
-pub fn sign_of(line: &[u8], kinds: &[u8; 256]) -> u8
-    ensures { SignOf kinds.now line.now result }
-{
-    let start = spaces(line, 0);
-    kind_at(line, kinds, start)
+// The sign of a paragraph line.
+#[derive(Clone, Copy, Debug, PartialEq, Eq)]
+pub enum Sign {
+    Opens,
+    Closes,
 }
 
-// The name of the paragraph line with the sign of kind k (a_sign_line): length 0 where it is malformed.
-pub fn sign_line(line: &[u8], kinds: &[u8; 256], k: u8) -> Name
-    ensures { SignRead kinds.now line.now k result.start result.len }
+impl From<Sign> for u8 {
+    ghost from_gives = { λ sign kind. kind ≡ kind_of_sign sign };
+
+    fn from(sign: Sign) -> u8 {
+        match sign {
+            Sign::Opens => kinds::PLUS,
+            Sign::Closes => kinds::MINUS,
+        }
+    }
+}
+
+// The sign of the line, by its first byte behind spaces (signed); None: it is no paragraph line.
+pub fn sign_of(line: &[u8], kinds: &[u8; 256]) -> Option<Sign>
+    ensures { SignOf kinds.now line.now (kind_in result) }
 {
-    let at = symbol(line, kinds, 0, k);
-    if at > line.len() {
-        return Name { start: 0, len: 0 };
+    let start = spaces(line, 0);
+    match kind_at(line, kinds, start) {
+        kinds::PLUS => Some(Sign::Opens),
+        kinds::MINUS => Some(Sign::Closes),
+        _ => None,
     }
-    let n = name_at(line, kinds, at);
-    let start = n.start;
-    let len = n.len;
-    if len == 0 {
-        return Name { start: 0, len: 0 };
-    }
-    let end = symbol(line, kinds, start + len, kinds::NEWLINE);
-    if end != line.len() {
-        return Name { start: 0, len: 0 };
-    }
-    Name {
-        start: start,
-        len: len,
-    }
+}
+
+// The name of the paragraph line with that sign (a_sign_line); None where it is malformed.
+pub fn sign_line(line: &[u8], kinds: &[u8; 256], sign: Sign) -> Option<Name>
+    ensures { SignNamed kinds.now line.now (kind_of_sign sign) result }
+{
+    let at = symbol(line, kinds, 0, u8::from(sign))?;
+    let name = name_at(line, kinds, at)?;
+    let end = symbol(line, kinds, name.start + name.len, kinds::NEWLINE)?;
+    if end == line.len() { Some(name) } else { None }
 }

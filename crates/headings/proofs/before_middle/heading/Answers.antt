@@ -1,40 +1,34 @@
+use mathlib.Core.Path.{refl}
 use native.Mathlib.Omega.{arith}
-use Rattle.headings.proofs.HeadLaws.{heading_no_indicator, heading_no_star, heading_no_name, heading_no_colon, heading_no_equals, heading_read}
+use Rattle.headings.proofs.HeadLaws.{head_none, heading_no_indicator, heading_no_star, heading_no_name, heading_no_colon, heading_no_equals, heading_read}
 use Rattle.headings.proofs.before_middle.heading.Goals as goal
 
-pub returns-then-p-ne0 : goal.returns-then-p-ne0
-returns-then-p-ne0 c = heading_no_indicator c.prefix_of-p.ensures c.if-p-ne0.true c.bad_head.ensures
+pub returns-in_err-prefix : goal.returns-in_err-prefix
+returns-in_err-prefix c = head_none _ c.from_residual.ensures (heading_no_indicator _ c.in_err-prefix.ensures)
 
-pub returns-then-star-line : goal.returns-then-star-line
-returns-then-star-line c =
-    heading_no_star c.prefix_of-p.ensures c.if-p-ne0.false c.symbol-star.ensures
-    c.if-star-line.true c.bad_head-then-star-line.ensures
+pub returns-in_err-star : goal.returns-in_err-star
+returns-in_err-star c =
+    head_none _ c.from_residual-in_err-star.ensures (heading_no_star c.in_ok-prefix.ensures c.in_err-star.ensures.past (omega arith))
 
-pub returns-then-size-eq0 : goal.returns-then-size-eq0
-returns-then-size-eq0 c =
-    heading_no_name c.prefix_of-p.ensures c.if-p-ne0.false c.symbol-star.ensures c.if-star-line.false
-    c.name_at-n.ensures c.if-size-eq0.true c.bad_head-then-size-eq0.ensures
+pub returns-in_err-identifier : goal.returns-in_err-identifier
+returns-in_err-identifier c =
+    head_none _ c.from_residual-in_err-identifier.ensures
+    (heading_no_name c.in_ok-prefix.ensures c.in_ok-star.ensures.past c.in_ok-star.ensures.inside c.in_err-identifier.ensures.1 refl)
 
-pub overflow_add-first : goal.overflow_add-first
-overflow_add-first c = omega (arith, c.name_at-n.ensures.within c.if-star-line.false)
+pub returns-in_err-colon : goal.returns-in_err-colon
+returns-in_err-colon c =
+    let (m, n) = c.in_ok-identifier.ensures in
+    head_none _ c.from_residual-in_err-colon.ensures
+    (heading_no_colon c.in_ok-prefix.ensures c.in_ok-star.ensures.past c.in_ok-star.ensures.inside n m c.in_err-colon.ensures.past (omega arith))
 
-pub returns-then-colon-line : goal.returns-then-colon-line
-returns-then-colon-line c =
-    heading_no_colon c.prefix_of-p.ensures c.if-p-ne0.false c.symbol-star.ensures c.if-star-line.false
-    c.name_at-n.ensures c.if-size-eq0.false c.symbol-colon.ensures c.if-colon-line.true
-    c.bad_head-then-colon-line.ensures
-
-pub returns-then-k-ne6 : goal.returns-then-k-ne6
-returns-then-k-ne6 c =
-    heading_no_equals c.prefix_of-p.ensures c.if-p-ne0.false c.symbol-star.ensures c.if-star-line.false
-    c.name_at-n.ensures c.if-size-eq0.false c.symbol-colon.ensures c.if-colon-line.false
-    c.kind_at-k.ensures c.if-k-ne6.true c.bad_head-then-k-ne6.ensures
-
-pub overflow_add-result : goal.overflow_add-result
-overflow_add-result c = omega (arith, c.if-colon-line)
+pub returns-then-kind_at-ne-EQUALS : goal.returns-then-kind_at-ne-EQUALS
+returns-then-kind_at-ne-EQUALS c =
+    let (m, n) = c.in_ok-identifier.ensures in
+    heading_no_equals c.in_ok-prefix.ensures c.in_ok-star.ensures.past c.in_ok-star.ensures.inside n m
+    c.in_ok-colon.ensures.past c.in_ok-colon.ensures.inside c.kind_at.ensures c.if-kind_at-ne-EQUALS.true
 
 pub returns : goal.returns
 returns c =
-    heading_read c.prefix_of-p.ensures c.if-p-ne0.false c.symbol-star.ensures c.if-star-line.false
-    c.name_at-n.ensures c.if-size-eq0.false c.symbol-colon.ensures c.if-colon-line.false
-    c.kind_at-k.ensures c.if-k-ne6.false
+    let (m, n) = c.in_ok-identifier.ensures in
+    heading_read c.in_ok-prefix.ensures c.in_ok-star.ensures.past c.in_ok-star.ensures.inside n m
+    c.in_ok-colon.ensures.past c.in_ok-colon.ensures.inside c.kind_at.ensures c.if-kind_at-ne-EQUALS.false

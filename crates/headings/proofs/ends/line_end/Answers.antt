@@ -6,35 +6,17 @@ use Rattle.headings.proofs.ends.line_end.Goals as goal
 pub loop-i-init : goal.loop-i-init
 loop-i-init c = no_end_start _ _
 
-pub overflow_sub-book : goal.overflow_sub-book
-overflow_sub-book c = omega arith
+pub has_end-requires : goal.has_end-requires
+has_end-requires c = simp (length-take, length-drop) (omega arith)
 
 pub returns-then-book-i-lt-STRIDE : goal.returns-then-book-i-lt-STRIDE
 returns-then-book-i-lt-STRIDE c = line_ends_later c.loop-i.invariant (omega arith) c.byte_end.ensures
 
-pub overflow_add-next : goal.overflow_add-next
-overflow_add-next c = omega arith
-
-pub slice_bounds-has_end-count : goal.slice_bounds-has_end-count
-slice_bounds-has_end-count c = omega arith
-
-pub slice_bounds-has_end-start : goal.slice_bounds-has_end-start
-slice_bounds-has_end-start c = omega arith
-
-pub slice_bounds-has_end-end : goal.slice_bounds-has_end-end
-slice_bounds-has_end-end c = omega arith
-
-pub has_end-requires : goal.has_end-requires
-has_end-requires c = simp (length-take, length-drop) (omega arith)
-
-pub returns-then-has_end : goal.returns-then-has_end
-returns-then-has_end c = line_ends_later c.loop-i.invariant (omega arith) c.byte_end-then-has_end.ensures
+pub loop-i-preserved : goal.loop-i-preserved
+loop-i-preserved c = no_end_part c.loop-i.invariant (omega arith) (c.has_end.ensures c.if-has_end.false)
 
 pub loop-i-smaller : goal.loop-i-smaller
 loop-i-smaller c = omega arith
 
-pub loop-i-preserved : goal.loop-i-preserved
-loop-i-preserved c = no_end_part c.loop-i.invariant (omega arith) (c.has_end.ensures c.if-has_end.false)
-
 pub returns : goal.returns
-returns c = book_ends_here c.loop-i.invariant (omega arith)
+returns c = book_ends_here c.loop-i.invariant (omega arith) (omega arith) c.loop-i.invariant.within

@@ -1,22 +1,28 @@
+use mathlib.Core.Path.{refl}
 use native.Mathlib.Omega.{arith}
-use Rattle.headings.proofs.SignLaws.{sign_missing, sign_unnamed, sign_unended, sign_read}
+use Rattle.headings.proofs.SignLaws.{past_kind, sign_none, sign_missing, sign_unnamed, sign_unended, sign_read}
 use Rattle.headings.proofs.signs.sign_line.Goals as goal
 
-pub returns-then-at-line : goal.returns-then-at-line
-returns-then-at-line c = sign_missing c.symbol-at.ensures c.if-at-line.true
+pub returns-in_err-at : goal.returns-in_err-at
+returns-in_err-at c = sign_none c.from_residual.ensures (sign_missing (past_kind c.from.ensures c.in_err-at.ensures.past) (omega arith))
 
-pub returns-then-len-eq0 : goal.returns-then-len-eq0
-returns-then-len-eq0 c = sign_unnamed c.symbol-at.ensures c.if-at-line.false c.name_at-n.ensures c.if-len-eq0.true
+pub returns-in_err-name : goal.returns-in_err-name
+returns-in_err-name c =
+    sign_none c.from_residual-in_err-name.ensures
+    (sign_unnamed (past_kind c.from.ensures c.in_ok-at.ensures.past) c.in_ok-at.ensures.inside c.in_err-name.ensures.1 refl)
 
-pub overflow_add-start : goal.overflow_add-start
-overflow_add-start c = omega (arith, c.name_at-n.ensures.within c.if-at-line.false)
+pub returns-in_err-end : goal.returns-in_err-end
+returns-in_err-end c =
+    let (m, n) = c.in_ok-name.ensures in
+    sign_none c.from_residual-in_err-end.ensures
+    (sign_unended (past_kind c.from.ensures c.in_ok-at.ensures.past) c.in_ok-at.ensures.inside n m c.in_err-end.ensures.past (λ e. omega arith))
 
 pub returns-then-end-line : goal.returns-then-end-line
 returns-then-end-line c =
-    sign_unended c.symbol-at.ensures c.if-at-line.false c.name_at-n.ensures c.if-len-eq0.false
-    c.symbol-end.ensures c.if-end-line.true
+    let (m, n) = c.in_ok-name.ensures in
+    (m, sign_read (past_kind c.from.ensures c.in_ok-at.ensures.past) c.in_ok-at.ensures.inside n m c.in_ok-end.ensures.past c.if-end-line.true)
 
-pub returns : goal.returns
-returns c =
-    sign_read c.symbol-at.ensures c.if-at-line.false c.name_at-n.ensures c.if-len-eq0.false
-    c.symbol-end.ensures c.if-end-line.false
+pub returns-else-end-line : goal.returns-else-end-line
+returns-else-end-line c =
+    let (m, n) = c.in_ok-name.ensures in
+    sign_unended (past_kind c.from.ensures c.in_ok-at.ensures.past) c.in_ok-at.ensures.inside n m c.in_ok-end.ensures.past c.if-end-line.false
