@@ -45,11 +45,7 @@ pub fn line_at(limit: usize) -> usize
 pub fn names_at(limit: usize) -> usize
     ensures { 1 ≤ limit → limit ≤ largest_limit → result ≡ names_at limit }
 {
-    let end = unit_at(limit, NAMES_UNIT);
-    if end == 0 {
-        return 0;
-    }
-    end - 1
+    unit_at(limit, NAMES_UNIT).saturating_sub(1)
 }
 
 // Where the unit of a category's level starts; there are LEVELS of them.

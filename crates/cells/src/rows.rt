@@ -13,43 +13,33 @@ pub fn field(table: &[u32], v: usize, k: usize) -> usize
     requires { k < row_width }
     ensures { (result ≡ row_cell table.now v k) × (result < 2 ^ 32) }
 {
-    if v == 0 {
+    if v == 0 || v - 1 > table.len() / ROW_WIDTH {
         return 0;
     }
-    let before = v - 1;
-    if before > table.len() / ROW_WIDTH {
-        return 0;
+    match table.get(ROW_WIDTH * (v - 1) + k) {
+        Some(&cell) => cell as usize,
+        None => 0,
     }
-    let row = ROW_WIDTH * before;
-    if k >= table.len() - row {
-        return 0;
-    }
-    table[row + k] as usize
 }
 
 // How many expressions follow the cell x as its parts: a constant's context length, 2 for an application or an abstraction.
+#[tactic(auto, unfolding(crate::specs::Cells::parts_after))]
 pub fn kids(table: &[u32], x: Cell) -> usize
     ensures { (result ≡ parts_after table.now x) × (result < 2 ^ 32) }
 {
-    let k = x % CELL_FACTOR;
-    match k {
+    match x % CELL_FACTOR {
         3 => field(table, (x / CELL_FACTOR) as usize, CONTEXT_LENGTH),
-        4 => 2,
-        5 => 2,
+        4 | 5 => 2,
         _ => 0,
     }
 }
 
 // Does the cell x name a line: is it a variable or a constant?
+#[tactic(auto, unfolding(crate::specs::Numbers::names_line))]
 pub fn names_line(x: Cell) -> bool
     ensures { result ≡ names_line x }
 {
-    let k = x % CELL_FACTOR;
-    match k {
-        1 => true,
-        3 => true,
-        _ => false,
-    }
+    matches!(x % CELL_FACTOR, 1 | 3)
 }
 
 // The end of the n expressions that lie one after the other from index `from` of s. Where no n expressions lie there it is
@@ -60,14 +50,11 @@ pub fn skip(table: &[u32], s: &[Cell], from: usize, n: usize) -> usize
     let mut i = from;
     let mut pending = n;
     while pending > 0 {
-        if i >= s.len() {
-            return s.len();
-        }
-        if pending > s.len() - i {
+        if i >= s.len() || pending > s.len() - i {
             return s.len();
         }
         pending = pending - 1 + kids(table, s[i]);
-        i = i + 1;
+        i += 1;
     }
     i
 }

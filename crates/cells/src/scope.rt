@@ -31,13 +31,13 @@ pub fn no_bindings() -> Scope
 pub fn nest(scope: Scope) -> Scope
     ensures { Nested scope result }
 {
-    let depth = scope.depth;
-    if depth >= NESTING {
+    if scope.depth >= NESTING {
         return scope;
     }
-    let mut inner = scope;
-    inner.depth = depth + 1;
-    inner
+    Scope {
+        depth: scope.depth + 1,
+        ..scope
+    }
 }
 
 // The scope one nesting level deeper, with one binding more, the innermost; as it is at depth NESTING. Without the binding where
@@ -45,20 +45,15 @@ pub fn nest(scope: Scope) -> Scope
 pub fn bind(scope: Scope, start: usize, len: usize) -> Scope
     ensures { Bound scope start len result }
 {
-    let depth = scope.depth;
-    if depth >= NESTING {
+    if scope.depth >= NESTING {
         return scope;
     }
+    let mut inner = Scope {
+        depth: scope.depth + 1,
+        ..scope
+    };
     let bound = scope.bound;
-    let mut inner = scope;
-    inner.depth = depth + 1;
-    if bound >= NESTING {
-        return inner;
-    }
-    if start > 4294967295 {
-        return inner;
-    }
-    if len > 4294967295 {
+    if bound >= NESTING || start > u32::MAX as usize || len > u32::MAX as usize {
         return inner;
     }
     inner.starts[bound] = start as u32;

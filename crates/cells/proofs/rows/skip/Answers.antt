@@ -1,9 +1,12 @@
 use mathlib.Core.Path.{refl}
 use mathlib.Core.Logic.{inl, inr, ⊎_elim}
 use native.Mathlib.Omega.{arith}
+use Prim.Native.Nat.{◌+◌, ◌<◌}
+use lib.ListN.{length}
 use Rattle.cells.specs.Forests.{pass_cell, pending_long}
 use Rattle.cells.specs.RowLaws.{pending_end}
 use Rattle.cells.proofs.rows.skip.Goals as goal
+use Rattle.cells.proofs.rows.skip.Goals.{then-i-s-via-then-i-s, then-i-s-via-else-i-s+then-pending-s}
 
 pub loop-pending-init : goal.loop-pending-init
 loop-pending-init c = (inl (refl, refl), λ es rest k w a. record { todo = es; counted = k; formed = w; at = a })
@@ -11,6 +14,10 @@ loop-pending-init c = (inl (refl, refl), λ es rest k w a. record { todo = es; c
 pub returns-then-i-s : goal.returns-then-i-s
 returns-then-i-s c =
     let I = c.loop-pending.invariant in
+    let short : length c.args.s.now < c.loop-pending.i + c.loop-pending.pending = elim c.then-i-s.branch [
+      | then-i-s-via-then-i-s w ↦ omega arith
+      | then-i-s-via-else-i-s+then-pending-s w ↦ omega arith
+    ] in
     record {
       within = λ h. (h, omega arith);
       onward = λ a h. h;
@@ -18,38 +25,6 @@ returns-then-i-s c =
       past = λ a h. refl;
       ends = λ es rest k w a. absurd (omega (arith, pending_long (I.1 es rest k w a)));
     }
-
-pub overflow_sub-s : goal.overflow_sub-s
-overflow_sub-s c = omega arith
-
-pub returns-then-pending-s : goal.returns-then-pending-s
-returns-then-pending-s c =
-    let I = c.loop-pending.invariant in
-    record {
-      within = λ h. (h, omega arith);
-      onward = λ a h. h;
-      none = λ z. ⊎_elim (λ k. absurd (omega arith)) (λ k. absurd (omega arith)) I.0;
-      past = λ a h. refl;
-      ends = λ es rest k w a. absurd (omega (arith, pending_long (I.1 es rest k w a)));
-    }
-
-pub overflow_sub-pending : goal.overflow_sub-pending
-overflow_sub-pending c = omega arith
-
-pub offset_bounds-s-i : goal.offset_bounds-s-i
-offset_bounds-s-i c = omega arith
-
-pub bounds-s-i : goal.bounds-s-i
-bounds-s-i c = omega arith
-
-pub overflow_add-pending : goal.overflow_add-pending
-overflow_add-pending c = omega arith
-
-pub overflow_add-i : goal.overflow_add-i
-overflow_add-i c = omega arith
-
-pub loop-pending-smaller : goal.loop-pending-smaller
-loop-pending-smaller c = omega arith
 
 pub loop-pending-preserved : goal.loop-pending-preserved
 loop-pending-preserved c =
