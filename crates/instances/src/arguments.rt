@@ -5,8 +5,8 @@ ghost use Rattle.aut68.specs.Sizes.{cell_factor, cell_values};
 ghost use Rattle.terms.specs.Grafts.{Instantiates, LeafPost, StartPost};
 
 use cells::{field, skip};
-use constants::{CELL_FACTOR, CELL_VALUES, CONTEXT_LENGTH, Cell};
-use terms::{Leaf, start_at};
+use constants::{CELL_FACTOR, CONTEXT_LENGTH, Cell};
+use terms::Leaf;
 
 // Where argument i starts.
 pub fn argument_at(table: &[u32], w: &[Cell], base: usize, starts: &[Cell; 64], i: usize) -> usize
@@ -16,9 +16,9 @@ pub fn argument_at(table: &[u32], w: &[Cell], base: usize, starts: &[Cell; 64], 
         return w.len();
     }
     if i < 64 {
-        return base + (start_at(starts, i) as usize);
+        return base + starts[i] as usize;
     }
-    let last = base + (start_at(starts, 63) as usize);
+    let last = base + starts[63] as usize;
     skip(table, w, last, i - 63)
 }
 
@@ -34,25 +34,14 @@ pub fn argument_for(
 ) -> Leaf
     requires { x % cell_factor < 3 }
     ensures { (end cut : ℕ) → LeafPost cell_values (Instantiates table.now base count starts.now (take end w.now))
-        table.now (take end w.now) 1 x cut result.cell result.from }
+        table.now (take end w.now) x cut result }
 {
-    let itself = x as usize;
     if x % CELL_FACTOR != 1 {
-        return Leaf {
-            cell: itself,
-            from: 0,
-        };
+        return Leaf::One(x);
     }
     let i = field(table, (x / CELL_FACTOR) as usize, CONTEXT_LENGTH);
     if i >= count {
-        return Leaf {
-            cell: itself,
-            from: 0,
-        };
+        return Leaf::One(x);
     }
-    let from = argument_at(table, w, base, starts, i);
-    Leaf {
-        cell: CELL_VALUES,
-        from,
-    }
+    Leaf::Expression(argument_at(table, w, base, starts, i))
 }
