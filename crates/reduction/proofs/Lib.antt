@@ -1,3 +1,4 @@
+mod Exits
 mod ArgumentLaws
 mod PutLaws
 mod StepLaws

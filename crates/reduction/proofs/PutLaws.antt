@@ -1,12 +1,12 @@
 -- What is made in the result unit, a substitution or a middle with its arguments put in; and a middle put in place.
 use mathlib.Core.Path.{◌≡◌, refl, sym, ap, subst, ◌∙◌}
-use mathlib.Core.Logic.{inl, inr}
+use Rattle.std.specs.Prelude.{Option, Some, None}
 use mathlib.Core.List.{List, ◌∷◌, ◌++◌}
 use Prim.Native.Nat.{ℕ, ◌+◌, ◌-◌, ◌*◌, ◌≤◌, ◌<◌}
 use native.Mathlib.Omega.{arith}
 use lib.ListN.{length, get_or, drop, length-append}
 use lib.Seq.{sets, take_all}
-use Rattle.aut68.specs.Sizes.{cell_factor, cell_values, largest_limit, work_units, at_context, at_middle, at_category}
+use Rattle.aut68.specs.Sizes.{cell_factor, largest_limit, work_units, at_context, at_middle, at_category}
 use Rattle.aut68.specs.Expr.{Expr, const, app, abs, nil, cons, size, cells, cellss, count_exprs}
 use Rattle.aut68.specs.Substitution.{instantiate}
 use Rattle.aut68.specs.Lines.{Line, Lines, abbreviation, kind_cells, row_cell}
@@ -22,7 +22,7 @@ use Rattle.cells.specs.Forests.{at_inside, at_tail, at_front, at_second, at_one,
 use Rattle.cells.specs.Layout.{unit_at, scratch_unit, result_unit, unit_below, unit_inside}
 use Rattle.cells.specs.Posts.{Skipped}
 use Rattle.cells.specs.Stores.{outside_same, outside_more, at_sets, at_before}
-use Rattle.terms.specs.Made.{no_room, Made, Confined, SubstitutePost, InstantiatePost}
+use Rattle.terms.specs.Made.{size_in, WithinRoom, Made, Confined, SubstitutePost, InstantiatePost}
 use Rattle.heads.specs.Book.{Book, right_count, all_known_wf}
 use Rattle.heads.specs.Heads.{const_unfolds}
 use Rattle.reduction.specs.Depths.{instantiated_below}
@@ -40,15 +40,14 @@ module _ (limit : ℕ) where
   result_inside = unit_inside limit (omega arith)
 
 -- nothing was done
-pub prepared_none : {limit room : ℕ} {w : List ℕ} → Prepared limit room cell_values w w
-unfolding no_room
-prepared_none = record { quiet = framed_same; answers = inr refl }
+pub prepared_none : {limit room : ℕ} {w : List ℕ} → Prepared limit room None w w
+prepared_none = record { quiet = framed_same; within = tt }
 
 -- something was made at or above the scratch unit
-pub prepared_by : {limit room r : ℕ} {w w₁ w' : List ℕ} {to : ℕ} → Quiet (unit_at limit scratch_unit) w w₁ → to ≡ unit_at limit result_unit → Confined w₁ w' to room r
-    → Prepared limit room r w w'
-prepared_by {limit} q e c =
-    record { quiet = framed_then q (outside_quiet (omega (arith, scratch_below_result limit)) c.outside); answers = c.answers }
+pub prepared_by : {limit room n : ℕ} {r : Option ℕ} {w w₁ w' : List ℕ} {to : ℕ} → Quiet (unit_at limit scratch_unit) w w₁ → to ≡ unit_at limit result_unit
+    → Confined w₁ w' to room n → WithinRoom room r → Prepared limit room r w w'
+prepared_by {limit} q e c h =
+    record { quiet = framed_then q (outside_quiet (omega (arith, scratch_below_result limit)) c.outside); within = h }
 
 pub in_result : (limit : ℕ) {room : ℕ} {e : Expr} {r to : ℕ} {w w' : List ℕ} → to ≡ unit_at limit result_unit → to + room ≤ length w → Made room e r to w w'
     → MadeAt (unit_at limit result_unit) room e r w'
@@ -97,23 +96,23 @@ contracting {tb} {w} {at} {f} a p t {rest} wa wp h s =
     }
 
 -- a redex that the store has no cells for is none
-pub contracted_none : {tb w : List ℕ} {limit at room : ℕ} → length w ≤ at → ContractedPost tb w w limit at room cell_values
+pub contracted_none : {tb w : List ℕ} {limit at room : ℕ} → length w ≤ at → ContractedPost tb w w limit at room None
 contracted_none h = record {
   prepared = prepared_none;
   made = λ l m a p t wa wp wt z b o. absurd (omega (arith, at_inside (app a (abs p t)) z, cells_long (app a (abs p t))));
 }
 
-pub contracted_no_function : {tb w : List ℕ} {limit at room f : ℕ} → Skipped tb w (at + 1) 1 f → length w ≤ f → ContractedPost tb w w limit at room cell_values
+pub contracted_no_function : {tb w : List ℕ} {limit at room f : ℕ} → Skipped tb w (at + 1) 1 f → length w ≤ f → ContractedPost tb w w limit at room None
 contracted_no_function s h = record {
   prepared = prepared_none;
   made = λ l m a p t wa wp wt z b o. absurd (omega (arith, (contracting a p t wa wp z s).inside));
 }
 
-pub contracted_law : {tb w w' : List ℕ} {limit at room r f g result : ℕ} → result ≡ unit_at limit result_unit → Skipped tb w (at + 1) 1 f → Skipped tb w (f + 1) 1 g
-    → SubstitutePost tb w w' g (at + 1) result room r → ContractedPost tb w w' limit at room r
+pub contracted_law : {tb w w' : List ℕ} {limit at room : ℕ} {r : Option ℕ} {f g result : ℕ} → result ≡ unit_at limit result_unit → Skipped tb w (at + 1) 1 f → Skipped tb w (f + 1) 1 g
+    → SubstitutePost tb w w' g (at + 1) result room (size_in r) × WithinRoom room r → ContractedPost tb w w' limit at room r
 unfolding cells size count_exprs AllFormed
-contracted_law {tb} {w} {limit = limit} {at} {f = f} {g} {result} q s z S = record {
-  prepared = prepared_by framed_same q S.confined;
+contracted_law {tb} {w} {limit = limit} {at} {f = f} {g} {result} q s z (S, fits) = record {
+  prepared = prepared_by framed_same q S.confined fits;
   made = λ l m a p t wa wp wt h b o.
       let C = contracting a p t wa wp h s in
       let T = C.body z in
@@ -127,18 +126,18 @@ contracted_law {tb} {w} {limit = limit} {at} {f = f} {g} {result} q s z S = reco
 
 -- ---- an unfolding
 
-pub unfolded_none : {tb ts w : List ℕ} {limit at v room : ℕ} → length w ≤ at → UnfoldedPost tb ts w w limit at v room cell_values
+pub unfolded_none : {tb ts w : List ℕ} {limit at v room : ℕ} → length w ≤ at → UnfoldedPost tb ts w w limit at v room None
 unfolded_none {v = v} h = record {
   prepared = prepared_none;
   made = λ l m B k xs i g W z a b s. absurd (omega (arith, at_inside (const v xs) a, cells_long (const v xs)));
 }
 
-pub unfolded_law : {tb ts w w' : List ℕ} {limit at v room r from count result : ℕ} {starts starts' : List ℕ} → limit ≤ largest_limit → from ≡ row_cell tb v at_middle → count ≡ row_cell tb v at_context
+pub unfolded_law : {tb ts w w' : List ℕ} {limit at v room : ℕ} {r : Option ℕ} {from count result : ℕ} {starts starts' : List ℕ} → limit ≤ largest_limit → from ≡ row_cell tb v at_middle → count ≡ row_cell tb v at_context
     → length starts ≡ 64 → get_or starts 0 0 ≡ 0 → ArgumentsAtPost tb w (at + 1) count starts starts' → result ≡ unit_at limit result_unit
-    → InstantiatePost tb ts w w' from (at + 1) count starts' result room r → UnfoldedPost tb ts w w' limit at v room r
+    → InstantiatePost tb ts w w' from (at + 1) count starts' result room (size_in r) × WithinRoom room r → UnfoldedPost tb ts w w' limit at v room r
 unfolding cells size Scoped kind_cells left
-unfolded_law {tb} {ts} {w} {limit = limit} {at} {v} {count = count} {result} small ef ec places first A t I = record {
-  prepared = prepared_by framed_same t I.confined;
+unfolded_law {tb} {ts} {w} {limit = limit} {at} {v} {count = count} {result} small ef ec places first A t (I, fits) = record {
+  prepared = prepared_by framed_same t I.confined fits;
   made = λ h d {ls} B k xs {l} {m} {rest} j g W z a b s.
       let S = B.stored.cells_of j in
       let e : kind_cells l.kind ≡ cells m = ap kind_cells g in
@@ -179,21 +178,20 @@ middle_size_lem ef ee B {l} {m} j g =
     )
 
 module _ {tb ts w : List ℕ} {at v room from end : ℕ} (ef : from ≡ row_cell tb v at_middle) (ee : end ≡ row_cell tb v at_category) where
-  pub in_place_none : (from ≤ end → room < end - from) → InPlacePost tb ts w w at v room cell_values
-  unfolding no_room
+  pub in_place_none : (from ≤ end → room < end - from) → InPlacePost tb ts w w at v room None
   in_place_none h = record {
     outside = outside_same;
     refused = λ l. refl;
-    answers = inr refl;
+    within = tt;
     made = λ B j g q. let M = middle_size_lem ef ee B j g in
         record { fits = λ s. absurd (omega (arith, M.0, h (omega (arith, M.0)))); large = λ s. refl };
   }
 
-  pub in_place_law : {w' : List ℕ} → from ≤ end → end - from ≤ room → w' ≡ copy_cells ts from (end - from) w at → InPlacePost tb ts w w' at v room (end - from)
+  pub in_place_law : {w' : List ℕ} → from ≤ end → end - from ≤ room → w' ≡ copy_cells ts from (end - from) w at → InPlacePost tb ts w w' at v room (Some (end - from))
   in_place_law {w'} l h e = record {
     outside = rw e (outside_more (omega arith) (omega arith) (copy_outside ts from (end - from) w at));
-    refused = λ k. absurd (omega arith);
-    answers = inl h;
+    refused = λ k. absurd (cc);
+    within = h;
     made = λ {ls} {limit} B {l} {m} j g q. let M = middle_size_lem ef ee B j g in
         record {
           fits = λ s. (omega (arith, M.0), stands m M.0 M.1 q);

@@ -1,12 +1,13 @@
 -- A head step in place: the redex made anew in the result unit and moved to where it was.
 use mathlib.Core.Path.{◌≡◌, refl, sym, ap, subst, ◌∙◌}
-use mathlib.Core.Logic.{inl, inr}
+use mathlib.Core.Logic.{inl}
 use mathlib.Core.Option.{some}
+use Rattle.std.specs.Prelude.{Option, Some, None}
 use mathlib.Core.List.{List, ◌++◌, append_assoc}
 use Prim.Native.Nat.{ℕ, suc, ◌+◌, ◌-◌, ◌*◌, ◌≤◌, ◌<◌}
 use native.Mathlib.Omega.{arith}
 use lib.ListN.{length, drop}
-use Rattle.aut68.specs.Sizes.{cell_values, largest_limit, work_units, at_context}
+use Rattle.aut68.specs.Sizes.{largest_limit, work_units, at_context}
 use Rattle.aut68.specs.Expr.{Expr, Exprs, const, app, abs, size, cells}
 use Rattle.aut68.specs.Substitution.{substitute, instantiate}
 use Rattle.aut68.specs.Lines.{Lines, row_cell}
@@ -20,11 +21,14 @@ use Rattle.cells.specs.CopyLaws.{move_outside, move_at}
 use Rattle.cells.specs.Forests.{at_front, at_second, size_is_length}
 use Rattle.cells.specs.Layout.{unit_at, scratch_unit, result_unit}
 use Rattle.cells.specs.Stores.{at_kept, at_rest}
-use Rattle.terms.specs.Made.{no_room}
+use Rattle.terms.specs.Made.{no_room, size_in}
 use Rattle.instances.specs.Unchanged.{instantiate_empty}
 use Rattle.heads.specs.Book.{Book, known_wf}
 use Rattle.heads.specs.Heads.{HeadIs, no_head, contraction, unfolding_of, applied, front, cells_applied, size_applied, known_applied, stepped_known, app_contracts}
+use Rattle.heads.specs.Posts.{kind_of, line_of}
 use Rattle.heads.specs.declared.heads.Head.{Head}
+use Rattle.heads.specs.declared.heads.HeadStep.{HeadStep}
+use Rattle.heads.specs.declared.heads.HeadStep.TheVariants.{Contraction, Unfolding}
 use Rattle.reduction.specs.Depths.{substituted_below}
 use Rattle.reduction.specs.Frames.{Lies, framed_same, framed_then, framed_more, quiet_framed, outside_framed, at_framed}
 use Rattle.reduction.specs.Posts.{ContractedPost, UnfoldedPost, InPlacePost, Redex, RedexPost, Stepped, StepPost}
@@ -49,22 +53,27 @@ redex_at {w} {start} {at} {e} {rest} fs h q p a =
 redex_size : {e : Expr} (fs : Exprs) (h : Expr) → e ≡ applied fs h → size e ≡ length (front fs) + size h
 redex_size fs h q = ap size q ∙ size_applied fs h
 
+-- a head step has a kind
+pub stepping : (s : HeadStep) → kind_of s ≡ 0 → ⊥
+stepping Contraction q = omega arith
+stepping (Unfolding v) q = omega arith
+
 -- ---- the redex
 
-module _ {tb ts w w' : List ℕ} {limit : ℕ} (h : Head) {room r : ℕ} where
-  pub contracted_redex : h.kind ≡ 1 → ContractedPost tb w w' limit h.at room r → RedexPost tb ts w w' limit h room r
+module _ {tb ts w w' : List ℕ} {limit : ℕ} (h : Head) {room : ℕ} {r : Option ℕ} where
+  pub contracted_redex : kind_of h.step ≡ 1 → ContractedPost tb w w' limit h.at room r → RedexPost tb ts w w' limit h room r
   unfolding size Scoped left
   contracted_redex one C = record {
     prepared = C.prepared;
-    made = λ l m {ls} B k e {start} {rest} K z s a u H n. go l m B k e K z s a u n H;
+    made = λ l m B k e K z s a u H. go l m B k e K z s a u H;
   }
     where
       go : work_units * limit ≤ length w → room ≤ limit → {ls : Lines} → Book ls limit tb ts → (k : ℕ) (e : Expr) {start : ℕ} {rest : List ℕ} → KnownCategory ls k e → k ≤ largest_limit
-          → size e ≤ limit → At w start (cells e) rest → start + limit ≤ unit_at limit scratch_unit → (h.kind ≡ 0 → ⊥)
-          → HeadIs ls start h.kind h.at h.kept h.line e → Redex ls (unit_at limit result_unit) room e h.kept r w'
-      go l m B k e K z s a u n (no_head q o) = absurd (n o)
-      go l m B k e K z s a u n (unfolding_of fs xs q x y i g t o p d) = absurd (omega arith)
-      go l m {ls} B k e K z s a u n (contraction fs x p t q i o d f) =
+          → size e ≤ limit → At w start (cells e) rest → start + limit ≤ unit_at limit scratch_unit
+          → HeadIs ls start (kind_of h.step) h.at h.kept (line_of h.step) e → Redex ls (unit_at limit result_unit) room e h.kept (size_in r) w'
+      go l m B k e K z s a u (no_head q o) = absurd (stepping h.step o)
+      go l m B k e K z s a u (unfolding_of fs xs q x y i g t o p d) = absurd (omega arith)
+      go l m {ls} B k e K z s a u (contraction fs x p t q i o d f) =
           let W = known_redex ls k fs (app x (abs p t)) q (ap left i) K in
           let S = redex_size fs (app x (abs p t)) q in
           record {
@@ -82,45 +91,50 @@ module _ {tb ts w w' : List ℕ} {limit : ℕ} (h : Head) {room r : ℕ} where
                 (scoped_category (VariableLine ls) (ConstantOf ls) k (app x (abs p t)) W)) z (omega (arith, B.limit)) (omega (arith, B.limit)));
           }
 
-  pub unfolded_redex : (h.kind ≡ 1 → ⊥) → UnfoldedPost tb ts w w' limit h.at h.line room r → RedexPost tb ts w w' limit h room r
+  pub unfolded_redex : {line : ℕ} → h.step ≡ Unfolding line → UnfoldedPost tb ts w w' limit h.at line room r → RedexPost tb ts w w' limit h room r
   unfolding left
-  unfolded_redex two U = record {
+  unfolded_redex two V = record {
     prepared = U.prepared;
-    made = λ l m {ls} B k e {start} {rest} K z s a u H n. go l m B k e K z s a u n H;
+    made = λ l m B k e K z s a u H. go l m B k e K z s a u H;
   }
     where
+      U : UnfoldedPost tb ts w w' limit h.at (line_of h.step) room r
+      U = rw (ap line_of two) V
+
       go : work_units * limit ≤ length w → room ≤ limit → {ls : Lines} → Book ls limit tb ts → (k : ℕ) (e : Expr) {start : ℕ} {rest : List ℕ} → KnownCategory ls k e → k ≤ largest_limit
-          → size e ≤ limit → At w start (cells e) rest → start + limit ≤ unit_at limit scratch_unit → (h.kind ≡ 0 → ⊥)
-          → HeadIs ls start h.kind h.at h.kept h.line e → Redex ls (unit_at limit result_unit) room e h.kept r w'
-      go l m B k e K z s a u n (no_head q o) = absurd (n o)
-      go l m B k e K z s a u n (contraction fs x p t q i o d f) = absurd (two o)
-      go l m {ls} B k e K z s a u n (unfolding_of fs xs line x q j g i o d f) =
-          let W = known_redex ls k fs (const h.line xs) q (ap left i) K in
-          let S = redex_size fs (const h.line xs) q in
+          → size e ≤ limit → At w start (cells e) rest → start + limit ≤ unit_at limit scratch_unit
+          → HeadIs ls start (kind_of h.step) h.at h.kept (line_of h.step) e → Redex ls (unit_at limit result_unit) room e h.kept (size_in r) w'
+      go l m B k e K z s a u (no_head q o) = absurd (stepping h.step o)
+      go l m B k e K z s a u (contraction fs x p t q i o d f) = absurd (omega (arith, ap kind_of two))
+      go l m {ls} B k e K z s a u (unfolding_of fs xs line x q j g i o d f) =
+          let W = known_redex ls k fs (const (line_of h.step) xs) q (ap left i) K in
+          let S = redex_size fs (const (line_of h.step) xs) q in
           record {
             fs = fs;
-            old = const h.line xs;
+            old = const (line_of h.step) xs;
             made = instantiate line.context xs 0 x;
             was = q;
             becomes = ap left i;
             keeps = f;
-            stands = U.made l m B k xs j g W z (redex_at fs (const h.line xs) q d a) (omega arith) (omega arith);
+            stands = U.made l m B k xs j g W z (redex_at fs (const (line_of h.step) xs) q d a) (omega arith) (omega arith);
           }
 
 -- an abbreviation that takes no arguments, in place
-pub in_place_redex : {tb ts w w' : List ℕ} {limit : ℕ} (h : Head) {room r : ℕ} → h.kind ≡ 2 → row_cell tb h.line at_context ≡ 0 → room ≡ limit - h.kept
-    → InPlacePost tb ts w w' h.at h.line room r → work_units * limit ≤ length w → {ls : Lines} → Book ls limit tb ts → (e : Expr) {start : ℕ}
-    → start + limit ≤ unit_at limit scratch_unit → h.kept ≤ limit → HeadIs ls start h.kind h.at h.kept h.line e → Redex ls h.at room e h.kept r w'
+pub in_place_redex : {tb ts w w' : List ℕ} {limit : ℕ} (h : Head) {room : ℕ} {r : Option ℕ} {line : ℕ} → h.step ≡ Unfolding line → row_cell tb line at_context ≡ 0 → room ≡ limit - h.kept
+    → InPlacePost tb ts w w' h.at line room r → work_units * limit ≤ length w → {ls : Lines} → Book ls limit tb ts → (e : Expr) {start : ℕ}
+    → start + limit ≤ unit_at limit scratch_unit → h.kept ≤ limit → HeadIs ls start (kind_of h.step) h.at h.kept (line_of h.step) e → Redex ls h.at room e h.kept (size_in r) w'
 unfolding left
-in_place_redex h two none free U l B e u s (no_head q o) = absurd (omega arith)
-in_place_redex h two none free U l B e u s (contraction fs x p t q i o d f) = absurd (omega arith)
-in_place_redex {limit = limit} h two none free U l B e u s (unfolding_of fs xs line x q j g i o d f) =
+in_place_redex h is empty free U l B e u s (no_head q o) = absurd (omega (arith, ap kind_of is))
+in_place_redex h is empty free U l B e u s (contraction fs x p t q i o d f) = absurd (omega (arith, ap kind_of is))
+in_place_redex {tb} {ts} {w} {w'} {limit = limit} h {room} {r} {line} is empty free V long B e u s (unfolding_of fs xs l x q j g i o d f) =
+    let U : InPlacePost tb ts w w' h.at (line_of h.step) room r = rw (ap line_of is) V in
+    let none : row_cell tb (line_of h.step) at_context ≡ 0 = rw (ap line_of is) empty in
     let E = result_inside limit in
     let S = scratch_below_result limit in
-    let n : instantiate line.context xs 0 x ≡ x = instantiate_empty line.context xs 0 x (sym (B.rows.row j).context_is ∙ none) in
+    let n : instantiate l.context xs 0 x ≡ x = instantiate_empty l.context xs 0 x (sym (B.rows.row j).context_is ∙ none) in
     record {
       fs = fs;
-      old = const h.line xs;
+      old = const (line_of h.step) xs;
       made = x;
       was = q;
       becomes = ap left i ∙ ap (λ (y : Expr). some (applied fs y)) n;
@@ -150,8 +164,7 @@ lies_applied {w} {w'} {start} {at} {rest = rest} e fs old next q p a o z = recor
 module _ {limit kept room : ℕ} (small : limit ≤ largest_limit) (within : kept ≤ limit) (free : room ≡ limit - kept) {ls : Lines} {place m : ℕ} {e : Expr} {w₁ : List ℕ}
     (X : Redex ls place room e kept m w₁) where
   -- the redex has more cells than the room: the expression has more than the limit
-  stepped_refused : {start : ℕ} → room < m → Stepped ls limit start e cell_values w₁
-  unfolding no_room
+  stepped_refused : {start : ℕ} → room < m → Stepped ls limit start e None w₁
   stepped_refused g = record {
     next = applied X.fs X.made;
     is = X.becomes;
@@ -162,7 +175,7 @@ module _ {limit kept room : ℕ} (small : limit ≤ largest_limit) (within : kep
   }
 
   stepped_made : {start : ℕ} {w₂ : List ℕ} → m ≤ room → (m ≡ size X.made → Lies w₁ place X.made → Lies w₂ start (applied X.fs X.made))
-      → Stepped ls limit start e (kept + m) w₂
+      → Stepped ls limit start e (Some (kept + m)) w₂
   unfolding no_room
   stepped_made g lies =
       let S = size_applied X.fs X.made in
@@ -172,45 +185,37 @@ module _ {limit kept room : ℕ} (small : limit ≤ largest_limit) (within : kep
         fits = λ d.
             let o : size X.made ≤ room = omega (arith, X.keeps) in
             let y = X.stands.fits o in
-            (omega (arith, y.0, X.keeps), lies y.0 y.1);
+            let n : kept + m ≡ size (applied X.fs X.made) = omega (arith, y.0, X.keeps) in
+            (ap Some n, lies y.0 y.1);
         large = λ d.
             let o : room < size X.made = omega (arith, X.keeps) in
             absurd (omega (arith, X.stands.large o));
       }
 
 module _ {tb ts w : List ℕ} {limit : ℕ} {h : Head} where
-  pub step_no_limit : largest_limit < limit → StepPost tb ts w w limit h cell_values
-  unfolding no_room
-  step_no_limit g = record {
+  -- no unit, or no place for the redex
+  pub step_none : (limit ≤ largest_limit → limit < h.kept) → StepPost tb ts w w limit h None
+  step_none g = record {
     framed = framed_same;
     refused = λ e. framed_same;
-    answers = inr refl;
-    made = λ l B k e K z s a u H n. absurd (omega (arith, B.limit));
-  }
-
-  pub step_no_place : limit < h.kept → StepPost tb ts w w limit h cell_values
-  unfolding no_room
-  step_no_place g = record {
-    framed = framed_same;
-    refused = λ e. framed_same;
-    answers = inr refl;
-    made = λ l B k e K z s a u H n. absurd (omega (arith, (head_placed H n).1));
+    within = tt;
+    made = λ l B k e K z s a u H. absurd (omega (arith, g B.limit, (head_placed H (stepping h.step)).1));
   }
 
   -- the redex is made in the result unit
-  module _ {w₁ : List ℕ} {room m : ℕ} (small : limit ≤ largest_limit) (kept : h.kept ≤ limit) (free : room ≡ limit - h.kept) (R : RedexPost tb ts w w₁ limit h room m) where
+  module _ {w₁ : List ℕ} {room : ℕ} (small : limit ≤ largest_limit) (kept : h.kept ≤ limit) (free : room ≡ limit - h.kept) where
     -- it has more cells than the room
-    pub step_refused : room < m → StepPost tb ts w w₁ limit h cell_values
+    pub step_refused : RedexPost tb ts w w₁ limit h room None → StepPost tb ts w w₁ limit h None
     unfolding no_room
-    step_refused g = record {
+    step_refused R = record {
       framed = quiet_framed R.prepared.quiet;
       refused = λ e. R.prepared.quiet;
-      answers = inr refl;
-      made = λ l B k e K z s a u H n. stepped_refused small kept free (R.made l (omega arith) B k e K z s a u H n) g;
+      within = tt;
+      made = λ l B k e K z s a u H. stepped_refused small kept free (R.made l (omega arith) B k e K z s a u H) (omega arith);
     }
 
     -- it is moved in place
-    module _ {w₂ : List ℕ} {result : ℕ} (at-result : result ≡ unit_at limit result_unit) (fits : m ≤ room) (moved : w₂ ≡ move_cells w₁ result m h.at) where
+    module _ {w₂ : List ℕ} {m result : ℕ} (R : RedexPost tb ts w w₁ limit h room (Some m)) (at-result : result ≡ unit_at limit result_unit) (moved : w₂ ≡ move_cells w₁ result m h.at) where
       move_there : Outside h.at (h.at + m) w₁ w₂
       move_there = subst (λ (l : List ℕ). Outside h.at (h.at + m) w₁ l) (sym moved) (move_outside w₁ result m h.at)
 
@@ -231,39 +236,37 @@ module _ {tb ts w : List ℕ} {limit : ℕ} {h : Head} where
               subst (λ (l : List ℕ). At l h.at (cells next) (drop (h.at + length (cells next)) w₁))
               (sym (moved ∙ ap (λ (k : ℕ). move_cells w₁ result k h.at) n))
               (move_at w₁ result h.at (subst (λ (i : ℕ). At w₁ i (cells next) z.rest) (sym at-result) z.at)
-              (omega (arith, R.prepared.quiet.long)) (omega (arith, R.prepared.quiet.long)) (inl (omega arith)))
+              (omega (arith, R.prepared.quiet.long, R.prepared.within)) (omega (arith, R.prepared.quiet.long, R.prepared.within)) (inl (omega arith)))
 
-      pub step_made : StepPost tb ts w w₂ limit h (h.kept + m)
-      unfolding no_room
+      pub step_made : StepPost tb ts w w₂ limit h (Some (h.kept + m))
       step_made = record {
-        framed = framed_then (quiet_framed R.prepared.quiet) (framed_more (omega arith) (omega arith) (omega arith) (outside_framed {top = unit_at limit scratch_unit} move_there));
-        refused = λ e. absurd (omega arith);
-        answers = inl (omega arith);
-        made = λ l B k e K z s a u H n.
-            let X = R.made l (omega arith) B k e K z s a u H n in
-            stepped_made small kept free X fits (moved_lies e l u a s (head_placed H n).0 X.fs X.old X.made X.was X.keeps);
+        framed = framed_then (quiet_framed R.prepared.quiet) (framed_more (omega arith) (omega arith) (omega (arith, R.prepared.within)) (outside_framed {top = unit_at limit scratch_unit} move_there));
+        refused = λ e. absurd (cc);
+        within = omega (arith, R.prepared.within);
+        made = λ l B k e K z s a u H.
+            let X = R.made l (omega arith) B k e K z s a u H in
+            stepped_made small kept free X R.prepared.within (moved_lies e l u a s (head_placed H (stepping h.step)).0 X.fs X.old X.made X.was X.keeps);
       }
 
   -- the redex is an abbreviation without arguments, and its middle is put in its place
-  module _ {w₁ : List ℕ} {room m : ℕ} (small : limit ≤ largest_limit) (kept : h.kept ≤ limit) (free : room ≡ limit - h.kept) (two : h.kind ≡ 2)
-      (none : row_cell tb h.line at_context ≡ 0) (U : InPlacePost tb ts w w₁ h.at h.line room m) where
-    pub in_place_refused : room < m → StepPost tb ts w w₁ limit h cell_values
+  module _ {w₁ : List ℕ} {room : ℕ} (small : limit ≤ largest_limit) (kept : h.kept ≤ limit) (free : room ≡ limit - h.kept) {line : ℕ} (is : h.step ≡ Unfolding line)
+      (empty : row_cell tb line at_context ≡ 0) where
+    pub in_place_refused : InPlacePost tb ts w w₁ h.at line room None → StepPost tb ts w w₁ limit h None
     unfolding no_room
-    in_place_refused g = record {
-      framed = rw (U.refused g) framed_same;
-      refused = λ e. rw (U.refused g) framed_same;
-      answers = inr refl;
-      made = λ l B k e K z s a u H n. stepped_refused small kept free (in_place_redex h two none free U l B e u kept H) g;
+    in_place_refused U = record {
+      framed = rw (U.refused refl) framed_same;
+      refused = λ e. rw (U.refused refl) framed_same;
+      within = tt;
+      made = λ l B k e K z s a u H. stepped_refused small kept free (in_place_redex h is empty free U l B e u kept H) (omega arith);
     }
 
-    pub in_place_made : m ≤ room → StepPost tb ts w w₁ limit h (h.kept + m)
-    unfolding no_room
-    in_place_made g = record {
+    pub in_place_made : {m : ℕ} → InPlacePost tb ts w w₁ h.at line room (Some m) → StepPost tb ts w w₁ limit h (Some (h.kept + m))
+    in_place_made {m} U = record {
       framed = framed_more (omega arith) (omega arith) (omega arith) (outside_framed {top = unit_at limit scratch_unit} U.outside);
-      refused = λ e. absurd (omega arith);
-      answers = inl (omega arith);
-      made = λ l B k e K z s a u H n.
-          let X = in_place_redex h two none free U l B e u kept H in
-          stepped_made small kept free X g λ d y.
-          lies_applied e X.fs X.old X.made X.was (omega (arith, (head_placed H n).0, X.keeps)) a U.outside y;
+      refused = λ e. absurd (cc);
+      within = omega (arith, U.within);
+      made = λ l B k e K z s a u H.
+          let X = in_place_redex h is empty free U l B e u kept H in
+          stepped_made small kept free X U.within λ d y.
+          lies_applied e X.fs X.old X.made X.was (omega (arith, (head_placed H (stepping h.step)).0, X.keeps)) a U.outside y;
     }

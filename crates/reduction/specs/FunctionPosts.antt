@@ -1,5 +1,6 @@
 -- What head steps until an abstraction leave.
-use Rattle.std.specs.Prelude.{◌≡◌, List, ℕ, ◌+◌, ◌*◌, ◌≤◌, ◌<◌, length, get_or}
+use Rattle.std.specs.Prelude.{◌≡◌, List, ℕ, ◌+◌, ◌*◌, ◌≤◌, ◌<◌, length, get_or, Ok, Err}
+use Rattle.std.specs.Prelude as Code
 use Rattle.aut68.specs.Sizes.{largest_limit, work_units}
 use Rattle.aut68.specs.Expr.{Expr, abs, size, cells}
 use Rattle.aut68.specs.Lines.{Lines}
@@ -12,6 +13,7 @@ use Rattle.cells.specs.Cells.{At}
 use Rattle.cells.specs.Layout.{unit_at, scratch_unit}
 use Rattle.cells.specs.Posts.{Skipped}
 use Rattle.cells.specs.Results.{Result}
+use Rattle.constants.specs.declared.codes.Reason.{Reason}
 use Rattle.heads.specs.Book.{Book}
 use Rattle.reduction.specs.Frames.{Framed, Lies}
 use Rattle.reduction.specs.declared.functions.Shape.{Shape}
@@ -34,6 +36,11 @@ pub record FormPost (tb ts w w' : List ℕ) (limit budget at n code size' budget
   pub is : work_units * limit ≤ length w → {ls : Lines} → Book ls limit tb ts → (k : ℕ) (c : Expr) {rest : List ℕ} → KnownCategory ls k c → k ≤ largest_limit
       → size c ≤ limit → n ≡ size c → at + limit ≤ unit_at limit scratch_unit → At w at (cells c) rest → FormIs ls limit k at c budget w' code size' budget'
 
+-- the function of an answer that is one
+abbrev pub function_in : Code.Result Function Reason → Function
+function_in (Ok f) = f
+function_in (Err r) = record { size = 0; domain = 0; body = 0 }
+
 -- the abstraction f lies at `at`, of r.size cells, its domain and its body where r says
 pub record FunctionAt (ls : Lines) (limit k at : ℕ) (w' : List ℕ) (r : Function) (f : Category.Function) : Type 0 where
   pub known : KnownCategory ls k (abs f.domain f.body)
@@ -43,9 +50,9 @@ pub record FunctionAt (ls : Lines) (limit k at : ℕ) (w' : List ℕ) (r : Funct
   pub domain_at : r.domain ≡ at + 1
   pub body_at : r.body ≡ at + 1 + size f.domain
 
-pub record FunctionPost (tb ts w w' : List ℕ) (limit budget at n : ℕ) (r : Function) : Type 0 where
+pub record FunctionPost (tb ts w w' : List ℕ) (limit budget at n code : ℕ) (r : Function) (budget' : ℕ) : Type 0 where
   -- below the scratch unit nothing outside the expression's unit is changed
   pub framed : Framed (unit_at limit scratch_unit) at (at + limit) w w'
   pub is : work_units * limit ≤ length w → {ls : Lines} → Book ls limit tb ts → (k : ℕ) (c : Expr) {rest : List ℕ} → KnownCategory ls k c → k ≤ largest_limit
       → size c ≤ limit → n ≡ size c → at + limit ≤ unit_at limit scratch_unit → At w at (cells c) rest
-      → Result (FunctionAt ls limit k at w' r) r.code r.budget (to_function ls limit c budget)
+      → Result (FunctionAt ls limit k at w' r) code budget' (to_function ls limit c budget)

@@ -6,7 +6,8 @@ use Rattle.reduction.proofs.FormLaws.{Reducing}
 use Rattle.reduction.proofs.functions.head_form.Given as goal
 
 abbrev pub invariant-loop-h : goal.invariant-loop-h
-invariant-loop-h l = Framed (unit_at l.limit scratch_unit) l.at (l.at + l.limit) l.initial.w l.w × Reducing l.table l.terms l.initial.w l.w l.limit l.budget l.at l.size l.n l.rest
+invariant-loop-h l = Framed (unit_at l.limit scratch_unit) l.at (l.at + l.limit) l.initial.w l.w
+    × Reducing l.table l.terms l.initial.w l.w l.limit l.initial.budget l.at l.size l.n l.budget
 
 abbrev pub decreases-loop-h : goal.decreases-loop-h
-decreases-loop-h l = l.rest
+decreases-loop-h l = l.budget

@@ -4,7 +4,4 @@ use Rattle.reduction.proofs.ArgumentLaws.{Listed}
 use Rattle.reduction.proofs.steps.arguments_at.Given as goal
 
 abbrev pub invariant-loop-i : goal.invariant-loop-i
-invariant-loop-i l = Listed l.table l.w l.at l.count l.initial.starts l.starts l.i l.next
-
-abbrev pub decreases-loop-i : goal.decreases-loop-i
-decreases-loop-i l = 63 - l.i
+invariant-loop-i l = Listed l.table l.w l.at l.count l.initial.starts l.starts (l.i - 1) l.next

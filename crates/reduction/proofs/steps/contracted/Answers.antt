@@ -11,4 +11,4 @@ returns-then-f-w c = contracted_no_function c.skip-f.ensures (omega arith)
 
 pub returns : goal.returns
 returns c =
-    contracted_law (c.result_at-result.ensures (omega arith)) c.skip-f.ensures c.skip-t.ensures c.substitute.ensures
+    contracted_law (c.result_at.ensures (omega arith)) c.skip-f.ensures c.skip-t.ensures c.substitute.ensures

@@ -10,4 +10,4 @@ returns-then-at-w c = unfolded_none (omega arith)
 pub returns : goal.returns
 returns c =
     unfolded_law (omega arith) c.field-from.ensures.0 c.field-count.ensures.0 refl refl c.arguments_at.ensures
-    (c.result_at-result.ensures (omega arith)) c.instantiate.ensures
+    (c.result_at.ensures (omega arith)) c.instantiate.ensures
