@@ -10,6 +10,7 @@ use native.Mathlib.Omega.{arith}
 use lib.Dec.{eqb}
 use lib.ListN.{length, get_or}
 use borrow.Author.Tests.{eq-eqb, ne_eqb, eqb-true}
+use Rattle.std.specs.Prelude as Prelude
 use Rattle.aut68.specs.Bytes.{Bytes, same_bytes}
 use Rattle.aut68.specs.Lines.{Line, Lines, number_in, part_of, row_cell}
 use Rattle.aut68.specs.Rules.Names.{IsLine, LineIn}
@@ -19,6 +20,7 @@ use Rattle.lookup.specs.SameBytes.{same_true, same_refl}
 use Rattle.lookup.specs.Tests.{and_true}
 use Rattle.lookup.specs.Identifiers.{line_in_sound, line_in_none, line_in_unique}
 use Rattle.cells.specs.Links.{link_factor, link_of, row_unlinked, length_unlinked}
+use Rattle.names.specs.Search.{Gives, gives_so}
 use Rattle.names.specs.Known.{Known}
 use Rattle.names.specs.Chains.{Searching, Found}
 use Rattle.names.specs.Chains as Chains
@@ -108,3 +110,8 @@ module _ {book tb : List ℕ} {lines : ℕ} {w : List ℕ} {word : Bytes} {h : �
           absurd (f.fails g z u (line_positive i.is_line) (omega (arith, line_within i.is_line, k.count)) (line_has k i))
       number ls k g (some u) e (no n) =
           line_in_unique k.distinct (line_passes k (omega arith) f.within (f.passes g n)) (line_in_sound e)
+
+pub gives_line : (book tb : List ℕ) (lines : ℕ) (w : List ℕ) (word : Bytes) (h q : ℕ) (r : Prelude.Option ℕ) → Gives (Found (Asked book tb lines w word h) (line_is book tb word q) lines) r
+    → Gives (LineFound book tb lines w word h q) r
+gives_line book tb lines w word h q =
+    gives_so (Found (Asked book tb lines w word h) (line_is book tb word q) lines) (LineFound book tb lines w word h q) (λ r f. line_found f)

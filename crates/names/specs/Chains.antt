@@ -1,8 +1,9 @@
 -- Chains of numbered items. Each item, from 1 on, belongs in a slot: the slot has the number of its last item, and an item links to
 -- the one before it there. 0: none.
-use Rattle.std.specs.Prelude.{◌≡◌, refl, ◌≢◌, Bool, true, false, ℕ, suc, ◌≤◌, ◌<◌, leb}
+use Rattle.std.specs.Prelude.{Option, Some, None, ◌≡◌, refl, ◌≢◌, Bool, true, false, ℕ, suc, ◌≤◌, ◌<◌, leb}
 use Rattle.std.proofs.Common.{sym, ap, ◌∙◌, subst, true≢false, arith, leb-true, leb-false}
 use Rattle.std.proofs.Math.Decide.{ℕ_discrete}
+use Rattle.names.specs.Search.{Gives}
 
 -- the chain from item u on comes to item v
 pub data Chained (link : ℕ → ℕ) (v : ℕ) : ℕ → Type 0 where
@@ -141,3 +142,23 @@ module _ {G : Type 0} {is : ℕ → Bool} {link : ℕ → ℕ} {items v : ℕ} (
       onward : (u : ℕ) → is u ≡ true → is v ≡ false → Chained link u v → Chained link u (link v)
       onward u p q (here r) = absurd (true≢false (sym p ∙ ap is (sym r) ∙ q))
       onward u p q (later m c) = c
+
+-- ---- how a search goes
+
+-- From item v down to what it gives: what the test may say of an item, and which item it may be linked to.
+pub data WentDown (passes : ℕ → Bool → Type 0) (links : ℕ → ℕ → Type 0) (items : ℕ) : ℕ → Option ℕ → Type 0 where
+  ended : {v : ℕ} → v ≡ 0 → WentDown passes links items v None
+  outside : {v : ℕ} → items < v → WentDown passes links items v None
+  passed : {v : ℕ} → v ≢ 0 → v ≤ items → passes v true → WentDown passes links items v (Some v)
+  upward : {v next : ℕ} → v ≢ 0 → v ≤ items → passes v false → links v next → v ≤ next → WentDown passes links items v None
+  onward : {v next : ℕ} {r : Option ℕ} → v ≢ 0 → v ≤ items → passes v false → links v next → next < v → WentDown passes links items next r → WentDown passes links items v r
+
+-- What it gives is found, where the test and the links are those of the search.
+module _ {G : Type 0} {is : ℕ → Bool} {link : ℕ → ℕ} {passes : ℕ → Bool → Type 0} {links : ℕ → ℕ → Type 0} {items : ℕ}
+    (tests : (u : ℕ) → 1 ≤ u → u ≤ items → (t : Bool) → passes u t → G → t ≡ is u) (linked : (u : ℕ) → 1 ≤ u → u ≤ items → (n : ℕ) → links u n → n ≡ link u) where
+  pub down_finds : {v : ℕ} {r : Option ℕ} → Searching G is link items v → WentDown passes links items v r → Gives (Found G is items) r
+  down_finds s (ended e) = found_nothing s e
+  down_finds s (outside l) = found_outside s l
+  down_finds s (passed n b p) = (omega arith, found_here n b (tests _ (omega arith) b _ p) refl)
+  down_finds s (upward n b p l u) = found_upward s n (linked _ (omega arith) b _ l) u
+  down_finds s (onward n b p l d w) = down_finds (search_on s (tests _ (omega arith) b _ p) refl (linked _ (omega arith) b _ l) d) w

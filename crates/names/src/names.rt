@@ -2,11 +2,13 @@
 ghost use Rattle.std.specs.Prelude.{◌≡◌, ◌≤◌, length};
 ghost use Rattle.aut68.specs.Lines.{identifier_part, part_of};
 ghost use Rattle.aut68.specs.Bytes.{same_bytes};
+ghost use Rattle.cells.specs.Links.{link_of};
 ghost use Rattle.names.specs.Known.{PartLent, identifier_start, IdentifierPlaced};
 ghost use Rattle.names.specs.Hints.{line_is};
 ghost use Rattle.names.specs.Search.{Gives};
 ghost use Rattle.names.specs.Posts.{LineFound};
 
+use crate::chains::search;
 use crate::hints::{LINK_FACTOR, head};
 use cells::field;
 use constants::{Cell, NAME_LENGTH, NAME_START, PARAGRAPH, ROW_WIDTH};
@@ -35,6 +37,13 @@ fn line_is(book: &[u8], table: &[u32], v: usize, word: &[u8], q: usize) -> bool
     part_is(book, start, size % LINK_FACTOR, word)
 }
 
+// The line that the row of line v links to.
+fn link_of(table: &[u32], v: usize) -> usize
+    ensures { result ≡ link_of table.now v }
+{
+    field(table, v, NAME_LENGTH) / LINK_FACTOR
+}
+
 // The line, of the first `lines` of the table, whose identifier is the word, of the hash h, and whose paragraph is q (numberIn), by
 // the hints in w.
 pub fn find(
@@ -48,21 +57,12 @@ pub fn find(
 ) -> Option<usize>
     ensures { Gives (LineFound book.now table.now lines w.now word.now h q) result }
 {
-    let mut v = head(w, h, q);
-    while v != 0 {
-        if v > lines {
-            return None;
-        }
-        if line_is(book, table, v, word, q) {
-            return Some(v);
-        }
-        let next = field(table, v, NAME_LENGTH) / LINK_FACTOR;
-        if next >= v {
-            return None;
-        }
-        v = next;
-    }
-    None
+    search(
+        head(w, h, q),
+        lines,
+        |v| line_is(book, table, v, word, q),
+        |v| link_of(table, v),
+    )
 }
 
 // A part of the book: its first byte, and how many it has.
