@@ -6,7 +6,8 @@ use Prim.Native.Nat.{ℕ, ◌+◌, ◌-◌, ◌≤◌}
 use native.Mathlib.Omega.{arith}
 use native.Mathlib.Numerals.{add-one}
 use lib.Dec.{eqb}
-use lib.ListN.{take, drop}
+use lib.ListN.{length, take, drop}
+use mathlib.Core.List.{[], ◌∷◌}
 use lib.Seq.{slice, slice_empty}
 use borrow.Author.Tests.{eqb-true, eqb-false, eq-eqb, ne_eqb}
 use Rattle.aut68.specs.Bytes.{Bytes, name_byte, same_bytes}
@@ -36,10 +37,19 @@ title_read {ks} {s} {start} {len} h t = part s start (start + len) (omega arith)
         ap (λ n. slice start n s) j ∙ slice_empty start s ∙ sym (ap name_read m)
     go false e = let (rest, m) = h.read t 43 plus plus_kind (eqb-false len 0 e) in sym (ap name_read m)
 
+-- a line that is malformed has the empty title
+pub title_missing : {ks s : Bytes} → SignRead ks s 15 0 0 → KindsTable ks → (word : Bytes) → eqb (length word) 0 ≡ same_bytes word (title_of s)
+unfolding same_bytes
+title_missing {ks} {s} h t word = empty word ∙ ap (same_bytes word) (title_read h t)
+  where
+    empty : (word : Bytes) → eqb (length word) 0 ≡ same_bytes word []
+    empty [] = refl
+    empty (x ∷ xs) = ne_eqb (length (x ∷ xs)) 0 (λ e. omega arith)
+
 module _ {ks s word : Bytes} {deep count k : ℕ} (h : SignOf ks s k) where
   -- a line that opens a paragraph: the one sought, or one of another name or inside another
   pub passed_opening : {found : Bool} → k ≡ 15 → (deep ≡ 0 → KindsTable ks → found ≡ same_bytes word (title_of s)) → (deep ≢ 0 → found ≡ false)
-      → LinePassed ks s word deep count (record { deep = deep + 1; count = count + 1; found = found })
+      → LinePassed ks s word deep count (deep + 1) (count + 1) found
   passed_opening {found} e here elsewhere =
       record {
         shallow = omega arith;
@@ -54,7 +64,7 @@ module _ {ks s word : Bytes} {deep count k : ℕ} (h : SignOf ks s k) where
       at t false i = elsewhere (eqb-false deep 0 i)
 
   -- any other line
-  pub passed_other : {d : ℕ} → k ≢ 15 → d ≤ deep → (k ≡ 16 → d ≡ deep - 1) → (k ≢ 16 → d ≡ deep) → LinePassed ks s word deep count (record { deep = d; count = count; found = false })
+  pub passed_other : {d : ℕ} → k ≢ 15 → d ≤ deep → (k ≡ 16 → d ≡ deep - 1) → (k ≢ 16 → d ≡ deep) → LinePassed ks s word deep count d count false
   passed_other {d} n l closing ordinary =
       record {
         shallow = omega arith;

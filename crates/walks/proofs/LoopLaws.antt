@@ -13,7 +13,6 @@ use Rattle.kinds.specs.Kinds.{KindsTable}
 use Rattle.reading.specs.Pieces.{lines_joined}
 use Rattle.headings.specs.Posts.{LineEnd}
 use Rattle.names.specs.Posts.{number_or}
-use Rattle.walks.specs.declared.Step.{Step}
 use Rattle.walks.specs.Walk.{deep_behind, count_behind, opens_here, child_from}
 use Rattle.walks.specs.WalkLaws.{count_opening, opens_nothing}
 use Rattle.walks.specs.Posts.{LinePassed, Walked}
@@ -101,7 +100,7 @@ module _ {ks book word : Bytes} {from to q at deep count : ℕ} (h : WalkSoFar k
             sym (ap (number_or 0) (g ∙ ap (child_from word deep count) i));
       }
 
-  module _ (before : at < to) (within : at < length book) {end : ℕ} (e : LineEnd book at end) {r : Step} (p : LinePassed ks (take (end - at) (drop at book)) word deep count r) where
+  module _ (before : at < to) (within : at < length book) {end : ℕ} (e : LineEnd book at end) {d n : ℕ} {found : Bool} (p : LinePassed ks (take (end - at) (drop at book)) word deep count d n found) where
     line : Bytes
     line = take (end - at) (drop at book)
 
@@ -110,19 +109,19 @@ module _ {ks book word : Bytes} {from to q at deep count : ℕ} (h : WalkSoFar k
     unfolding line
     first rest f = first_piece (drop at book) (drop to book) rest f (omega (arith, length-drop at book, length-drop to book)) (e.is within)
 
-    pub so_far_line : r.found ≡ false → WalkSoFar ks book from to q word end r.deep r.count
+    pub so_far_line : found ≡ false → WalkSoFar ks book from to q word end d n
     unfolding line
-    so_far_line n =
+    so_far_line other =
         record {
           shallow = omega (arith, h.shallow, p.shallow, e.from within);
           few = omega (arith, h.few, p.few, e.from within);
           left = λ t pieces i.
               let (rest, f, g) = h.left t pieces i in
               let (more, j, k) = first rest f in
-              (more, k, g ∙ ap (child_from word deep count) j ∙ child_later word line deep count more (sym (p.found_is t) ∙ n) ∙ sym (λ z. child_from word (p.deep_is t z) (p.count_is t z) more));
+              (more, k, g ∙ ap (child_from word deep count) j ∙ child_later word line deep count more (sym (p.found_is t) ∙ other) ∙ sym (λ z. child_from word (p.deep_is t z) (p.count_is t z) more));
         }
 
-    pub so_far_found : r.found ≡ true → Walked ks book from to q word r.count
+    pub so_far_found : found ≡ true → Walked ks book from to q word n
     unfolding line number_or
     so_far_found y =
         record {

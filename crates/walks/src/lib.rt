@@ -5,88 +5,89 @@
 ghost use Rattle.std.specs.Prelude.{◌≡◌, ◌+◌, ◌^◌, ◌<◌};
 ghost use Rattle.aut68.specs.Bytes.{same_bytes};
 ghost use Rattle.kinds.specs.Kinds.{KindsTable};
+ghost use Rattle.names.specs.Search.{Gives};
 ghost use Rattle.walks.specs.Walk.{title_of};
-ghost use Rattle.walks.specs.Posts.{LinePassed, Walked};
+ghost use Rattle.walks.specs.Posts.{StepPassed, Walked};
 
 use constants::CELL_VALUES;
-use headings::{line_end, sign_line, sign_of};
-use kinds::{MINUS, PLUS};
+use headings::{Sign, line_end, sign_line, sign_of};
 use symbols::same_bytes;
 
 // Is the word the name of the paragraph that the line opens (title_of)?
 fn titled(line: &[u8], kinds: &[u8; 256], word: &[u8]) -> bool
     ensures { KindsTable kinds.now → result ≡ same_bytes word.now (title_of line.now) }
 {
-    let name = sign_line(line, kinds, PLUS);
-    let start = name.start;
-    let end = start + name.len;
-    same_bytes(word, &line[start..end])
+    match sign_line(line, kinds, Sign::Opens) {
+        Some(name) => same_bytes(word, &line[name.start..name.start + name.len]),
+        None => word.is_empty(),
+    }
 }
 
-// Behind a line: how many of the paragraphs opened on the way are open, how many the book has, and whether the last is the one sought.
+// Behind a line: the number of the paragraph sought, if the line opens it; else how many of the paragraphs opened on the way are open,
+// and how many the book has.
 #[derive(Clone, Copy)]
-struct Step {
-    deep: usize,
-    count: usize,
-    found: bool,
+enum Step {
+    Found(usize),
+    Further { deep: usize, count: usize },
 }
 
 // One line further.
 fn pass(line: &[u8], kinds: &[u8; 256], word: &[u8], deep: usize, count: usize) -> Step
     requires { (deep + 1 < 2 ^ 64) × (count + 1 < 2 ^ 64) }
-    ensures { LinePassed kinds.now line.now word.now deep count result }
+    ensures { StepPassed kinds.now line.now word.now deep count result }
 {
-    let k = sign_of(line, kinds);
-    if k == PLUS {
-        let mut found = false;
-        if deep == 0 {
-            found = titled(line, kinds, word);
+    match sign_of(line, kinds) {
+        Some(Sign::Opens) => {
+            if deep == 0 && titled(line, kinds, word) {
+                return Step::Found(count + 1);
+            }
+            Step::Further {
+                deep: deep + 1,
+                count: count + 1,
+            }
         }
-        return Step {
-            deep: deep + 1,
-            count: count + 1,
-            found: found,
-        };
-    }
-    if k == MINUS {
-        if deep > 0 {
-            return Step {
-                deep: deep - 1,
-                count: count,
-                found: false,
-            };
-        }
-    }
-    Step {
-        deep: deep,
-        count: count,
-        found: false,
+        Some(Sign::Closes) => Step::Further {
+            deep: deep.saturating_sub(1),
+            count,
+        },
+        None => Step::Further { deep, count },
     }
 }
 
 // The number of the first paragraph with this name that is opened directly between the bytes `from` and `to` (child_from), q paragraphs
-// having been opened before them; 0: none.
-pub fn walk(book: &[u8], kinds: &[u8; 256], from: usize, to: usize, q: usize, word: &[u8]) -> usize
-    ensures { Walked kinds.now book.now from to q word.now result }
+// having been opened before them.
+pub fn walk(
+    book: &[u8],
+    kinds: &[u8; 256],
+    from: usize,
+    to: usize,
+    q: usize,
+    word: &[u8],
+) -> Option<usize>
+    ensures { Gives (Walked kinds.now book.now from to q word.now) result }
 {
     if q >= CELL_VALUES {
-        return 0;
+        return None;
     }
     let mut at = from;
     let mut deep = 0;
     let mut count = q;
     while at < to {
         if at >= book.len() {
-            return 0;
+            return None;
         }
         let end = line_end(book, at);
-        let next = pass(&book[at..end], kinds, word, deep, count);
-        deep = next.deep;
-        count = next.count;
-        if next.found {
-            return count;
+        match pass(&book[at..end], kinds, word, deep, count) {
+            Step::Found(number) => return Some(number),
+            Step::Further {
+                deep: open,
+                count: opened,
+            } => {
+                deep = open;
+                count = opened;
+            }
         }
         at = end;
     }
-    0
+    None
 }

@@ -1,4 +1,5 @@
 use native.Mathlib.Omega.{arith}
+use mathlib.Core.Path.{refl}
 use Rattle.walks.proofs.LoopLaws.{so_far_start, so_far_end, so_far_line, so_far_found}
 use Rattle.walks.proofs.walk.Goals as goal
 
@@ -20,21 +21,20 @@ slice_bounds-pass-start c = omega (arith, c.line_end-end.ensures.from (omega ari
 pub slice_bounds-pass-end : goal.slice_bounds-pass-end
 slice_bounds-pass-end c = c.line_end-end.ensures.within (omega arith)
 
-pub pass-next-requires : goal.pass-next-requires
-pass-next-requires c = let h = c.loop-at.invariant in (omega (arith, h.shallow), omega (arith, h.few))
+pub pass-requires : goal.pass-requires
+pass-requires c = let h = c.loop-at.invariant in (omega (arith, h.shallow), omega (arith, h.few))
 
-pub returns-then-next : goal.returns-then-next
-returns-then-next c =
-    so_far_found c.loop-at.invariant (omega arith) (omega arith) c.line_end-end.ensures c.pass-next.ensures
-    c.if-next.true
+pub returns-in-Found : goal.returns-in-Found
+returns-in-Found c =
+    let (l, p) = c.in-Found.ensures in
+    (l, so_far_found c.loop-at.invariant (omega arith) (omega arith) c.line_end-end.ensures p refl)
 
 pub loop-at-smaller : goal.loop-at-smaller
 loop-at-smaller c = omega (arith, c.line_end-end.ensures.from (omega arith))
 
 pub loop-at-preserved : goal.loop-at-preserved
 loop-at-preserved c =
-    so_far_line c.loop-at.invariant (omega arith) (omega arith) c.line_end-end.ensures c.pass-next.ensures
-    c.if-next.false
+    so_far_line c.loop-at.invariant (omega arith) (omega arith) c.line_end-end.ensures c.in-Further.ensures refl
 
 pub returns : goal.returns
 returns c = so_far_end c.loop-at.invariant (omega arith)
