@@ -17,7 +17,8 @@ use Rattle.cells.specs.Forests.{cells_split, cells_long, cells_one, size_is_leng
 use Rattle.cells.specs.Slices.{run_is_slice}
 use Rattle.cells.specs.SameCells.{same_run_means}
 use Rattle.terms.specs.Made.{ArgumentsLie, InstancePost}
-use Rattle.terms.specs.Grafts.{instantiating, past_end, graft, grafts, Allowed, Fit, Fits, RunPost}
+use Rattle.terms.specs.Grafts.{instantiating, graft, grafts, Allowed, Fit, Fits}
+use Rattle.matching.specs.Runs.{Stays, Replaced}
 use Rattle.terms.proofs.WalkLaws.{grafts_join, one_cells}
 
 -- ---- runs
@@ -53,17 +54,15 @@ module _ (tb s : List ℕ) (from stop : ℕ) (w : List ℕ) (base count : ℕ) (
   pub record Passed (i j : ℕ) : Type 0 where
     pub ahead : at ≤ j
     pub room : j ≤ length f
-    pub short : length f < past_end
     pub means : (vs : List ℕ) (xs : Exprs) (x : Expr) (rx : List ℕ) → Fit tb (instantiating vs xs) x → ArgumentsLie tb w base count starts xs
         → At s from (cells x) rx → stop ≡ from + size x → Rest vs xs x rx i j
 
 module _ {tb s : List ℕ} {from stop : ℕ} {w : List ℕ} {base count : ℕ} {starts f : List ℕ} {at : ℕ} where
-  pub passed_none : at ≤ length f → length f < past_end → Passed tb s from stop w base count starts f at from at
+  pub passed_none : at ≤ length f → Passed tb s from stop w base count starts f at from at
   unfolding AllFormed graft grafts
-  passed_none h l = record {
+  passed_none h = record {
     ahead = omega arith;
     room = h;
-    short = l;
     means = λ vs xs x rx fx A ax e. record {
       todo = cons x nil;
       fit = (fx, tt);
@@ -82,7 +81,6 @@ module _ {tb s : List ℕ} {from stop : ℕ} {w : List ℕ} {base count : ℕ} {
   passed_more {i} {j} n P lt h run = record {
     ahead = omega (arith, P.ahead);
     room = h;
-    short = P.short;
     means = λ vs xs x rx fx A ax e.
         let R = P.means vs xs x rx fx A ax e in next vs xs x rx A R.todo R.fit R.lies R.ends R.same;
   }
@@ -107,23 +105,23 @@ module _ {tb s : List ℕ} {from stop : ℕ} {w : List ℕ} {base count : ℕ} {
                 (sym (ap cellss (grafts_join k 0 (parts y) es) ∙ cells_join (instantiates vs xs 0 (parts y)) (instantiates vs xs 0 es)));
           }
 
-  module _ {i j x start len : ℕ} (P : Passed tb s from stop w base count starts f at i j) (lt : i < stop) (is : x ≡ get_or s i 0)
-      (R : RunPost tb x count starts start len) where
+  module _ {i j x : ℕ} (P : Passed tb s from stop w base count starts f at i j) (lt : i < stop) (is : x ≡ get_or s i 0) where
     -- the cell itself
-    pub passed_itself : (x % cell_factor ≡ 5 → ⊥) → len ≡ 0 → j < length f → get_or f j 0 ≡ x → Passed tb s from stop w base count starts f at (i + 1) (j + 1)
-    passed_itself n₅ z h q =
+    pub passed_itself : Stays tb x count → (x % cell_factor ≡ 5 → ⊥) → j < length f → get_or f j 0 ≡ x
+        → Passed tb s from stop w base count starts f at (i + 1) (j + 1)
+    passed_itself R n₅ h q =
         passed_more 1 P lt (omega arith) λ vs xs A e xe fe.
-        R.itself z n₅ vs xs A.counted e (xe ∙ sym is) fe
+        R.is n₅ vs xs A.counted e (xe ∙ sym is) fe
         ∙ ap (λ (l : List ℕ). l ++ cellss (instantiates vs xs 0 (parts e))) (ap (λ (c : ℕ). c ∷ []) (sym q) ∙ sym (run_one j f h))
 
     -- the argument that stands for it
-    pub passed_argument : (len ≡ 0 → ⊥) → same_run w (base + start) f j len ≡ true
+    pub passed_argument : {start len : ℕ} → Replaced tb x count starts start len → same_run w (base + start) f j len ≡ true
         → Passed tb s from stop w base count starts f at (i + 1) (j + len)
     unfolding instantiates cellss
-    passed_argument nz t =
+    passed_argument {start} {len} R t =
         let m = same_run_means w (base + start) f j len t in
         passed_more len P lt m.1 λ vs xs A e xe fe.
-        let r = R.argument (omega arith) (omega (arith, m.1, P.short)) vs xs A.counted A.started e (xe ∙ sym is) fe in
+        let r = R.is vs xs A.counted A.started e (xe ∙ sym is) fe in
         r.2
         ∙ sym (run_within start len A.lies r.1)
         ∙ (sym (run_is_slice (base + start) len w) ∙ m.2 ∙ run_is_slice j len f)

@@ -13,7 +13,8 @@ use Rattle.calculus.specs.Cutoffs.{lift_0_0}
 use Rattle.terms.specs.Made.{start_of}
 use Rattle.terms.specs.Starts.{start_next, Split, split, argument_within, argument_taken}
 use Rattle.terms.specs.Kinds.{of_variable_lem}
-use Rattle.terms.specs.Grafts.{instantiating, past_end, Fit, RunPost}
+use Rattle.terms.specs.Grafts.{instantiating, Fit}
+use Rattle.matching.specs.Runs.{Stays, Replaced}
 use Rattle.terms.proofs.VariableLaws.{no_argument_cells, argument_put}
 
 -- a cell that is neither a variable's nor an abstraction's stays
@@ -33,34 +34,24 @@ variable_parts : (x : ℕ) → x % cell_factor ≡ 1 → (e : Expr) → first_ce
 unfolding parts
 variable_parts x is1 e q = of_variable_lem (λ e. parts e ≡ nil) (λ v. refl) e (rw q is1)
 
-module _ (tb : List ℕ) (x count : ℕ) (starts : List ℕ) where
-  pub run_other : (x % cell_factor ≡ 1 → ⊥) → RunPost tb x count starts 0 0
-  run_other n₁ = record {
-    short = omega arith;
-    itself = λ z n₅ vs xs c e q f. other_cells vs xs x n₁ n₅ e q;
-    argument = λ l. absurd (omega arith);
-  }
+module _ (tb : List ℕ) (x count : ℕ) where
+  pub run_other : (x % cell_factor ≡ 1 → ⊥) → Stays tb x count
+  run_other n₁ = record { is = λ n₅ vs xs c e q f. other_cells vs xs x n₁ n₅ e q }
 
-  pub run_itself : x % cell_factor ≡ 1 → count ≤ row_cell tb (x / cell_factor) at_context → RunPost tb x count starts 0 0
+  pub run_itself : x % cell_factor ≡ 1 → count ≤ row_cell tb (x / cell_factor) at_context → Stays tb x count
   unfolding instantiates cellss
   run_itself is1 h = record {
-    short = omega arith;
-    itself = λ z n₅ vs xs c e q f.
+    is = λ n₅ vs xs c e q f.
         no_argument_cells tb 0 x vs xs is1 (rw c h) e q f
         ∙ ap (λ (es : Exprs). x ∷ cellss (instantiates vs xs 0 es)) (sym (variable_parts x is1 e q));
-    argument = λ l. absurd (omega arith);
   }
 
-  pub run_unknown : RunPost tb x count starts 0 past_end
-  run_unknown = record { short = omega arith; itself = λ z. absurd (omega arith); argument = λ l m. absurd (omega arith) }
-
-  pub run_argument : (i : ℕ) {first next : ℕ} → x % cell_factor ≡ 1 → i ≡ row_cell tb (x / cell_factor) at_context → i < count → i < 63
+  pub run_argument : (starts : List ℕ) (i : ℕ) {first next : ℕ} → x % cell_factor ≡ 1 → i ≡ row_cell tb (x / cell_factor) at_context → i < count → i < 63
       → first ≡ get_or starts i 0 → next ≡ get_or starts (i + 1) 0
-      → first < cell_values → first < next → RunPost tb x count starts first (next - first)
-  run_argument i {first} {next} is1 n l k a b s p = record {
+      → first < cell_values → first < next → Replaced tb x count starts first (next - first)
+  run_argument starts i {first} {next} is1 n l k a b s p = record {
     short = s;
-    itself = λ z. absurd (omega arith);
-    argument = λ _ _ vs xs c S e q f.
+    is = λ vs xs c S e q f.
         let r = split xs i (omega (arith, c)) in
         put vs xs e q f r (a ∙ S.place i (omega (arith, c)) (omega arith))
         (b ∙ S.place (i + 1) (omega (arith, c)) (omega arith) ∙ ap (start_of xs) (add-one i) ∙ start_next xs i r.argument r.found);

@@ -1,49 +1,44 @@
 // Cells compared with an expression whose arguments are put in as it is read.
 ghost use Rattle.terms.specs.Made.{InstancePost};
-ghost use Rattle.terms.specs.Grafts.{RunPost};
+ghost use Rattle.matching.specs.Runs.{RunPost};
 
 use cells::field;
 use constants::{CELL_FACTOR, CONTEXT_LENGTH, Cell};
 use copies::same_run;
-use terms::{PAST, start_at};
 
-// A run of cells of the working store; no cells where a cell stands for itself.
+// What stands for a cell of the expression.
 #[derive(Clone, Copy)]
-struct Run {
-    start: usize,
-    len: usize,
+enum Run {
+    Itself,
+
+    // A run of the arguments' cells.
+    Argument { start: usize, len: usize },
+
+    // An argument of which it is not known how many cells it has.
+    Unknown,
 }
 
-// What stands for the cell x, which is no abstraction: the cells of its argument, for a context variable that has one. A run that
-// lies nowhere where it is not known how many those are.
+// What stands for the cell x, which is no abstraction's: for a context variable that has an argument, that one.
 fn run_for(table: &[u32], x: Cell, count: usize, starts: &[Cell; 64]) -> Run
-    ensures { RunPost table.now x count starts.now result.start result.len }
+    ensures { RunPost table.now x count starts.now result }
 {
     if x % CELL_FACTOR != 1 {
-        return Run { start: 0, len: 0 };
+        return Run::Itself;
     }
     let i = field(table, (x / CELL_FACTOR) as usize, CONTEXT_LENGTH);
     if i >= count {
-        return Run { start: 0, len: 0 };
+        return Run::Itself;
     }
     if i >= 63 {
-        return Run {
-            start: 0,
-            len: PAST,
-        };
+        return Run::Unknown;
     }
-    let first = start_at(starts, i) as usize;
-    let next = start_at(starts, i + 1) as usize;
-    if next <= first {
-        return Run {
-            start: 0,
-            len: PAST,
-        };
+    let start = starts[i] as usize;
+    let next = starts[i + 1] as usize;
+    if next <= start {
+        return Run::Unknown;
     }
-    Run {
-        start: first,
-        len: next - first,
-    }
+    let len = next - start;
+    Run::Argument { start, len }
 }
 
 // Are the n cells of f from `at` on the expression in the cells from..stop of s, with the arguments put in? Yes only if they are;
@@ -64,38 +59,29 @@ pub fn is_instance(
     ensures { InstancePost table.now s.now from stop w.now base count starts.now
         f.now at n result }
 {
-    if base > w.len() {
+    if base > w.len() || at > f.len() || stop > s.len() {
         return false;
     }
-    if at > f.len() {
-        return false;
-    }
-    if stop > s.len() {
-        return false;
-    }
-    let mut i = from;
     let mut j = at;
-    while i < stop {
+    for i in from..stop {
         let x = s[i];
         if x % CELL_FACTOR == 5 {
             return false;
         }
-        let run = run_for(table, x, count, starts);
-        if run.len == 0 {
-            if j >= f.len() {
-                return false;
+        match run_for(table, x, count, starts) {
+            Run::Itself => {
+                if j >= f.len() || f[j] != x {
+                    return false;
+                }
+                j += 1;
             }
-            if f[j] != x {
-                return false;
+            Run::Argument { start, len } => {
+                if !same_run(w, base + start, f, j, len) {
+                    return false;
+                }
+                j += len;
             }
-            i = i + 1;
-            j = j + 1;
-        } else {
-            if !same_run(w, base + run.start, f, j, run.len) {
-                return false;
-            }
-            i = i + 1;
-            j = j + run.len;
+            Run::Unknown => return false,
         }
     }
     j - at == n
