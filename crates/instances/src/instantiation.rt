@@ -1,5 +1,4 @@
-// Instantiation: an expression with the arguments put in. They lie in the store w that is written to, the expression in another: as a
-// mode of the walk that lifts and substitutes it costs every cell a fifth more.
+// Instantiation: an expression with the arguments put in. They lie in the store w that is written to, the expression in another.
 ghost use Rattle.std.specs.Prelude.{◌≤◌, length, take};
 ghost use Rattle.aut68.specs.Sizes.{cell_values};
 ghost use Rattle.terms.specs.Made.{InstantiatePost, WithinRoom, size_in};
@@ -10,7 +9,9 @@ use cells::kids;
 use constants::{CELL_FACTOR, Cell};
 use terms::{Change, Ends, Leaf, graft};
 
-// The expression at `from` of s, from under `cut` bindings, with the arguments put in, at `to`.
+// The expression at `from` of s, from under `cut` bindings, with the arguments put in, at `to`. None where the store ends before the
+// result does.
+// Kept: a walk of its own; as a mode of the walk that lifts and substitutes it costs every cell a fifth more.
 pub fn instantiate_in(
     table: &[u32],
     s: &[Cell],
