@@ -60,11 +60,11 @@ module _ {tb : List ℕ} {v c behind : ℕ} (h : 0 < behind) (F : Following tb v
       let e : behind ≡ suc (behind - 1) = omega arith in
       last_step l.context (behind - 1) W.leads (ap (λ (x : ℕ). take x l.context) e) (omega (arith, W.inside))
 
-  pub follow_more : {c' : ℕ} → c' ≡ row_cell tb c at_indicator → Following tb v c' (behind - 1)
-  follow_more p = record {
+  pub follow_more : {c' rest : ℕ} → rest ≡ behind - 1 → c' ≡ row_cell tb c at_indicator → Following tb v c' rest
+  follow_more e p = record {
     goes = λ B j.
         let S = follow_last B j in
-        record { inside = omega (arith, (F.goes B j).inside); leads = rw (p ∙ (B.rows.row S.is_line).indicator_is) S.before };
+        record { inside = omega (arith, (F.goes B j).inside); leads = rw (e, p ∙ (B.rows.row S.is_line).indicator_is) S.before };
   }
 
 -- ---- one variable
@@ -105,7 +105,7 @@ module _ {tb : List ℕ} {v count c behind : ℕ} {lines : List ℕ} {c' : ℕ} 
       → ((i : ℕ) → behind ≤ i → get_or lines' i 0 ≡ get_or lines i 0) → Noting tb v count c' (behind - 1) lines'
   noting_with {lines'} l new old = record {
     long = l ∙ N.long;
-    follows = λ q. follow_more h (N.follows q) p;
+    follows = λ q. follow_more h (N.follows q) refl p;
     noted = λ q {ls} {l} B j i g m k. there q B j i g m k (dec_le behind i);
   }
     where
@@ -117,13 +117,9 @@ module _ {tb : List ℕ} {v count c behind : ℕ} {lines : List ℕ} {c' : ℕ} 
           let S = follow_last h (N.follows q) B j in
           ap (λ (x : ℕ). get_or lines' x 0) (sym e) ∙ new (omega (arith, line_within S.is_line, B.few)) (omega arith) ∙ S.is ∙ ap (λ (x : ℕ). get_or l.context x 0) e
 
-  -- it is past the 64th
-  pub noting_past : {lines' : List ℕ} → 64 ≤ behind - 1 → lines' ≡ lines → Noting tb v count c' (behind - 1) lines'
-  noting_past g e = rw e (noting_with refl (λ s m. absurd (omega arith)) (λ i k. refl))
-
-  -- no line has such a number
-  pub noting_large : {lines' : List ℕ} → cell_values ≤ c → lines' ≡ lines → Noting tb v count c' (behind - 1) lines'
-  noting_large g e = rw e (noting_with refl (λ s m. absurd (omega arith)) (λ i k. refl))
+  -- it is past the 64th, or no line has such a number
+  pub noting_kept : (behind - 1 < 64 → c < cell_values → ⊥) → Noting tb v count c' (behind - 1) lines
+  noting_kept n = noting_with refl (λ s m. absurd (n m s)) (λ i k. refl)
 
   pub noting_more : {lines' : List ℕ} → behind - 1 < 64 → lines' ≡ set lines (behind - 1) c → Noting tb v count c' (behind - 1) lines'
   noting_more g e =

@@ -40,9 +40,9 @@ module _ {tb ts w : List ℕ} {limit found size budget level : ℕ} where
   pub function_refused : {domain body : ℕ} → found ≢ 0 → FunctionOfPost tb ts w limit found size budget level w found domain body budget
   function_refused n = record { frame = λ small. outside_same; means = λ B room kk x. then_refused _ n x }
 
-  pub function_found : {w' : List ℕ} {at : ℕ} {r : Function} → level < levels → found ≡ 0 → (limit ≤ largest_limit → at ≡ unit_at limit (level_unit level))
-      → FunctionPost tb ts w w' limit budget at size r → FunctionOfPost tb ts w limit found size budget level w' r.code r.domain r.body r.budget
-  function_found {w'} {at} {r} l z p F = record {
+  pub function_found : {w' : List ℕ} {at code : ℕ} {r : Function} {rest : ℕ} → level < levels → found ≡ 0 → (limit ≤ largest_limit → at ≡ unit_at limit (level_unit level))
+      → FunctionPost tb ts w w' limit budget at size code r rest → FunctionOfPost tb ts w limit found size budget level w' code r.domain r.body rest
+  function_found {w'} {at} {code} {r} l z p F = record {
     frame = λ small. framed_frame F.framed (omega (arith, p small)) (omega (arith, level_scratch limit l));
     means = λ {ls} {k} B room kk x. then_passed _ z x (λ c f.
         let e = p B.limit in

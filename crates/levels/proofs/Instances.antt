@@ -1,14 +1,13 @@
 -- A constant's arguments kept, and what is made of them: its category, and the wanted category of an argument.
-use mathlib.Core.Path.{◌≡◌, sym, ◌∙◌, refl}
-use mathlib.Core.Logic.{◌≢◌, inl, inr}
-use mathlib.Core.Bool.{Bool, true, false, false≢true}
+use mathlib.Core.Path.{◌≡◌, sym, ◌∙◌}
+use mathlib.Core.Logic.{◌≢◌}
+use mathlib.Core.Bool.{Bool, true, false}
 use mathlib.Core.List.{List}
-use Prim.Native.Nat.{ℕ, ◌+◌, ◌≤◌, ◌<◌, ◌/◌, ◌%◌}
+use Prim.Native.Nat.{ℕ, ◌+◌, ◌≤◌, ◌<◌}
 use native.Mathlib.Omega.{arith}
-use lib.Dec.{leb, eqb}
-use lib.ListN.{length, take, drop, set, length-set}
-use borrow.Author.Tests.{eqb-true}
-use Rattle.aut68.specs.Sizes.{cell_values, line_limit, largest_limit, nesting, at_context, at_category, cell_factor}
+use lib.Dec.{leb}
+use lib.ListN.{length, take, drop}
+use Rattle.aut68.specs.Sizes.{cell_values, line_limit, largest_limit, nesting, at_context, at_category}
 use Rattle.aut68.specs.Procedure.Answer.{done, and_then, ensure, too_large}
 use Rattle.aut68.specs.Expr.{Expr, Exprs, size, sizes, cells, cellss, count_exprs}
 use Rattle.aut68.specs.Substitution.{instantiate}
@@ -32,36 +31,13 @@ use Rattle.levels.specs.Places.{LieAll}
 use Rattle.levels.specs.FoundPosts.{MadePost}
 use Rattle.levels.specs.Spots.{frames, level_result}
 use Rattle.levels.proofs.Making.{made_held, spans_none}
-use Rattle.levels.specs.ArgumentPosts.{KeptArgument, ConstantPost, NextStart, IsStoredPost}
+use Rattle.levels.specs.ArgumentPosts.{KeptArgument, ConstantPost}
 
 -- ---- an argument kept
 
 module _ {s : List ℕ} {at n : ℕ} {w : List ℕ} {base : ℕ} where
-  pub kept_not : length w < base → KeptArgument s at n w base w
-  kept_not h = record { frame = outside_same; copied = λ k. absurd (omega arith) }
-
   pub kept_copied : {w' : List ℕ} → w' ≡ copy_cells s at n w (base + at) → KeptArgument s at n w base w'
   kept_copied e = record { frame = rw e (copy_outside s at n w (base + at)); copied = λ k. e }
-
-pub next_noted : {starts : List ℕ} {i at : ℕ} → i < 64 → NextStart starts i at (set starts i at)
-next_noted {starts} {i} {at} h = record { long = length-set starts i at; noted = λ k l. refl; past = λ k. absurd (omega arith) }
-
-pub next_large : {starts : List ℕ} {i at : ℕ} → i < 64 → cell_values ≤ at → NextStart starts i at starts
-next_large h g = record { long = refl; noted = λ k l. absurd (omega arith); past = λ k. refl }
-
-pub next_past : {starts : List ℕ} {i at : ℕ} → 64 ≤ i → NextStart starts i at starts
-next_past h = record { long = refl; noted = λ k l. absurd (omega arith); past = λ k. refl }
-
--- is it the category of an expression?
-module _ {tb : List ℕ} {x : ℕ} where
-  pub of_variable_lem : x % cell_factor ≡ 1 → IsStoredPost tb x true
-  of_variable_lem h = record { is = λ t. inl h }
-
-  pub of_none : IsStoredPost tb x false
-  of_none = record { is = λ t. absurd (false≢true t) }
-
-  pub of_constant_lem : {count : ℕ} {r : Bool} → x % cell_factor ≡ 3 → count ≡ row_cell tb (x / cell_factor) at_context → r ≡ eqb count 0 → IsStoredPost tb x r
-  of_constant_lem {count} h q e = record { is = λ t. inr (h, sym q ∙ eqb-true count 0 (sym e ∙ t)) }
 
 -- ---- arguments that lie in a level's unit
 

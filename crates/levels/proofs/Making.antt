@@ -75,16 +75,16 @@ made_held {limit} {n} {w} {w'} e room small m = record {
 }
 
 module _ {w : List ℕ} {limit budget level n whole code rest : ℕ} where
-  pub made_too_large : {size extent : ℕ} → limit < n → code ≡ 10 → extent ≡ 0 → rest ≡ budget → MadePost w limit budget level n whole w code size extent rest
+  pub made_too_large : {size extent : ℕ} → (limit ≤ largest_limit → limit < n) → code ≡ 10 → extent ≡ 0 → rest ≡ budget → MadePost w limit budget level n whole w code size extent rest
   made_too_large h z x q = record {
     frame = λ _. outside_same;
     spans = spans_none (λ y. omega arith) x;
-    means = λ {e} l room x. made_refused e (larger e x (dec_le (size e) limit)) z q;
+    means = λ {e} small room x. made_refused e (larger e (h small) x (dec_le (size e) limit)) z q;
   }
     where
-      larger : (e : Expr) → Held w limit n e → Dec (size e ≤ limit) → limit < size e
-      larger e x (yes k) = absurd (omega (arith, x.fits k))
-      larger e x (no k) = omega arith
+      larger : (e : Expr) → limit < n → Held w limit n e → Dec (size e ≤ limit) → limit < size e
+      larger e g x (yes k) = absurd (omega (arith, x.fits k))
+      larger e g x (no k) = omega arith
 
   pub made_moved : {from to : ℕ} {w' : List ℕ} → n ≤ limit → level < levels → (limit ≤ largest_limit → from ≡ unit_at limit result_unit)
       → (limit ≤ largest_limit → to ≡ unit_at limit (level_unit level)) → code ≡ 0 → rest ≡ budget → w' ≡ move_cells w from n to

@@ -1,5 +1,6 @@
 -- What the code says of a level: where things lie, and what each function leaves.
 pub mod Places
+pub mod Finds
 pub mod FoundPosts
 pub mod LeafPosts
 pub mod ContextPosts

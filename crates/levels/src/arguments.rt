@@ -1,11 +1,13 @@
 // A constant's arguments: an argument kept, whether its category is stored; the constant's category.
-ghost use Rattle.std.specs.Prelude.{◌+◌, ◌≤◌, ◌<◌, ◌^◌, length};
+ghost use Rattle.std.specs.Prelude.{ℕ, ◌+◌, ◌≤◌, ◌<◌, ◌^◌, length};
 ghost use Rattle.cells.specs.Layout.{levels};
+ghost use Rattle.constants.specs.Refusals.{code_in};
+ghost use Rattle.levels.specs.Finds.{found_size, found_extent};
 ghost use Rattle.levels.specs.ArgumentPosts.{KeptArgument, NextStart, ConstantPost, IsStoredPost};
 
-use crate::found::{Argued, Found, made, refused};
+use crate::found::{Found, made};
 use cells::{field, level_at, result_at};
-use constants::{CATEGORY_START, CELL_FACTOR, CELL_VALUES, CONTEXT_LENGTH, Cell};
+use constants::{CATEGORY_START, CELL_FACTOR, CELL_VALUES, CONTEXT_LENGTH, Cell, Reason};
 use copies::load;
 use instances::instantiate;
 
@@ -14,20 +16,17 @@ pub fn keep_argument(s: &[Cell], at: usize, n: usize, w: &mut [Cell], base: usiz
     requires { at ≤ length s.now }
     ensures { KeptArgument s.now at n w.old base w.new }
 {
-    if base > w.len() {
-        return;
+    if base <= w.len() {
+        load(s, at, n, w, base + at);
     }
-    load(s, at, n, w, base + at);
 }
 
 // Place i of `starts`, where an argument ends: `at`, if there is such a place and the number fits.
 pub fn enter_start(starts: &mut [Cell; 64], i: usize, at: usize)
     ensures { NextStart starts.old i at starts.new }
 {
-    if i < 64 {
-        if at < CELL_VALUES {
-            starts[i] = at as Cell;
-        }
+    if i < 64 && at < CELL_VALUES {
+        starts[i] = at as Cell;
     }
 }
 
@@ -35,40 +34,33 @@ pub fn enter_start(starts: &mut [Cell; 64], i: usize, at: usize)
 pub fn is_stored(table: &[u32], x: Cell) -> bool
     ensures { IsStoredPost table.now x result }
 {
-    let k = x % CELL_FACTOR;
-    if k == 1 {
-        return true;
+    match x % CELL_FACTOR {
+        1 => true,
+        3 => field(table, (x / CELL_FACTOR) as usize, CONTEXT_LENGTH) == 0,
+        _ => false,
     }
-    if k != 3 {
-        return false;
-    }
-    let count = field(table, (x / CELL_FACTOR) as usize, CONTEXT_LENGTH);
-    count == 0
 }
 
-// The category of the constant of line v, whose arguments passed and lie in the level's unit: the one on its line, they put in;
-// or the refusal of its arguments.
+// The category of the constant of line v, whose arguments, of `extent` cells, passed and lie in the level's unit: the one on its
+// line, they put in.
 pub fn constant(
     table: &[u32],
     terms: &[Cell],
     w: &mut [Cell],
     limit: usize,
-    passed: Argued,
+    extent: usize,
     starts: &[Cell; 64],
     level: usize,
     v: usize,
-) -> Found
-    requires { (level < levels) × (passed.extent < 2 ^ 63) }
-    ensures { ConstantPost table.now terms.now w.old limit passed.code passed.extent starts.now passed.budget level v
-        w.new result.code result.size result.extent result.budget }
+) -> Result<Found, Reason>
+    requires { (level < levels) × (extent < 2 ^ 63) }
+    ensures { (budget : ℕ) → ConstantPost table.now terms.now w.old limit 0 extent starts.now budget level v
+        w.new (code_in result) (found_size result) (found_extent result) budget }
 {
-    if passed.code != 0 {
-        return refused(passed.code, passed.budget);
-    }
     let from = field(table, v, CATEGORY_START);
     let count = field(table, v, CONTEXT_LENGTH);
     let base = level_at(limit, level);
     let to = result_at(limit);
     let n = instantiate(table, terms, from, w, base, count, starts, to, limit);
-    made(w, limit, passed.budget, level, n, passed.extent + 1)
+    made(w, limit, level, n, extent + 1)
 }

@@ -1,5 +1,5 @@
 // The variables of a line's context.
-ghost use Rattle.std.specs.Prelude.{◌≡◌, ℕ, ◌<◌, ◌^◌, length, get_or};
+ghost use Rattle.std.specs.Prelude.{◌≡◌, ◌<◌, ◌^◌, length};
 ghost use Rattle.levels.specs.ContextPosts.{ContextOf, ContextVariable};
 
 use cells::field;
@@ -11,25 +11,13 @@ pub fn context_of(table: &[u32], v: usize, count: usize, lines: &mut [Cell; 64])
     ensures { ContextOf table.now v count lines.new }
 {
     let mut c = field(table, v, INDICATOR);
-    let mut behind = count;
-    while behind > 0 {
-        behind = behind - 1;
+    for i in (0..count).rev() {
         let line = c;
         c = field(table, line, INDICATOR);
-        if behind < 64 {
-            if line < CELL_VALUES {
-                lines[behind] = line as Cell;
-            }
+        if i < 64 && line < CELL_VALUES {
+            lines[i] = line as Cell;
         }
     }
-}
-
-// Line i of a context: by a call, as its result is known to be 16 bits wide and what lies behind a reference is not.
-fn noted(lines: &[Cell; 64], i: usize) -> Cell
-    requires { i < 64 }
-    ensures { result ≡ get_or lines.now i 0 }
-{
-    lines[i]
 }
 
 // The line of variable i of the context of line v, the outermost being 0.
@@ -38,13 +26,12 @@ pub fn context_variable(table: &[u32], v: usize, lines: &[Cell; 64], i: usize) -
     ensures { ContextVariable table.now v lines.now i result }
 {
     if i < 64 {
-        return noted(lines, i) as usize;
+        return lines[i] as usize;
     }
     let mut c = field(table, v, INDICATOR);
-    let mut behind = field(table, v, CONTEXT_LENGTH);
-    while behind > i + 1 {
+    let count = field(table, v, CONTEXT_LENGTH);
+    for _ in i + 1..count {
         c = field(table, c, INDICATOR);
-        behind = behind - 1;
     }
     c
 }

@@ -1,83 +1,42 @@
-// What is found at a level, what passes, and what is refused.
-ghost use Rattle.std.specs.Prelude.{◌≡◌, ℕ, ◌<◌};
+// What is found at a level, and what must be `type`.
+ghost use Rattle.std.specs.Prelude.{ℕ, ◌<◌};
 ghost use Rattle.cells.specs.Layout.{levels};
+ghost use Rattle.constants.specs.Refusals.{code_in};
+ghost use Rattle.levels.specs.Finds.{found_size, found_extent};
 ghost use Rattle.levels.specs.FoundPosts.{MadePost, IsTypePost, FoundTypePost};
+ghost use Rattle.terms.specs.Made.{size_in};
 
 use cells::{level_at, result_at};
-use constants::{Cell, NOT_TYPE, TOO_LARGE};
+use constants::{Cell, Reason};
 use copies::move_cells;
 
-// code 0: a category of `size` cells was found, of an expression of `extent` cells; else a refusal. The budget that is left.
-#[derive(Clone, Copy)]
+// A category of `size` cells, of an expression of `extent` cells.
+#[derive(Clone, Copy, Debug, PartialEq, Eq)]
 pub struct Found {
-    pub code: u32,
     pub size: usize,
     pub extent: usize,
-    pub budget: u32,
 }
 
-// code 0: the arguments, of `extent` cells, passed, and lie in the level's unit; else a refusal. The budget that is left.
-#[derive(Clone, Copy)]
-pub struct Argued {
-    pub code: u32,
-    pub extent: usize,
-    pub budget: u32,
-}
-
-// code 0: passed; else a refusal. The budget that is left.
-#[derive(Clone, Copy)]
-pub struct Checked {
-    pub code: u32,
-    pub budget: u32,
-}
-
-// A refusal in place of a category.
-pub fn refused(code: u32, budget: u32) -> Found
-    ensures { (result.code ≡ code) × (result.extent ≡ 0) × (result.budget ≡ budget) }
-{
-    Found {
-        code: code,
-        size: 0,
-        extent: 0,
-        budget: budget,
-    }
-}
-
-// A refusal in place of arguments that passed.
-pub fn unfit(code: u32, budget: u32) -> Argued
-    ensures { (result.code ≡ code) × (result.extent ≡ 0) × (result.budget ≡ budget) }
-{
-    Argued {
-        code: code,
-        extent: 0,
-        budget: budget,
-    }
-}
-
-// The n cells in the result unit become what is found at a level, for an expression of `extent` cells; 10 where they are more
-// than `limit`.
+// What was made in the result unit, of n cells or of more than there is room for, becomes what is found at a level, for an expression
+// of `extent` cells; too large where it has more than `limit` cells.
 pub fn made(
     w: &mut [Cell],
     limit: usize,
-    budget: u32,
     level: usize,
-    n: usize,
+    n: Option<usize>,
     extent: usize,
-) -> Found
+) -> Result<Found, Reason>
     requires { level < levels }
-    ensures { MadePost w.old limit budget level n extent w.new result.code result.size result.extent result.budget }
+    ensures { (budget : ℕ) → MadePost w.old limit budget level (size_in n) extent w.new (code_in result) (found_size result) (found_extent result) budget }
 {
-    if n > limit {
-        return refused(TOO_LARGE, budget);
-    }
-    let from = result_at(limit);
-    let to = level_at(limit, level);
-    move_cells(w, from, to, n);
-    Found {
-        code: 0,
-        size: n,
-        extent: extent,
-        budget: budget,
+    match n {
+        Some(size) if size <= limit => {
+            let from = result_at(limit);
+            let to = level_at(limit, level);
+            move_cells(w, from, to, size);
+            Ok(Found { size, extent })
+        }
+        _ => Err(Reason::TooLarge),
     }
 }
 
@@ -87,31 +46,17 @@ pub fn is_type(w: &[Cell], limit: usize, level: usize) -> bool
     ensures { IsTypePost w.now limit level result }
 {
     let at = level_at(limit, level);
-    if at >= w.len() {
-        return false;
-    }
-    w[at] == 0
+    at < w.len() && w[at] == 0
 }
 
-// What was found at a level must be `type` (else 8); or the refusal that was met before.
-pub fn found_type(w: &[Cell], limit: usize, level: usize, found: Found) -> Checked
+// What was found at a level must be `type`.
+pub fn found_type(w: &[Cell], limit: usize, level: usize) -> Result<(), Reason>
     requires { level < levels }
-    ensures { FoundTypePost w.now limit level found.code found.size found.budget result.code result.budget }
+    ensures { (size budget : ℕ) → FoundTypePost w.now limit level 0 size budget (code_in result) budget }
 {
-    if found.code != 0 {
-        return Checked {
-            code: found.code,
-            budget: found.budget,
-        };
-    }
     if is_type(w, limit, level) {
-        return Checked {
-            code: 0,
-            budget: found.budget,
-        };
-    }
-    Checked {
-        code: NOT_TYPE,
-        budget: found.budget,
+        Ok(())
+    } else {
+        Err(Reason::NotType)
     }
 }

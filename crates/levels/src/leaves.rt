@@ -1,11 +1,13 @@
 // The category on a line, and that of a bound variable.
 ghost use Rattle.std.specs.Prelude.{ℕ, ◌<◌};
 ghost use Rattle.cells.specs.Layout.{levels};
+ghost use Rattle.constants.specs.Refusals.{code_in};
+ghost use Rattle.levels.specs.Finds.{found_size, found_extent};
 ghost use Rattle.levels.specs.LeafPosts.{StoredPost, BoundPost};
 
-use crate::found::{Found, made, refused};
+use crate::found::{Found, made};
 use cells::{Scope, field, level_at, result_at, scratch_at};
-use constants::{CATEGORY_END, CATEGORY_START, Cell, NESTING, TOO_LARGE, UNKNOWN_NAME};
+use constants::{CATEGORY_END, CATEGORY_START, Cell, NESTING, Reason};
 use copies::load;
 use terms::raise;
 
@@ -15,30 +17,21 @@ pub fn stored(
     terms: &[Cell],
     w: &mut [Cell],
     limit: usize,
-    budget: u32,
     level: usize,
     v: usize,
-) -> Found
+) -> Result<Found, Reason>
     requires { level < levels }
-    ensures { StoredPost table.now terms.now w.old limit budget level v w.new result.code result.size result.extent result.budget }
+    ensures { (budget : ℕ) → StoredPost table.now terms.now w.old limit budget level v w.new (code_in result) (found_size result) (found_extent result) budget }
 {
     let from = field(table, v, CATEGORY_START);
     let end = field(table, v, CATEGORY_END);
-    if end < from {
-        return refused(TOO_LARGE, budget);
+    if end < from || end - from > limit {
+        return Err(Reason::TooLarge);
     }
-    let n = end - from;
-    if n > limit {
-        return refused(TOO_LARGE, budget);
-    }
+    let size = end - from;
     let to = level_at(limit, level);
-    load(terms, from, n, w, to);
-    Found {
-        code: 0,
-        size: n,
-        extent: 1,
-        budget: budget,
-    }
+    load(terms, from, size, w, to);
+    Ok(Found { size, extent: 1 })
 }
 
 // The category of the bound variable with v bindings between: its domain, moved under v + 1 bindings.
@@ -48,19 +41,15 @@ pub fn bound(
     scope: Scope,
     w: &mut [Cell],
     limit: usize,
-    budget: u32,
     level: usize,
     v: usize,
-) -> Found
+) -> Result<Found, Reason>
     requires { level < levels }
-    ensures { BoundPost table.now terms.now scope w.old limit budget level v w.new result.code result.size result.extent result.budget }
+    ensures { (budget : ℕ) → BoundPost table.now terms.now scope w.old limit budget level v w.new (code_in result) (found_size result) (found_extent result) budget }
 {
     let bindings = scope.bound;
-    if bindings > NESTING {
-        return refused(UNKNOWN_NAME, budget);
-    }
-    if v >= bindings {
-        return refused(UNKNOWN_NAME, budget);
+    if bindings > NESTING || v >= bindings {
+        return Err(Reason::UnknownName);
     }
     let i = bindings - 1 - v;
     let from = scope.starts[i] as usize;
@@ -69,5 +58,5 @@ pub fn bound(
     let to = result_at(limit);
     load(terms, from, len, w, scratch);
     let n = raise(table, w, scratch, v + 1, to, limit);
-    made(w, limit, budget, level, n, 1)
+    made(w, limit, level, n, 1)
 }

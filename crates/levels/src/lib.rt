@@ -13,5 +13,5 @@ mod leaves;
 pub use arguments::{constant, enter_start, is_stored, keep_argument};
 pub use binders::{function_of, over_binding};
 pub use contexts::{context_of, context_variable};
-pub use found::{Argued, Checked, Found, found_type, is_type, made, refused, unfit};
+pub use found::{Found, found_type, is_type, made};
 pub use leaves::{bound, stored};

@@ -1,10 +1,7 @@
--- `function_of`: head steps of what was found, or its refusal.
-use Rattle.levels.proofs.Functions.{function_refused, function_found}
+-- `function_of`: head steps of what was found.
+use mathlib.Core.Path.{refl}
+use Rattle.levels.proofs.Functions.{function_found}
 use Rattle.levels.proofs.binders.function_of.Goals as goal
 
-pub returns-then-found-ne0 : goal.returns-then-found-ne0
-returns-then-found-ne0 c = function_refused c.if-found-ne0.true
-
 pub returns : goal.returns
-returns c =
-    function_found c.requires c.if-found-ne0.false (λ h. c.level_at-at.ensures h c.requires) c.to_function.ensures
+returns c = function_found c.requires refl (λ h. c.level_at-at.ensures h c.requires) c.to_function.ensures
