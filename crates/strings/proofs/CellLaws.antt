@@ -4,6 +4,10 @@ use mathlib.Core.Logic.{◌≢◌}
 use mathlib.Core.List.{List, [], ◌∷◌, ◌++◌}
 use Prim.Native.Nat.{ℕ, suc, ◌+◌, ◌-◌, ◌%◌, ◌/◌, ◌≤◌, ◌<◌}
 use native.Mathlib.Omega.{arith}
+use mathlib.Core.Bool.{Bool, true, false}
+use lib.Dec.{eqb}
+use borrow.Author.Tests.{eqb-true}
+use Rattle.std.proofs.lemmas.Bool.{eqb-false}
 use lib.ListN.{length, get_or, drop, length-append, length-drop}
 use lib.Seq.{drop-cons, drop-length}
 use Rattle.aut68.specs.Sizes.{cell_factor, at_kind}
@@ -104,6 +108,13 @@ module _ (ls : Lines) (k x : ℕ) {v : ℕ} (number : v ≡ x / cell_factor) whe
 
   pub abstraction_right : x % cell_factor ≡ 5 → v ≡ 0 → RightCell ls k x
   abstraction_right e z = an_abstraction (omega arith)
+
+  pub pair_right : 3 < x % cell_factor → x % cell_factor < 6 → v ≡ 0 → RightCell ls k x
+  pair_right f g z = of (eqb (x % cell_factor) 4) refl
+    where
+      of : (t : Bool) → eqb (x % cell_factor) 4 ≡ t → RightCell ls k x
+      of true e = application_right (eqb-true _ _ e) z
+      of false e = abstraction_right (omega (arith, eqb-false (x % cell_factor) 4 e)) z
 
   pub right_number : 3 < x % cell_factor → RightCell ls k x → v ≡ 0
   right_number e (a_variable u q w) = absurd (omega (arith, q))

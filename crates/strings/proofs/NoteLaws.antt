@@ -3,7 +3,7 @@ use mathlib.Core.Path.{◌≡◌, refl, sym, ap, ◌∙◌, subst}
 use mathlib.Core.Logic.{◌⊎◌, inl, inr, ⊎_elim}
 use mathlib.Core.Bool.{Bool, true, false, true≢false}
 use mathlib.Core.List.{List, [], ◌∷◌, ◌++◌}
-use Prim.Native.Nat.{ℕ, zero, suc, ◌+◌, ◌-◌, ◌%◌, ◌≤◌, ◌<◌}
+use Prim.Native.Nat.{ℕ, zero, suc, min, ◌+◌, ◌-◌, ◌%◌, ◌≤◌, ◌<◌}
 use native.Mathlib.Omega.{arith}
 use lib.Dec.{eqb, ltb}
 use lib.ListN.{length, get_or, set, replicate, length-append, length-set, get_or-replicate, get_or-append}
@@ -31,9 +31,13 @@ pub noted_more : {v n : ℕ} → Noted v n → Noted (v + 1) (suc n)
 noted_more {v} {n} h zero l = (λ a. omega arith, λ a. omega arith)
 noted_more {v} {n} h (suc i) l = (λ a. omega (arith, (h i (omega arith)).0 (omega arith)), λ a. omega (arith, (h i (omega arith)).1 (omega arith)))
 
--- where there are more than any bound variable counts
-pub noted_many : {v n : ℕ} → numbers ≤ v → Noted v n → Noted v (suc n)
-noted_many {v} {n} m h i l = (λ a. omega (arith, (h i l).0 (omega arith)), λ a. omega arith)
+-- one more, as far as a cell counts
+pub noted_next : {v n r : ℕ} → r ≡ min (v + 1) 4294967295 → Noted v n → Noted r (suc n)
+noted_next {v} {n} {r} e h =
+    ⊎_elim
+    (λ l. noted_as (omega arith) refl (noted_more h))
+    (λ l i m. (λ a. omega (arith, (h i m).0 (omega arith)), λ a. omega arith))
+    (under v 4294967295)
 
 -- ---- behind a cell
 
@@ -142,37 +146,6 @@ notes_next tb s i {w} {w'} {at} {parts} N e q P = record { at = subst (λ n. Not
       where
         as_is : {a b c d : ℕ} → a ≡ b → c ≡ d → NotesParts w a c (eqb (get_or s i 0 % cell_factor) 5) w' → NotesParts w b d (eqb (get_or s i 0 % cell_factor) 5) w'
         as_is f g p = rw (← f, ← g) p
-
--- ---- a part of the store filled
-
-module _ {w : List ℕ} {from x : ℕ} where
-  pub fill_none : Filled w from from x w
-  fill_none = record { long = refl; inside = λ t a b c. absurd (omega arith); outside = λ t o. refl }
-
-  pub fill_more : {i : ℕ} {w₁ : List ℕ} → from ≤ i → i < length w → Filled w from i x w₁ → Filled w from (i + 1) x (set w₁ i x)
-  fill_more {i} {w₁} f l F =
-      record {
-        long = length-set w₁ i x ∙ F.long;
-        inside = λ t a b c.
-            ⊎_elim
-            (λ m. get_or-set_other w₁ i t x 0 (λ q. omega arith) ∙ F.inside t a m c)
-            (λ m. ap (λ (j : ℕ). get_or (set w₁ i x) j 0) (omega arith) ∙ get_or-set_same w₁ i x 0 (omega (arith, F.long)))
-            (under t i);
-        outside = λ t o.
-            get_or-set_other w₁ i t x 0 (λ q. ⊎_elim (λ a. omega arith) (λ a. omega arith) o) ∙ F.outside t (⊎_elim (λ a. inl a) (λ a. inr (omega arith)) o);
-      }
-
-  -- up to the end of the store, or to where it was to go
-  pub fill_whole : {i to : ℕ} {w₁ : List ℕ} → i ≤ to → length w ≤ i → Filled w from i x w₁ → Filled w from to x w₁
-  fill_whole u l F = record { long = F.long; inside = λ t a b c. F.inside t a (omega arith) c; outside = λ t o. F.outside t (⊎_elim (λ a. inl a) (λ a. inr (omega arith)) o) }
-
-  pub fill_ends : {i to : ℕ} {w₁ : List ℕ} → to ≤ i → (i ≤ to) ⊎ (i ≡ from) → Filled w from i x w₁ → Filled w from to x w₁
-  fill_ends {i} {to} u d F =
-      record {
-        long = F.long;
-        inside = λ t a b c. F.inside t a (omega arith) c;
-        outside = λ t o. F.outside t (⊎_elim (λ e. ⊎_elim (λ a. inl a) (λ a. inr (omega arith)) o) (λ e. ⊎_elim inl (λ a. inr (omega arith)) (under t from)) d);
-      }
 
 -- ---- the notes of parts
 

@@ -3,7 +3,10 @@ use mathlib.Core.Path.{◌≡◌, refl, sym, ap, ◌∙◌, subst}
 use mathlib.Core.Logic.{⊎_elim}
 use mathlib.Core.Bool.{Bool, true, false, true≢false}
 use mathlib.Core.List.{List, [], ◌∷◌}
-use Prim.Native.Nat.{ℕ, ◌+◌, ◌-◌, ◌<◌}
+use Prim.Native.Nat.{ℕ, ◌+◌, ◌-◌, ◌≤◌, ◌<◌}
+use lib.Dec.{eqb}
+use borrow.Author.Tests.{eqb-true}
+use Rattle.std.proofs.lemmas.Bool.{eqb-false}
 use native.Mathlib.Omega.{arith}
 use lib.ListN.{length, get_or, drop, length-drop}
 use Rattle.aut68.specs.Lines.{Lines}
@@ -65,3 +68,10 @@ module _ {tb s : List ℕ} {lines : ℕ} where
             λ _. refl,
           );
         }
+
+    pub says_last : i ≤ length s → length (levels_at tb s i) ≡ 0 → SaysWhole tb lines s (eqb (length s - i) 0)
+    says_last l z = of (eqb (length s - i) 0) refl
+      where
+        of : (t : Bool) → eqb (length s - i) 0 ≡ t → SaysWhole tb lines s t
+        of true e = says_ended (omega (arith, eqb-true (length s - i) 0 e)) z
+        of false e = says_left_over (omega (arith, eqb-false (length s - i) 0 e)) z

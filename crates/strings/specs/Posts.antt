@@ -1,5 +1,5 @@
 -- What the functions on strings say.
-use Rattle.std.specs.Prelude.{◌≡◌, Bool, true, List, ℕ, suc, ◌+◌, ◌<◌, length, get_or}
+use Rattle.std.specs.Prelude.{Option, None, Some, ◌≡◌, Bool, true, List, ℕ, suc, ◌+◌, ◌<◌, length, get_or}
 use Rattle.aut68.specs.Lines.{Line, Lines, kind_number}
 use Rattle.aut68.specs.Rules.Names.{IsLine}
 use Rattle.aut68.specs.Rules.Strings.{Whole}
@@ -15,6 +15,11 @@ pub record SaysBound (tb s : List ℕ) (i n : ℕ) (answer : Bool) : Type 0 wher
 pub record SaysNoted (tb s : List ℕ) (i n : ℕ) (w : List ℕ) (at : ℕ) (answer : Bool) : Type 0 where
   pub means : Notes tb s i w → at + 1 ≡ length (levels_at tb s i) → n < numbers
       → (answer ≡ true → n < get_or (levels_at tb s i) 0 0) × (n < get_or (levels_at tb s i) 0 0 → answer ≡ true)
+
+-- the number of a kind that may be none
+abbrev pub kind_in : Option ℕ → ℕ
+kind_in None = 0
+kind_in (Some k) = suc k
 
 -- what line v is, or that there is none
 pub data KindOf (ls : Lines) (v kind : ℕ) : Type 0 where

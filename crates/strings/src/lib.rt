@@ -8,10 +8,13 @@
 ghost use Rattle.std.specs.Prelude.{◌≡◌, ℕ, suc, ◌/◌, ◌≤◌, ◌<◌, ltb, length};
 ghost use Rattle.aut68.specs.Sizes.{cell_factor, cell_values};
 ghost use Rattle.strings.specs.Notes.{numbers, Noted, NotesParts, Filled};
-ghost use Rattle.strings.specs.Posts.{SaysBound, SaysNoted, SaysKind, SaysRight, SaysWhole};
+ghost use Rattle.strings.specs.Posts.{SaysBound, SaysNoted, kind_in, SaysKind, SaysRight, SaysWhole};
 
 use cells::{field, kids};
 use constants::{CELL_FACTOR, Cell, KIND};
+
+// The kind of a line whose middle is `EB`.
+const EB: usize = 0;
 
 // Do more than n bindings stand around the cell at index i of s? Walking back, `have` counts the whole expressions between cell j and cell
 // i: a cell with more parts than these encloses cell i, in its body if it is an abstraction and they are one.
@@ -19,18 +22,16 @@ fn is_bound(table: &[u32], s: &[Cell], i: usize, n: usize) -> bool
     requires { i ≤ length s.now }
     ensures { SaysBound table.now s.now i n result }
 {
-    let mut j = i;
     let mut have = 0;
     let mut found = 0;
-    while j > 0 {
-        j = j - 1;
+    for j in (0..i).rev() {
         let x = s[j];
         let parts = kids(table, x);
         if parts <= have {
             have = have - parts + 1;
         } else {
             if x % CELL_FACTOR == 5 {
-                found = found + have;
+                found += have;
             }
             have = 0;
         }
@@ -41,36 +42,25 @@ fn is_bound(table: &[u32], s: &[Cell], i: usize, n: usize) -> bool
     false
 }
 
-// Is the note above n?
-fn above(note: Cell, n: usize) -> bool
-    ensures { result ≡ ltb n note }
-{
-    n < note as usize
-}
-
 // Do more than n bindings stand around the cell at index i of s, whose note is at index `at` of w, if w goes so far?
 fn is_noted(table: &[u32], s: &[Cell], i: usize, n: usize, w: &[Cell], at: usize) -> bool
     requires { i ≤ length s.now }
     ensures { SaysNoted table.now s.now i n w.now at result }
 {
-    if at < w.len() {
-        return above(w[at], n);
+    match w.get(at) {
+        Some(&note) => n < note as usize,
+        None => is_bound(table, s, i, n),
     }
-    is_bound(table, s, i, n)
 }
 
-// What line v of so many lines is: 1 EB, 2 PN, 3 an abbreviation; 0 where there is no such line.
-fn line_kind(table: &[u32], lines: usize, v: usize) -> usize
-    ensures { SaysKind table.now lines v result }
+// The kind of line v of so many lines, if there is such a line.
+fn line_kind(table: &[u32], lines: usize, v: usize) -> Option<usize>
+    ensures { SaysKind table.now lines v (kind_in result) }
 {
-    if v == 0 {
-        return 0;
+    if v == 0 || v - 1 >= lines {
+        return None;
     }
-    let before = v - 1;
-    if before >= lines {
-        return 0;
-    }
-    field(table, v, KIND) + 1
+    Some(field(table, v, KIND))
 }
 
 // The number in a cell.
@@ -87,13 +77,11 @@ fn is_right(table: &[u32], lines: usize, s: &[Cell], i: usize, w: &[Cell], at: u
 {
     let x = s[i];
     let v = number_in(x);
-    let k = x % CELL_FACTOR;
-    match k {
-        1 => line_kind(table, lines, v) == 1,
+    match x % CELL_FACTOR {
+        1 => line_kind(table, lines, v) == Some(EB),
         2 => is_noted(table, s, i, v, w, at),
-        3 => line_kind(table, lines, v) > 1,
-        4 => v == 0,
-        5 => v == 0,
+        3 => line_kind(table, lines, v).is_some_and(|kind| kind != EB),
+        4 | 5 => v == 0,
         _ => false,
     }
 }
@@ -102,13 +90,9 @@ fn is_right(table: &[u32], lines: usize, s: &[Cell], i: usize, w: &[Cell], at: u
 fn fill(w: &mut [Cell], from: usize, to: usize, x: Cell)
     ensures { Filled w.old from to x w.new }
 {
-    let mut i = from;
-    while i < to {
-        if i >= w.len() {
-            return;
-        }
-        w[i] = x;
-        i = i + 1;
+    let end = to.min(w.len());
+    if from < end {
+        w[from..end].fill(x);
     }
 }
 
@@ -116,10 +100,7 @@ fn fill(w: &mut [Cell], from: usize, to: usize, x: Cell)
 fn one_more(k: Cell) -> Cell
     ensures { (n : ℕ) → Noted k n → Noted result (suc n) }
 {
-    if k == 4294967295 {
-        return k;
-    }
-    k + 1
+    k.saturating_add(1)
 }
 
 // The notes behind a cell that has so many parts and the last note, at index `at` of w: that of its last part stands there now, and those
@@ -128,10 +109,9 @@ fn note_parts(w: &mut [Cell], at: usize, parts: usize, binds: bool)
     requires { parts < cell_values }
     ensures { NotesParts w.old at parts binds w.new }
 {
-    if at >= w.len() {
+    let Some(&k) = w.get(at) else {
         return;
-    }
-    let k = w[at];
+    };
     fill(w, at, at + parts, k);
     if binds {
         w[at] = one_more(k);
@@ -142,10 +122,8 @@ fn note_parts(w: &mut [Cell], at: usize, parts: usize, binds: bool)
 pub fn is_whole(table: &[u32], lines: usize, s: &[Cell], w: &mut [Cell]) -> bool
     ensures { SaysWhole table.now lines s.now result }
 {
-    if s.len() == 1 {
-        if s[0] == 0 {
-            return true;
-        }
+    if s.len() == 1 && s[0] == 0 {
+        return true;
     }
     fill(w, 0, 1, 0);
     let mut i = 0;
@@ -155,18 +133,14 @@ pub fn is_whole(table: &[u32], lines: usize, s: &[Cell], w: &mut [Cell]) -> bool
             return false;
         }
         let at = pending - 1;
-        if is_right(table, lines, s, i, w, at) {
-            let x = s[i];
-            let parts = kids(table, x);
-            note_parts(w, at, parts, x % CELL_FACTOR == 5);
-            pending = at + parts;
-            i = i + 1;
-        } else {
+        if !is_right(table, lines, s, i, w, at) {
             return false;
         }
+        let x = s[i];
+        let parts = kids(table, x);
+        note_parts(w, at, parts, x % CELL_FACTOR == 5);
+        pending = at + parts;
+        i += 1;
     }
-    if s.len() - i > 0 {
-        return false;
-    }
-    true
+    s.len() - i == 0
 }

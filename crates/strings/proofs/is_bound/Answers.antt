@@ -18,43 +18,15 @@ walked c =
       | else-parts-have+else-x-eq5 w ↦ walked_other I k (omega (arith, w.if-parts-have.false)) w.if-x-eq5.false w.have-is w.found-is
     ]
 
--- src/lib.rt:23:5
 pub loop-j-init : goal.loop-j-init
 loop-j-init c = (omega arith, walk_starts)
 
--- src/lib.rt:24:13
-pub overflow_sub-j : goal.overflow_sub-j
-overflow_sub-j c = omega arith
-
--- src/lib.rt:25:17
-pub offset_bounds-s-j : goal.offset_bounds-s-j
-offset_bounds-s-j c = omega arith
-
--- src/lib.rt:25:17
-pub bounds-s-j : goal.bounds-s-j
-bounds-s-j c = omega arith
-
--- src/lib.rt:28:20
-pub overflow_add-have : goal.overflow_add-have
-overflow_add-have c = omega arith
-
--- src/lib.rt:31:25
-pub overflow_add-found : goal.overflow_add-found
-overflow_add-found c = omega arith
-
--- src/lib.rt:36:13
 pub returns-then-found-n : goal.returns-then-found-n
 returns-then-found-n c = record { means = λ p. (λ _. omega (arith, c.if-found-n.true, ((walked (goal.at.returns-then-found-n c).Joined-parts-have).is p).1), λ _. refl) }
 
--- src/lib.rt:23:5
-pub loop-j-smaller : goal.loop-j-smaller
-loop-j-smaller c = omega arith
-
--- src/lib.rt:23:5
 pub loop-j-preserved : goal.loop-j-preserved
 loop-j-preserved c = (omega (arith, c.if-found-n.false), walked (goal.at.loop-j-preserved c).Joined-parts-have)
 
--- src/lib.rt:16:1
 pub returns : goal.returns
 returns c =
     let I = c.loop-j.invariant in

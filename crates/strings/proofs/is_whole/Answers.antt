@@ -6,12 +6,9 @@ use lib.ListN.{length, get_or}
 use Rattle.strings.specs.Levels.{levels_at}
 use Rattle.strings.proofs.CellLaws.{reached_start, levels_next}
 use Rattle.strings.proofs.NoteLaws.{notes_start, notes_next}
-use Rattle.strings.proofs.WholeLaws.{says_type, says_short, says_right, says_wrong, says_left_over, says_ended}
+use Rattle.strings.proofs.WholeLaws.{says_type, says_short, says_right, says_wrong, says_last}
 use Rattle.strings.proofs.is_whole.Goals as goal
-use Rattle.strings.proofs.is_whole.Goals.{then-s-eq1+else-s-eq0, else-s-eq1}
-
-pub bounds-s-0 : goal.bounds-s-0
-bounds-s-0 c = omega arith
+use Rattle.strings.proofs.is_whole.Goals.{else-s-eq1-via-then-s-eq1+else-s-eq0, else-s-eq1-via-else-s-eq1}
 
 pub returns-then-s-eq0 : goal.returns-then-s-eq0
 returns-then-s-eq0 c = says_type c.if-s-eq1.true c.if-s-eq0.true
@@ -20,9 +17,9 @@ pub loop-pending-init : goal.loop-pending-init
 unfolding levels_at
 loop-pending-init c = (
   (
-    elim c.if-s-eq1.branch [
-      | then-s-eq1+else-s-eq0 w ↦ λ q. w.if-s-eq0.false (ap (λ (l : List ℕ). get_or l 0 0) q)
-      | else-s-eq1 w ↦ λ q. w.if-s-eq1.false (ap length q)
+    elim c.else-s-eq1.branch [
+      | else-s-eq1-via-then-s-eq1+else-s-eq0 w ↦ λ q. w.if-s-eq0.false (ap (λ (l : List ℕ). get_or l 0 0) q)
+      | else-s-eq1-via-else-s-eq1 w ↦ λ q. w.if-s-eq1.false (ap length q)
     ],
     omega arith,
     refl,
@@ -32,9 +29,6 @@ loop-pending-init c = (
   λ ls R e. reached_start ls _ _,
 )
 
-pub overflow_sub-s : goal.overflow_sub-s
-overflow_sub-s c = omega arith
-
 pub shape_of-w-then-pending-s : goal.shape_of-w-then-pending-s
 shape_of-w-then-pending-s c = omega (arith, c.loop-pending.invariant.1, c.fill.ensures.long)
 
@@ -43,29 +37,11 @@ returns-then-pending-s c =
     let I = c.loop-pending.invariant in
     says_short I.0.0 I.3 (omega (arith, I.0.1))
 
-pub overflow_sub-at : goal.overflow_sub-at
-overflow_sub-at c = omega arith
-
-pub is_right-requires : goal.is_right-requires
-is_right-requires c = omega arith
-
-pub offset_bounds-s-i : goal.offset_bounds-s-i
-offset_bounds-s-i c = omega arith
-
-pub bounds-s-i : goal.bounds-s-i
-bounds-s-i c = omega arith
-
 pub note_parts-requires : goal.note_parts-requires
 note_parts-requires c = omega (arith, c.kids-parts.ensures.1)
 
 pub overflow_add-pending : goal.overflow_add-pending
 overflow_add-pending c = omega (arith, c.kids-parts.ensures.1)
-
-pub overflow_add-i : goal.overflow_add-i
-overflow_add-i c = omega arith
-
-pub loop-pending-smaller : goal.loop-pending-smaller
-loop-pending-smaller c = omega arith
 
 pub loop-pending-preserved : goal.loop-pending-preserved
 loop-pending-preserved c =
@@ -76,27 +52,16 @@ loop-pending-preserved c =
       (I.0.0, omega arith, levels_next _ _ _ (omega arith) I.0.2 k),
       omega (arith, I.1, P.long),
       notes_next _ _ _ I.2 (omega arith) k P,
-      says_right I.0.0 I.3 (omega arith) I.2 (omega arith) r c.if-is_right.true,
+      says_right I.0.0 I.3 (omega arith) I.2 (omega arith) r c.if-not-is_right.false,
     )
 
-pub shape_of-w-else-is_right : goal.shape_of-w-else-is_right
-shape_of-w-else-is_right c = omega (arith, c.loop-pending.invariant.1, c.fill.ensures.long)
+pub shape_of-w-then-not-is_right : goal.shape_of-w-then-not-is_right
+shape_of-w-then-not-is_right c = omega (arith, c.loop-pending.invariant.1, c.fill.ensures.long)
 
-pub returns-else-is_right : goal.returns-else-is_right
-returns-else-is_right c =
+pub returns-then-not-is_right : goal.returns-then-not-is_right
+returns-then-not-is_right c =
     let I = c.loop-pending.invariant in
-    says_wrong I.0.0 I.3 (omega arith) I.2 (omega arith) c.is_right.ensures c.if-is_right.false
-
-pub overflow_sub-s-2 : goal.overflow_sub-s-2
-overflow_sub-s-2 c = omega arith
-
-pub shape_of-w-then-s-i-gt0 : goal.shape_of-w-then-s-i-gt0
-shape_of-w-then-s-i-gt0 c = omega (arith, c.loop-pending.invariant.1, c.fill.ensures.long)
-
-pub returns-then-s-i-gt0 : goal.returns-then-s-i-gt0
-returns-then-s-i-gt0 c =
-    let I = c.loop-pending.invariant in
-    says_left_over I.0.0 I.3 (omega arith) (omega arith)
+    says_wrong I.0.0 I.3 (omega arith) I.2 (omega arith) c.is_right.ensures c.if-not-is_right.true
 
 pub shape_of-w : goal.shape_of-w
 shape_of-w c = omega (arith, c.loop-pending.invariant.1, c.fill.ensures.long)
@@ -104,4 +69,4 @@ shape_of-w c = omega (arith, c.loop-pending.invariant.1, c.fill.ensures.long)
 pub returns : goal.returns
 returns c =
     let I = c.loop-pending.invariant in
-    says_ended I.0.0 I.3 (omega (arith, I.0.1)) (omega arith)
+    says_last I.0.0 I.3 I.0.1 (omega arith)
