@@ -1,15 +1,16 @@
 -- The paragraph opened in a given one under a given name, among those that have an entry, down the chain of the name.
-use mathlib.Core.Path.{◌≡◌, sym, ap, ap₂, ◌∙◌, subst}
+use mathlib.Core.Path.{◌≡◌, refl, sym, ap, ap₂, ◌∙◌, subst}
 use mathlib.Core.Logic.{◌≢◌}
 use mathlib.Core.Bool.{Bool, true, false, ◌&&◌}
 use mathlib.Core.List.{List, ◌∷◌}
-use Prim.Native.Nat.{ℕ, suc, ◌+◌, ◌/◌, ◌%◌, ◌≤◌, ◌<◌}
+use Prim.Native.Nat.{ℕ, min, suc, ◌+◌, ◌/◌, ◌%◌, ◌≤◌, ◌<◌}
 use native.Mathlib.Decide.{ℕ_discrete}
 use native.Mathlib.Nat.{mod-le}
 use native.Mathlib.Omega.{arith}
-use lib.Dec.{eqb}
+use lib.Dec.{eqb, leb}
 use lib.ListN.{length, get_or}
-use borrow.Author.Tests.{eq-eqb, ne_eqb, eqb-true, lt-leb, le-leb}
+use borrow.Author.Tests.{eq-eqb, ne_eqb, eqb-true, leb-true, leb-false}
+use Rattle.std.specs.Prelude as Prelude
 use Rattle.aut68.specs.Sizes.{cell_values}
 use Rattle.aut68.specs.Bytes.{Bytes, same_bytes}
 use Rattle.aut68.specs.Lines.{part_of}
@@ -18,7 +19,8 @@ use Rattle.aut68.specs.Rules.Names.{Member, here, there, ParagraphIn}
 use Rattle.lookup.specs.SameBytes.{same_true, same_refl}
 use Rattle.lookup.specs.Tests.{and_true}
 use Rattle.lookup.specs.Places.{NumberedFrom, next_number, none_left, RightPlace, numbered_within}
-use Rattle.names.specs.Chains.{Chains, Searching, Found, found_here, found_nothing, found_outside, found_upward, search_on}
+use Rattle.names.specs.Search.{Gives, gives_so}
+use Rattle.names.specs.Chains.{Chains, Searching, Found}
 use Rattle.names.specs.Chains as Chains
 use Rattle.names.specs.Hints.{hash_of, key_at}
 use Rattle.names.proofs.FindLaws.{second_fails, second_passes}
@@ -28,17 +30,21 @@ use Rattle.notes.specs.Posts.{NotedFound}
 
 -- ---- numbers
 
-pub noted_few : (n : ℕ) {m count : ℕ} → m ≡ capacity n → count ≤ m → count ≡ noted n count
+pub noted_is : (n count : ℕ) → min count (capacity n) ≡ noted n count
 unfolding noted
-noted_few n {count = count} e l = rw (le-leb count (capacity n) (omega arith), noted)
-
-pub noted_many : (n : ℕ) {m count : ℕ} → m ≡ capacity n → m < count → m ≡ noted n count
-unfolding noted
-noted_many n {count = count} e l = rw (lt-leb count (capacity n) (omega arith), noted) e
+noted_is n count = split (leb count (capacity n)) refl
+  where
+    split : (t : Bool) → leb count (capacity n) ≡ t → min count (capacity n) ≡ elim t as (λ _. ℕ) [ true ↦ count | false ↦ capacity n ]
+    split true e = omega (arith, leb-true count (capacity n) e)
+    split false e = omega (arith, leb-false count (capacity n) e)
 
 pub chain_is_lem : (n h q : ℕ) {k m : ℕ} → k ≡ key_at h q → k < cell_values → m ≡ capacity n → (k % (m + 1) ≡ chain_of n h q) × (k % (m + 1) < cell_values)
 unfolding chain_of
 chain_is_lem n h q {k} {m} e l f = (λ i. e i % (f i + 1), omega (arith, mod-le k (m + 1)))
+
+pub next_is_lem : (w : List ℕ) (k : ℕ) {x : ℕ} → x ≡ get_or w (around_cell (length w) k) 0 → x / chain_factor ≡ next_at w k
+unfolding next_at
+next_is_lem w k e = ap (λ (c : ℕ). c / chain_factor) e
 
 -- ---- an entry that has the word and the paragraph
 
@@ -96,65 +102,41 @@ abbrev entries : List ℕ → ℕ
 entries w = noted (length w) (get_or w (count_cell (length w)) 0)
 
 -- a place is noted, and the word has the hash
-record Asked (book w : List ℕ) (word : Bytes) (h : ℕ) : Type 0 where
-  at : Place
-  place : PlaceNoted book at w
-  hash : h ≡ hash_of word
-  long : 1 ≤ length word
+pub record Asked (book w : List ℕ) (word : Bytes) (h : ℕ) : Type 0 where
+  pub at : Place
+  pub place : PlaceNoted book at w
+  pub hash : h ≡ hash_of word
+  pub long : 1 ≤ length word
 
--- the chain from k on comes to the entry that is sought, if there is one among the first `most`
-pub record SearchingEntry (book w : List ℕ) (word : Bytes) (h q most k : ℕ) : Type 0 where
-  search : Searching (Asked book w word h) (entry_is book w word q) (next_at w) most k
+module _ (book w : List ℕ) (word : Bytes) (h q : ℕ) {count most : ℕ} (counted : count ≡ get_or w (count_cell (length w)) 0) (limited : most ≡ noted (length w) count) where
   most_is : most ≡ entries w
+  most_is = limited ∙ ap (noted (length w)) counted
 
-module _ (book w : List ℕ) (word : Bytes) (h q : ℕ) where
-  pub search_starts : {i k count most : ℕ} → i ≡ chain_of (length w) h q → k ≡ get_or w (head_cell (length w) i) 0 → most ≡ noted (length w) count → count ≡ get_or w (count_cell (length w)) 0
-      → SearchingEntry book w word h q most k
-  search_starts {most = most} e f m n = record { search = Chains.search_starts (chain_of (length w) h q) (λ g. chains g.place) (chain_below (length w) h q) same (f ∙ ap (λ (j : ℕ). get_or w (head_cell (length w) j) 0) e); most_is = em }
+  pub entries_within : most ≤ capacity (length w)
+  entries_within = omega (arith, limited, noted_most (length w) count)
+
+  -- the chain comes to the entry that is sought, if there is one
+  pub search_starts : {i k : ℕ} → i ≡ chain_of (length w) h q → k ≡ get_or w (head_cell (length w) i) 0 → Searching (Asked book w word h) (entry_is book w word q) (next_at w) most k
+  search_starts e f =
+      Chains.search_starts (chain_of (length w) h q) (λ g. chains g.place) (chain_below (length w) h q) same (f ∙ ap (λ (j : ℕ). get_or w (head_cell (length w) j) 0) e)
     where
-      em : most ≡ entries w
-      em = m ∙ ap (noted (length w)) n
-
       chains : {at : Place} → PlaceNoted book at w → Chains (entry_chain book w) (next_at w) (λ (i : ℕ). get_or w (head_cell (length w) i) 0) (capacity (length w)) most
       chains p =
-          subst (Chains (entry_chain book w) (next_at w) (λ (i : ℕ). get_or w (head_cell (length w) i) 0) (capacity (length w))) (sym (em ∙ ap (noted (length w)) p.count_is)) p.entries.chains
+          subst (Chains (entry_chain book w) (next_at w) (λ (i : ℕ). get_or w (head_cell (length w) i) 0) (capacity (length w))) (sym (most_is ∙ ap (noted (length w)) p.count_is)) p.entries.chains
 
       same : Asked book w word h → (u : ℕ) → entry_is book w word q u ≡ true → entry_chain book w u ≡ chain_of (length w) h q
       same g u p = let (t, s) = entry_true book w word q u p in ap₂ (chain_of (length w)) (ap hash_of (sym t) ∙ sym g.hash) (sym s)
 
-  found : {most r : ℕ} → most ≡ entries w → Found (Asked book w word h) (entry_is book w word q) most r → NotedFound book w word h q r
-  found {r = r} em f =
+  found : {r : ℕ} → Found (Asked book w word h) (entry_is book w word q) most r → NotedFound book w word h q r
+  found {r} f =
       record {
         none = λ at p right l e z x m b n s. (
             let (c, d, i) = paragraph_has p right m b in
-            f.fails (record { at = at; place = p; hash = e; long = l }) z x.number c (subst (λ (c : ℕ). x.number ≤ c) (ap (noted (length w)) (sym p.count_is) ∙ sym em) d)
+            f.fails (record { at = at; place = p; hash = e; long = l }) z x.number c (subst (λ (c : ℕ). x.number ≤ c) (ap (noted (length w)) (sym p.count_is) ∙ sym most_is) d)
             (ap₂ (λ (a : Bytes) (b : ℕ). entry_is book w a b x.number) (sym n) (sym s) ∙ i));
         is = λ at p right l e n.
-            entry_passes p right (omega arith) (subst (λ (c : ℕ). r ≤ c) (em ∙ ap (noted (length w)) p.count_is) f.within) (f.passes (record { at = at; place = p; hash = e; long = l }) n);
+            entry_passes p right (omega arith) (subst (λ (c : ℕ). r ≤ c) (most_is ∙ ap (noted (length w)) p.count_is) f.within) (f.passes (record { at = at; place = p; hash = e; long = l }) n);
       }
 
-module _ {book w : List ℕ} {word : Bytes} {h q most k : ℕ} (s : SearchingEntry book w word h q most k) where
-  pub no_more : k ≡ 0 → NotedFound book w word h q 0
-  no_more z = found book w word h q s.most_is (found_nothing s.search z)
-
-  pub out_of_it : most < k → NotedFound book w word h q 0
-  out_of_it l = found book w word h q s.most_is (found_outside s.search l)
-
-  module _ (n : k ≢ 0) (l : k ≤ most) where
-    below : k ≤ capacity (length w)
-    below = omega (arith, s.most_is, noted_most (length w) (get_or w (count_cell (length w)) 0))
-
-    pub this_one_lem : {t : Bool} → (1 ≤ length word → k ≤ capacity (length w) → t ≡ entry_is book w word q k) → t ≡ true → NotedFound book w word h q k
-    this_one_lem is e = found book w word h q s.most_is (found_here n l (λ g. is g.long below) e)
-
-    module _ {x : ℕ} (around : k ≤ capacity (length w) → x ≡ get_or w (around_cell (length w) k) 0) where
-      next : x / chain_factor ≡ next_at w k
-      unfolding next_at
-      next = ap (λ (c : ℕ). c / chain_factor) (around below)
-
-      pub not_down : k ≤ x / chain_factor → NotedFound book w word h q 0
-      not_down u = found book w word h q s.most_is (found_upward s.search n next u)
-
-      pub search_next : {t : Bool} → (1 ≤ length word → k ≤ capacity (length w) → t ≡ entry_is book w word q k) → t ≡ false → x / chain_factor < k
-          → SearchingEntry book w word h q most (x / chain_factor)
-      search_next is e u = record { search = search_on s.search (λ g. is g.long below) e next u; most_is = s.most_is }
+  pub gives_entry : (r : Prelude.Option ℕ) → Gives (Found (Asked book w word h) (entry_is book w word q) most) r → Gives (NotedFound book w word h q) r
+  gives_entry = gives_so (Found (Asked book w word h) (entry_is book w word q) most) (NotedFound book w word h q) (λ r f. found f)

@@ -1,5 +1,5 @@
 -- Whether a paragraph is open: its number is looked for among those of the open ones, the innermost first.
-use mathlib.Core.Path.{◌≡◌, refl, sym, ap, ◌∙◌}
+use mathlib.Core.Path.{◌≡◌, refl, sym, ap, ◌∙◌, subst}
 use mathlib.Core.Logic.{◌≢◌}
 use mathlib.Core.Bool.{true, false, ◌||◌}
 use mathlib.Core.List.{List, [], ◌∷◌}
@@ -25,11 +25,14 @@ module _ {w : List ℕ} {n i : ℕ} (h : AmongOuter w n i) where
   unfolding is_open
   among_none z = record { is = λ book at p. (let (os, o, e) = h.is book at p in sym (e ∙ ap (is_open n) (outer_none z o))) }
 
-  module _ {r : ℕ} (l : OfLevel numbers w i r) (p : 0 < i) where
+  module _ {j r : ℕ} (l : OfLevel numbers w j r) (same : j ≡ i) (p : 0 < i) where
+    level : OfLevel numbers w i r
+    level = subst (λ (k : ℕ). OfLevel numbers w k r) same l
+
     this_open : {book : Bytes} {at : Place} (os : List Opened) → Outer book at w i os → r ≡ n → is_open n os ≡ true
     unfolding is_open current
     this_open [] o e = absurd (omega (arith, o.count))
-    this_open (x ∷ os) o e = ap (λ t. t || is_open n os) (eq-eqb n x.number (sym e ∙ level_number o l))
+    this_open (x ∷ os) o e = ap (λ t. t || is_open n os) (eq-eqb n x.number (sym e ∙ level_number o level))
 
     pub among_this : r ≡ n → OpenTold w n true
     among_this e = record { is = λ book at q. (let (os, o, s) = h.is book at q in sym (s ∙ this_open os o e)) }
@@ -37,7 +40,7 @@ module _ {w : List ℕ} {n i : ℕ} (h : AmongOuter w n i) where
     others_open : {book : Bytes} {at : Place} (os : List Opened) → Outer book at w i os → r ≢ n → (rest : List Opened) × Outer book at w (i - 1) rest × (is_open n os ≡ is_open n rest)
     unfolding is_open current
     others_open [] o e = absurd (omega (arith, o.count))
-    others_open (x ∷ os) o m = (os, outer_next o, ap (λ t. t || is_open n os) (ne_eqb n x.number (λ e. m (level_number o l ∙ sym e))))
+    others_open (x ∷ os) o m = (os, outer_next o, ap (λ t. t || is_open n os) (ne_eqb n x.number (λ e. m (level_number o level ∙ sym e))))
 
     pub among_others : r ≢ n → AmongOuter w n (i - 1)
     among_others m =

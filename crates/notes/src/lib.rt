@@ -3,12 +3,13 @@
 
 ghost use Rattle.std.specs.Prelude.{◌≡◌, ◌+◌, ◌/◌, ◌≤◌, ◌<◌, length, get_or};
 ghost use Rattle.aut68.specs.Sizes.{cell_values};
-ghost use Rattle.notes.specs.Note.{numbers, froms, arounds, capacity, entry_at, chain_of, entry_is, noted};
+ghost use Rattle.names.specs.Search.{Gives};
+ghost use Rattle.notes.specs.Note.{numbers, froms, arounds, capacity, entry_at, chain_of, entry_is, next_at, noted};
 ghost use Rattle.notes.specs.Posts.{OfLevel, NotedFound, OpenTold};
 
 use cells::READER_UNITS;
 use constants::{Cell, OPEN_LIMIT};
-use names::{key, part_is};
+use names::{key, part_is, search};
 
 // Where its cells lie, behind the middle of the store.
 pub const DEPTH: usize = 1;
@@ -49,10 +50,7 @@ fn level_cell(w: &[Cell], base: usize, i: usize) -> usize
     requires { base ≤ froms }
     ensures { OfLevel base w.now i result }
 {
-    if i == 0 {
-        return 0;
-    }
-    if i > OPEN_LIMIT {
+    if i == 0 || i > OPEN_LIMIT {
         return 0;
     }
     cell_at(w, base + (i - 1))
@@ -76,22 +74,14 @@ pub fn from_at(w: &[Cell], i: usize) -> usize
 pub fn capacity(n: usize) -> usize
     ensures { result ≡ capacity n }
 {
-    let room = 3 * (n / READER_UNITS);
-    if room < 24 {
-        return 0;
-    }
-    room - 24
+    (3 * (n / READER_UNITS)).saturating_sub(24)
 }
 
 // .. and of so many.
 fn noted(n: usize, count: usize) -> usize
     ensures { result ≡ noted n count }
 {
-    let most = capacity(n);
-    if count > most {
-        return most;
-    }
-    count
+    count.min(capacity(n))
 }
 
 // The chain of a name with the hash h, opened in the paragraph q.
@@ -125,38 +115,35 @@ fn entry_is(book: &[u8], w: &[Cell], k: usize, word: &[u8], q: usize) -> bool
     part_is(book, title % PLACE_FACTOR, title / PLACE_FACTOR, word)
 }
 
-// The paragraph with this name opened in q, among those that have an entry, by the hash h of the name; 0: none.
-pub fn noted_in(book: &[u8], w: &[Cell], word: &[u8], h: usize, q: usize) -> usize
-    ensures { NotedFound book.now w.now word.now h q result }
+// The next entry of the chain of paragraph k; 0: none.
+fn next_at(w: &[Cell], k: usize) -> usize
+    ensures { k ≤ capacity (length w.now) → result ≡ next_at w.now k }
 {
+    entry_cell(w, AROUNDS, k) / CHAIN_FACTOR
+}
+
+// The paragraph with this name opened in q, among those that have an entry, by the hash h of the name.
+pub fn noted_in(book: &[u8], w: &[Cell], word: &[u8], h: usize, q: usize) -> Option<usize>
+    ensures { Gives (NotedFound book.now w.now word.now h q) result }
+{
+    let first = cell_at(w, HEADS + chain(w.len(), h, q));
     let most = noted(w.len(), cell_at(w, COUNT));
-    let mut k = cell_at(w, HEADS + chain(w.len(), h, q));
-    while k != 0 {
-        if k > most {
-            return 0;
-        }
-        if entry_is(book, w, k, word, q) {
-            return k;
-        }
-        let next = entry_cell(w, AROUNDS, k) / CHAIN_FACTOR;
-        if next >= k {
-            return 0;
-        }
-        k = next;
-    }
-    0
+    search(
+        first,
+        most,
+        |k| entry_is(book, w, k, word, q),
+        |k| next_at(w, k),
+    )
 }
 
 // Is the paragraph n open?
 pub fn is_open(w: &[Cell], n: usize) -> bool
     ensures { OpenTold w.now n result }
 {
-    let mut i = cell_at(w, DEPTH);
-    while i > 0 {
-        if number_at(w, i) == n {
+    for i in (0..cell_at(w, DEPTH)).rev() {
+        if number_at(w, i + 1) == n {
             return true;
         }
-        i = i - 1;
     }
     false
 }

@@ -6,16 +6,10 @@ pub loop-i-init : goal.loop-i-init
 loop-i-init c = among_all _ _ c.cell_at-i.ensures.0
 
 pub returns-then-number_at-n : goal.returns-then-number_at-n
-returns-then-number_at-n c = among_this c.loop-i.invariant c.number_at.ensures c.loop-i-test.true c.if-number_at-n.true
-
-pub overflow_sub-i : goal.overflow_sub-i
-overflow_sub-i c = omega arith
-
-pub loop-i-smaller : goal.loop-i-smaller
-loop-i-smaller c = omega arith
+returns-then-number_at-n c = among_this c.loop-i.invariant c.number_at.ensures (omega arith) (omega arith) c.if-number_at-n.true
 
 pub loop-i-preserved : goal.loop-i-preserved
-loop-i-preserved c = among_others c.loop-i.invariant c.number_at.ensures c.loop-i-test.true c.if-number_at-n.false
+loop-i-preserved c = among_others c.loop-i.invariant c.number_at.ensures (omega arith) (omega arith) c.if-number_at-n.false
 
 pub returns : goal.returns
 returns c = among_none c.loop-i.invariant (omega arith)

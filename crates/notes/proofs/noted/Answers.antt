@@ -1,8 +1,7 @@
-use Rattle.notes.proofs.EntryLaws.{noted_few, noted_many}
+use mathlib.Core.Path.{ap, ◌∙◌}
+use Prim.Native.Nat.{min}
+use Rattle.notes.proofs.EntryLaws.{noted_is}
 use Rattle.notes.proofs.noted.Goals as goal
 
-pub returns-then-count-most : goal.returns-then-count-most
-returns-then-count-most c = noted_many _ c.capacity-most.ensures c.if-count-most.true
-
 pub returns : goal.returns
-returns c = noted_few _ c.capacity-most.ensures c.if-count-most.false
+returns c = c.min.ensures ∙ ap (min c.args.count) c.capacity.ensures ∙ noted_is c.args.n c.args.count
