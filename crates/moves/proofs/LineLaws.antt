@@ -93,14 +93,12 @@ module _ {ks book tb : List ℕ} {n : ℕ} {w : List ℕ} {start len at next k :
   unused_is e =
       sym (told.is st a.ahead.kinds a.ahead.known a.ahead.stands.noted (word_long a fits) ∙ ap (λ (p : Bytes). not (unused p st)) (word_is a fits)) ∙ e
 
-  line_taken : {w' : List ℕ} {o' : Open} → t ≡ true → MovedResult book tb n w' next st bytes 4 o'
-  unfolding code_of
+  line_taken : {w' : List ℕ} {o' : Open} → t ≡ true → MovedResult book tb n w' next st bytes (code_of duplicate) o'
   line_taken e =
       refused {r = duplicate} (λ m c. check_opening_lem aut68 st m bytes c (is_signed a) ∙ stop_then _ (opening_taken st bytes c a.read (not-true _ (unused_is e)))) refl
 
   module _ (e : t ≡ false) where
-    line_deep : {w' : List ℕ} {o' : Open} → open_limit ≤ o.depth → MovedResult book tb n w' next st bytes 12 o'
-    unfolding code_of
+    line_deep : {w' : List ℕ} {o' : Open} → open_limit ≤ o.depth → MovedResult book tb n w' next st bytes (code_of out_of_space) o'
     line_deep d =
         refused {r = out_of_space}
         (λ m c.
@@ -130,8 +128,7 @@ module _ {ks book tb : List ℕ} {n : ℕ} {w : List ℕ} {start len at next k :
   innermost_is_lem e =
       sym (told.is st.place.opened a.ahead.named (few a) (word_long a fits) ∙ ap (λ (p : Bytes). innermost_is p st.place.opened) (word_is a fits)) ∙ e
 
-  line_another : {w' : List ℕ} {o' : Open} → t ≡ false → MovedResult book tb n w' next st bytes 17 o'
-  unfolding code_of
+  line_another : {w' : List ℕ} {o' : Open} → t ≡ false → MovedResult book tb n w' next st bytes (code_of unbalanced) o'
   line_another e =
       refused {r = unbalanced}
       (λ m c.
@@ -139,12 +136,12 @@ module _ {ks book tb : List ℕ} {n : ℕ} {w : List ℕ} {start len at next k :
       refl
 
   line_closed : {w' : List ℕ} → t ≡ true → next ≤ length book → length book ≤ book_limit → ClosingPost book (o.depth - 1) next w w'
-      → MovedResult book tb n w' next st bytes 0 (record { starts = o.starts; lens = o.lens; depth = o.depth - 1 })
+      → MovedResult book tb n w' next st bytes 0 (record { titles = o.titles; depth = o.depth - 1 })
   unfolding innermost_is
   line_closed {w'} e l b p = at_inner st.place.opened refl (innermost_is_lem e)
     where
       at_inner : (opened : List Opened) → st.place.opened ≡ opened → innermost_is (part_of book start len) opened ≡ true
-          → MovedResult book tb n w' next st bytes 0 (record { starts = o.starts; lens = o.lens; depth = o.depth - 1 })
+          → MovedResult book tb n w' next st bytes 0 (record { titles = o.titles; depth = o.depth - 1 })
       at_inner [] i f = absurd (false≢true f)
       at_inner (x ∷ os) i f =
           moved {place = closed_to st.place os}
@@ -158,10 +155,10 @@ module _ {ks book tb : List ℕ} {n : ℕ} {w : List ℕ} {start len at next k :
 
 module _ {ks book tb : List ℕ} {n : ℕ} {w : List ℕ} (start len : ℕ) {next : ℕ} {o : Open} (fits : start + len ≤ length book) {t : Bool} where
   module _ (told : TakenTold ks book tb n w (take (start + len - start) (drop start book)) t) where
-    pub name_taken : t ≡ true → NamePost 43 ks book tb n w w start len next o 4 o
+    pub name_taken : t ≡ true → NamePost 43 ks book tb n w w start len next o (code_of duplicate) o
     name_taken e = record { kept = outside_same; means = λ a. line_taken a fits told e }
 
-    pub name_deep : t ≡ false → open_limit ≤ o.depth → NamePost 43 ks book tb n w w start len next o 12 o
+    pub name_deep : t ≡ false → open_limit ≤ o.depth → NamePost 43 ks book tb n w w start len next o (code_of out_of_space) o
     name_deep e d = record { kept = outside_same; means = λ a. line_deep a fits told e d }
 
     pub name_opened : {w' : List ℕ} {o' : Open} → t ≡ false → o.depth < open_limit → OpeningPost book start len o.depth next w w' → OneOpened o start len o'
@@ -169,9 +166,9 @@ module _ {ks book tb : List ℕ} {n : ℕ} {w : List ℕ} (start len : ℕ) {nex
     name_opened e d p q = record { kept = p.kept; means = λ a. line_opened a fits told e d p q }
 
   module _ (told : InnermostTold book o (take (start + len - start) (drop start book)) t) where
-    pub name_another : t ≡ false → NamePost 45 ks book tb n w w start len next o 17 o
+    pub name_another : t ≡ false → NamePost 45 ks book tb n w w start len next o (code_of unbalanced) o
     name_another e = record { kept = outside_same; means = λ a. line_another a fits told e }
 
     pub name_closed : {w' : List ℕ} → t ≡ true → next ≤ length book → length book ≤ book_limit → ClosingPost book (o.depth - 1) next w w'
-        → NamePost 45 ks book tb n w w' start len next o 0 (record { starts = o.starts; lens = o.lens; depth = o.depth - 1 })
+        → NamePost 45 ks book tb n w w' start len next o 0 (record { titles = o.titles; depth = o.depth - 1 })
     name_closed e l b p = record { kept = p.kept; means = λ a. line_closed a fits told e l b p }

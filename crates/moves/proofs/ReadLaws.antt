@@ -79,8 +79,7 @@ module _ {ks book : Bytes} {at next k start len : ℕ} (onward : at ≤ next) (i
           read = (λ j. a_sign_line aut68 (sym i j) (sym line_is_lem j)) ∙ e ∙ ap (λ (p : Bytes). done p rest) (part_of_part book at next start len onward inside (omega (arith, R.within, long)));
         }
 
-  pub line_malformed : len ≡ 0 → MovedPost ks book tb n w w at next k o 3 o
-  unfolding code_of
+  pub line_malformed : len ≡ 0 → MovedPost ks book tb n w w at next k o (code_of malformed) o
   line_malformed z =
       record {
         kept = outside_same;

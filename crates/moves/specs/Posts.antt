@@ -1,5 +1,5 @@
 -- What a paragraph line leaves.
-use Rattle.std.specs.Prelude.{◌≡◌, Bool, true, false, List, [], ◌∷◌, ℕ, ◌+◌, ◌*◌, ◌/◌, ◌≤◌, length, get_or, drop}
+use Rattle.std.specs.Prelude.{◌≡◌, Bool, true, false, List, [], ◌∷◌, ℕ, ◌+◌, ◌*◌, ◌/◌, ◌≤◌, length, get_or, drop, Result, Ok, Err}
 use Rattle.std.proofs.Math.Seq.{slice}
 use Rattle.aut68.specs.Language.{aut68}
 use Rattle.aut68.specs.Sizes.{smallest_limit, largest_limit, open_limit}
@@ -13,23 +13,27 @@ use Rattle.aut68.specs.Procedure.CheckPiece.{moved_to, check_piece}
 use Rattle.aut68.specs.Rules.Grammar.{IsSign}
 use Rattle.cells.specs.Cells.{Outside}
 use Rattle.cells.specs.Layout.{reader_units}
+use Rattle.constants.specs.declared.codes.Reason.{Reason}
 use Rattle.kinds.specs.Kinds.{KindsTable, kind_of}
 use Rattle.names.specs.Known.{Known}
 use Rattle.notes.specs.Note.{StandsAt, note_end}
+use Rattle.moves.specs.declared.Title.{Title}
 use Rattle.moves.specs.declared.Open.{Open}
 
 -- ---- open paragraphs
 
+abbrev pub nowhere : Title
+nowhere = record { start = 0; len = 0 }
+
 -- the name of each, the outermost first, is the part of the book with that start and that length
-pub data Titled (book : Bytes) (starts lens : List ℕ) : List Opened → Type 0 where
-  no_title : Titled book starts lens []
-  next_title : {o : Opened} {os : List Opened} → part_of book (get_or starts (length os) 0) (get_or lens (length os) 0) ≡ o.name → Titled book starts lens os → Titled book starts lens (o ∷ os)
+pub data Titled (book : Bytes) (titles : List Title) : List Opened → Type 0 where
+  no_title : Titled book titles []
+  next_title : {o : Opened} {os : List Opened} → part_of book (get_or titles (length os) nowhere).start (get_or titles (length os) nowhere).len ≡ o.name → Titled book titles os → Titled book titles (o ∷ os)
 
 pub record OpenNamed (book : Bytes) (o : Open) (os : List Opened) : Type 0 where
-  pub starts_long : length o.starts ≡ open_limit
-  pub lens_long : length o.lens ≡ open_limit
+  pub long : length o.titles ≡ open_limit
   pub depth_is : o.depth ≡ length os
-  pub titles : Titled book o.starts o.lens os
+  pub titled : Titled book o.titles os
 
 -- one more, whose name is this part of the book
 pub record OneOpened (o : Open) (start len : ℕ) (o' : Open) : Type 0 where
@@ -71,6 +75,11 @@ pub record NameAhead (sign : ℕ) (ks book tb : List ℕ) (n : ℕ) (w : List �
   pub onward : at ≤ next
   pub rest : Bytes
   pub read : a_sign_line aut68 sign bytes ≡ done (part_of book start len) rest
+
+-- the paragraphs that are open behind the line: those before it, where it is refused
+abbrev pub open_in : Open → Result Open Reason → Open
+open_in o (Ok o') = o'
+open_in o (Err r) = o
 
 -- If it passes, the place behind it is noted; if it is refused, the code is that of its refusal.
 pub data MovedResult (book tb : List ℕ) (n : ℕ) (w' : List ℕ) (next : ℕ) (st : State) (bytes : Bytes) (code : ℕ) (o' : Open) : Type 0 where

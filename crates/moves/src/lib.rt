@@ -4,20 +4,27 @@
 ghost use Rattle.std.specs.Prelude.{List, [], ℕ, ◌+◌, ◌≤◌, ◌<◌, length};
 ghost use Rattle.aut68.specs.Bytes.{Bytes};
 ghost use Rattle.aut68.specs.Sizes.{cell_values, book_limit, open_limit};
-ghost use Rattle.moves.specs.Posts.{OpenNamed, OneOpened, InnermostTold, NamePost, MovedPost};
+ghost use Rattle.constants.specs.Refusals.{code_in};
+ghost use Rattle.headings.specs.Signs.{kind_of_sign};
+ghost use Rattle.moves.specs.Posts.{OpenNamed, OneOpened, InnermostTold, open_in, NamePost, MovedPost};
 
-use constants::{Cell, DUPLICATE, MALFORMED, OPEN_LIMIT, OUT_OF_SPACE, UNBALANCED};
-use headings::sign_line;
-use kinds::MINUS;
+use constants::{Cell, OPEN_LIMIT, Reason};
+use headings::{Sign, sign_line};
 use names::part_is;
 use noting::{note_closing, note_opening};
 use paragraphs::is_taken;
 
-// The open paragraphs, by value: where the name of each stands in the book, the outermost first.
+// Where the name of an open paragraph stands in the book.
+#[derive(Clone, Copy)]
+pub struct Title {
+    pub start: u32,
+    pub len: u32,
+}
+
+// The open paragraphs, by value: the name of each, the outermost first.
 #[derive(Clone, Copy)]
 pub struct Open {
-    pub starts: [u32; OPEN_LIMIT],
-    pub lens: [u32; OPEN_LIMIT],
+    pub titles: [Title; OPEN_LIMIT],
     pub depth: usize,
 }
 
@@ -26,17 +33,9 @@ pub fn none_open() -> Open
     ensures { (book : Bytes) → OpenNamed book result [] }
 {
     Open {
-        starts: [0; OPEN_LIMIT],
-        lens: [0; OPEN_LIMIT],
+        titles: [Title { start: 0, len: 0 }; OPEN_LIMIT],
         depth: 0,
     }
-}
-
-// What became of a paragraph line. code: 0, or its refusal.
-#[derive(Clone, Copy)]
-pub struct Moved {
-    pub code: u32,
-    pub open: Open,
 }
 
 // One more, its name the part of the book with this start and this length.
@@ -44,11 +43,12 @@ fn opened(o: Open, start: usize, len: usize) -> Open
     requires { (o.depth < open_limit) × (start < cell_values) × (len < cell_values) }
     ensures { OneOpened o start len result }
 {
-    let d = o.depth;
     let mut more = o;
-    more.starts[d] = start as u32;
-    more.lens[d] = len as u32;
-    more.depth = d + 1;
+    more.titles[o.depth] = Title {
+        start: start as u32,
+        len: len as u32,
+    };
+    more.depth = o.depth + 1;
     more
 }
 
@@ -57,15 +57,11 @@ fn is_innermost(book: &[u8], o: Open, word: &[u8]) -> bool
     ensures { InnermostTold book.now o word.now result }
 {
     let d = o.depth;
-    if d == 0 {
+    if d == 0 || d > OPEN_LIMIT {
         return false;
     }
-    if d > OPEN_LIMIT {
-        return false;
-    }
-    let start = o.starts[d - 1] as usize;
-    let len = o.lens[d - 1] as usize;
-    part_is(book, start, len, word)
+    let title = o.titles[d - 1];
+    part_is(book, title.start as usize, title.len as usize, word)
 }
 
 // The line opens the paragraph whose name is that part of the book (check_opening).
@@ -79,55 +75,44 @@ fn open_line(
     len: usize,
     next: usize,
     o: Open,
-) -> Moved
+) -> Result<Open, Reason>
     requires { (start + len ≤ length book.now) × (next ≤ length book.now) × (length book.now ≤ book_limit) }
-    ensures { NamePost 43 kinds.now book.now table.now lines w.old w.new start len next o result.code result.open }
+    ensures { NamePost 43 kinds.now book.now table.now lines w.old w.new start len next o (code_in result) (open_in o result) }
 {
     let end = start + len;
     if is_taken(book, kinds, table, lines, w, &book[start..end]) {
-        return Moved {
-            code: DUPLICATE,
-            open: o,
-        };
+        return Err(Reason::Duplicate);
     }
     let d = o.depth;
     if d >= OPEN_LIMIT {
-        return Moved {
-            code: OUT_OF_SPACE,
-            open: o,
-        };
+        return Err(Reason::OutOfSpace);
     }
     note_opening(book, w, start, len, d, next);
-    let more = opened(o, start, len);
-    Moved {
-        code: 0,
-        open: more,
-    }
+    Ok(opened(o, start, len))
 }
 
 // It closes the paragraph with that name (check_closing).
-fn close_line(book: &[u8], w: &mut [Cell], start: usize, len: usize, next: usize, o: Open) -> Moved
+fn close_line(
+    book: &[u8],
+    w: &mut [Cell],
+    start: usize,
+    len: usize,
+    next: usize,
+    o: Open,
+) -> Result<Open, Reason>
     requires { (start + len ≤ length book.now) × (next ≤ length book.now) × (length book.now ≤ book_limit) }
-    ensures { (ks tb : List ℕ) (lines : ℕ) → NamePost 45 ks book.now tb lines w.old w.new start len next o result.code result.open }
+    ensures { (ks tb : List ℕ) (lines : ℕ) → NamePost 45 ks book.now tb lines w.old w.new start len next o (code_in result) (open_in o result) }
 {
     let end = start + len;
-    if is_innermost(book, o, &book[start..end]) {
-        let d = o.depth - 1;
-        note_closing(w, d, next);
-        let mut outer = o;
-        outer.depth = d;
-        return Moved {
-            code: 0,
-            open: outer,
-        };
+    if !is_innermost(book, o, &book[start..end]) {
+        return Err(Reason::Unbalanced);
     }
-    Moved {
-        code: UNBALANCED,
-        open: o,
-    }
+    let d = o.depth - 1;
+    note_closing(w, d, next);
+    Ok(Open { depth: d, ..o })
 }
 
-// The paragraph line from `at` up to `next`, its sign of kind k, behind the first `lines` lines (check_piece): the note of the place
+// The paragraph line from `at` up to `next`, with this sign, behind the first `lines` lines (check_piece): the note of the place
 // follows it.
 pub fn paragraph_line(
     book: &[u8],
@@ -137,23 +122,18 @@ pub fn paragraph_line(
     w: &mut [Cell],
     at: usize,
     next: usize,
-    k: u8,
+    sign: Sign,
     o: Open,
-) -> Moved
+) -> Result<Open, Reason>
     requires { (at ≤ next) × (next ≤ length book.now) × (length book.now ≤ book_limit) }
-    ensures { MovedPost kinds.now book.now table.now lines w.old w.new at next k o result.code result.open }
+    ensures { MovedPost kinds.now book.now table.now lines w.old w.new at next (kind_of_sign sign) o (code_in result) (open_in o result) }
 {
-    let name = sign_line(&book[at..next], kinds, k);
-    let len = name.len;
-    if len == 0 {
-        return Moved {
-            code: MALFORMED,
-            open: o,
-        };
-    }
+    let Some(name) = sign_line(&book[at..next], kinds, sign) else {
+        return Err(Reason::Malformed);
+    };
     let start = at + name.start;
-    if k == MINUS {
-        return close_line(book, w, start, len, next, o);
+    match sign {
+        Sign::Opens => open_line(book, kinds, table, lines, w, start, name.len, next, o),
+        Sign::Closes => close_line(book, w, start, name.len, next, o),
     }
-    open_line(book, kinds, table, lines, w, start, len, next, o)
 }

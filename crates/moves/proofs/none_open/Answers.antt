@@ -1,8 +1,7 @@
 use mathlib.Core.Path.{refl}
-use Prim.Native.Nat.{ℕ}
 use lib.ListN.{length-replicate}
-use Rattle.moves.specs.Posts.{no_title}
+use Rattle.moves.specs.Posts.{nowhere, no_title}
 use Rattle.moves.proofs.none_open.Goals as goal
 
 pub returns : goal.returns
-returns c = λ book. record { starts_long = length-replicate {A = ℕ} 32 0; lens_long = length-replicate {A = ℕ} 32 0; depth_is = refl; titles = no_title }
+returns c = λ book. record { long = length-replicate 32 nowhere; depth_is = refl; titled = no_title }

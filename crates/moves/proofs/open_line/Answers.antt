@@ -10,4 +10,4 @@ returns-then-d-ge-OPEN_LIMIT c = name_deep _ _ c.requires.0 c.is_taken.ensures c
 pub returns : goal.returns
 returns c =
     name_opened _ _ c.requires.0 c.is_taken.ensures c.if-is_taken.false c.if-d-ge-OPEN_LIMIT.false c.note_opening.ensures
-    c.opened-more.ensures
+    c.opened.ensures

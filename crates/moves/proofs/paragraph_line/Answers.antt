@@ -1,15 +1,20 @@
+use mathlib.Core.Path.{refl, ap}
+use native.Mathlib.Omega.{arith}
+use Rattle.headings.specs.Signs.{kind_of_sign}
 use Rattle.moves.proofs.ReadLaws.{line_malformed, line_closes, line_opens}
 use Rattle.moves.proofs.paragraph_line.Goals as goal
 
-pub returns-then-len-eq0 : goal.returns-then-len-eq0
-returns-then-len-eq0 c = let pre = c.requires in line_malformed pre.0 pre.1 c.sign_line-name.ensures c.if-len-eq0.true
+pub returns-in_default : goal.returns-in_default
+returns-in_default c = let pre = c.requires in line_malformed pre.0 pre.1 c.in_default.ensures refl
 
-pub returns-then-k-eq-MINUS : goal.returns-then-k-eq-MINUS
-returns-then-k-eq-MINUS c =
+pub returns-in-Opens : goal.returns-in-Opens
+returns-in-Opens c =
     let pre = c.requires in
-    line_closes pre.0 pre.1 c.sign_line-name.ensures c.if-len-eq0.false c.if-k-eq-MINUS.true (c.close_line.ensures _ _ _)
+    let (z, r) = c.in-Some.ensures in
+    line_opens pre.0 pre.1 r z (λ e. omega (arith, e, ap kind_of_sign c.in-Opens.is)) c.open_line.ensures
 
-pub returns : goal.returns
-returns c =
+pub returns-in-Closes : goal.returns-in-Closes
+returns-in-Closes c =
     let pre = c.requires in
-    line_opens pre.0 pre.1 c.sign_line-name.ensures c.if-len-eq0.false c.if-k-eq-MINUS.false c.open_line.ensures
+    let (z, r) = c.in-Some.ensures in
+    line_closes pre.0 pre.1 r z (ap kind_of_sign c.in-Closes.is) (c.close_line.ensures _ _ _)
