@@ -1,4 +1,4 @@
-mod Exits
+pub mod Exits
 mod ArgumentLaws
 mod PutLaws
 mod StepLaws

@@ -1,18 +1,17 @@
 -- Laws of known expressions and their head steps.
-use mathlib.Core.Path.{◌≡◌, refl, ap, subst}
+use mathlib.Core.Path.{◌≡◌, refl, subst}
 use mathlib.Core.Option.{some}
+use Rattle.std.specs.Prelude.{Option, None, Some}
 use mathlib.Core.List.{List}
 use Prim.Native.Nat.{ℕ, suc, ◌≤◌, ◌<◌}
 use native.Mathlib.Decide.{dec_lt}
 use native.Mathlib.Omega.{arith}
-use Rattle.aut68.specs.Sizes.{largest_limit}
 use Rattle.aut68.specs.Expr.{Expr, Exprs, type, prop, var, bound, const, app, abs, nil, cons, size, parts}
 use Rattle.aut68.specs.Lines.{Lines}
 use Rattle.aut68.specs.Procedure.HeadStep.{head_step, left}
 use Rattle.aut68.specs.Rules.Resolved.{Scoped, ConstantOf, VariableLine, Known}
 use Rattle.calculus.specs.Scoped.{ScopedCategory, scoped_category, scoped_under}
 use Rattle.calculus.specs.Resolved.{AllKnown, KnownCategory}
-use Rattle.terms.specs.Made.{no_room}
 use Rattle.heads.specs.Heads.{HeadIs, no_head, contraction, unfolding_of}
 use Rattle.reduction.specs.Frames.{Lies}
 use Rattle.reduction.specs.Posts.{Stepped}
@@ -53,28 +52,20 @@ head_numbered ls e (no_head q k) = rw q (none k)
 head_numbered ls e (contraction fs a p t w q k i n) = rw q (contracts k)
 head_numbered ls e (unfolding_of fs xs l m w i y q k j n) = rw q (unfolds k refl)
 
--- a head step that leaves something has a kind
-pub head_some : (ls : Lines) (e g : Expr) {start kind at kept v : ℕ} → left (head_step ls e) ≡ some g → HeadIs ls start kind at kept v e → kind ≡ 0 → ⊥
-unfolding left
-head_some ls e g s (no_head q k) z = let p = ap left q in let y : ◌≡◌ {A = ℕ} 0 1 = cc in omega arith
-head_some ls e g s (contraction fs a p t w q k i n) z = omega arith
-head_some ls e g s (unfolding_of fs xs l m w i y q k j n) z = omega arith
-
 -- ---- what a step leaves
 
--- g stands at `start`, and n is its size; or it has more cells than the limit, and so has n
-pub data StepIs (limit start : ℕ) (g : Expr) (n : ℕ) (w : List ℕ) : Type 0 where
-  made : size g ≤ limit → n ≡ size g → Lies w start g → StepIs limit start g n w
-  large : limit < size g → limit < n → StepIs limit start g n w
+-- g stands at `start`, and its size is answered; or it has more cells than the limit
+pub data StepIs (limit start : ℕ) (g : Expr) (o : Option ℕ) (w : List ℕ) : Type 0 where
+  made : size g ≤ limit → o ≡ Some (size g) → Lies w start g → StepIs limit start g o w
+  large : limit < size g → o ≡ None → StepIs limit start g o w
 
-pub step_is_lem : {ls : Lines} {limit start : ℕ} {e g : Expr} {n : ℕ} {w : List ℕ} → limit ≤ largest_limit → left (head_step ls e) ≡ some g → Stepped ls limit start e n w
-    → StepIs limit start g n w
-unfolding no_room
-step_is_lem {limit = limit} {start} {e} {g} {n} {w} h q S = subst (λ (x : Expr). StepIs limit start x n w) same (go (dec_lt limit (size S.next)))
+pub step_is_lem : {ls : Lines} {limit start : ℕ} {e g : Expr} {o : Option ℕ} {w : List ℕ} → left (head_step ls e) ≡ some g → Stepped ls limit start e o w
+    → StepIs limit start g o w
+step_is_lem {limit = limit} {start} {e} {g} {o} {w} h S = subst (λ (x : Expr). StepIs limit start x o w) same (go (dec_lt limit (size S.next)))
   where
     same : S.next ≡ g
     same = let p = S.is in cc
 
-    go : Dec (limit < size S.next) → StepIs limit start S.next n w
-    go (yes l) = large l (omega (arith, S.large l))
+    go : Dec (limit < size S.next) → StepIs limit start S.next o w
+    go (yes l) = large l (S.large l)
     go (no l) = made (omega arith) (S.fits (omega arith)).0 (S.fits (omega arith)).1

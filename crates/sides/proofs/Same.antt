@@ -63,11 +63,13 @@ module _ {tb w : List ℕ} {a b i j pending : ℕ} (begun : a ≤ i) (together :
           rw (x, y) q
 
   -- one of them would end past the store
-  pub past_first : length w - i < pending → SaysSame tb w a b false
-  past_first h = record { means = λ e f re rf we wf p q. absurd (omega (arith, pending_long (A.first e re we p))) }
-
-  pub past_second : length w - j < pending → SaysSame tb w a b false
-  past_second h = record { means = λ e f re rf we wf p q. absurd (omega (arith, pending_long (A.second f rf wf q))) }
+  pub past_end : 0 < pending → (i < length w → j < length w → length w - i < pending) → SaysSame tb w a b false
+  past_end pos h = record {
+    means = λ e f re rf we wf p q.
+        let x : pending ≤ length w - i = omega (arith, pending_long (A.first e re we p)) in
+        let y : pending ≤ length w - j = omega (arith, pending_long (A.second f rf wf q)) in
+        absurd (omega (arith, h (omega arith) (omega arith)));
+  }
 
   -- two cells differ
   pub cells_differ : 0 < pending → (get_or w i 0 ≡ get_or w j 0 → ⊥) → SaysSame tb w a b false

@@ -1,5 +1,5 @@
 -- A pair of sides at one depth, and what is done with it.
-use Rattle.std.specs.Prelude.{◌≡◌, Bool, true, false, List, ℕ, ◌+◌, ◌*◌, ◌≤◌, ◌<◌, length, get_or, take}
+use Rattle.std.specs.Prelude.{◌≡◌, Bool, true, false, Option, None, Some, Result, Ok, Err, ⊤, List, ℕ, ◌+◌, ◌*◌, ◌≤◌, ◌<◌, length, get_or, take}
 use Rattle.aut68.specs.Sizes.{work_units, nesting}
 use Rattle.aut68.specs.Language.{aut68}
 use Rattle.aut68.specs.Expr.{Expr, size, cells, identical}
@@ -7,10 +7,57 @@ use Rattle.aut68.specs.Lines.{Lines}
 use Rattle.aut68.specs.Procedure.Answer.{done, stop, too_large, out_of_budget}
 use Rattle.aut68.specs.Procedure.Compare.{same, by_parts, next, Comparison, compare_parts, sides}
 use Rattle.calculus.specs.Resolved.{KnownCategory}
+use Rattle.constants.specs.declared.codes.Reason.{Reason}
+use Rattle.constants.specs.declared.codes.Reason.TheVariants.{TooLarge, OutOfBudget}
 use Rattle.cells.specs.Cells.{Wf, At, Outside, parts_after}
 use Rattle.cells.specs.Layout.{unit_at, scratch_unit}
 use Rattle.heads.specs.Book.{Book}
+use Rattle.heads.specs.declared.heads.Head.{Head}
 use Rattle.agreement.specs.Which.{Which, pick, step_in}
+use Rattle.sides.specs.declared.sides.NextStep.{NextStep}
+use Rattle.sides.specs.declared.sides.NextStep.TheVariants.{Left, Right}
+use Rattle.sides.specs.declared.sides.Opening.{Opening}
+use Rattle.sides.specs.declared.sides.Progress.{Progress}
+use Rattle.sides.specs.declared.sides.Progress.TheVariants.{Stepped}
+use Rattle.sides.specs.declared.sides.Progress.TheVariants as Progresses
+use Rattle.sides.specs.declared.sides.Settled.{Settled}
+use Rattle.sides.specs.declared.sides.Settled.TheVariants as SettledCases
+
+-- ---- what the code answers
+
+-- the side of the next step: 0 none, 1 the left, 2 the right
+abbrev pub side_in : Option NextStep → ℕ
+side_in None = 0
+side_in (Some (Left h)) = 1
+side_in (Some (Right h)) = 2
+
+-- the next step is that side's
+abbrev pub Takes : Option Head → Option Head → Option NextStep → Type 0
+Takes first second None = ⊤
+Takes first second (Some (Left h)) = first ≡ Some h
+Takes first second (Some (Right h)) = second ≡ Some h
+
+-- nothing was opened; else the sizes
+abbrev pub same_in : Option Opening → Bool
+same_in None = true
+same_in (Some o) = false
+
+abbrev pub left_in : Option Opening → ℕ
+left_in None = 0
+left_in (Some o) = o.left
+
+abbrev pub right_in : Option Opening → ℕ
+right_in None = 0
+right_in (Some o) = o.right
+
+-- the shapes differ; else the number of parts
+abbrev pub differ_in : Option ℕ → Bool
+differ_in None = true
+differ_in (Some n) = false
+
+abbrev pub parts_in : Option ℕ → ℕ
+parts_in None = 0
+parts_in (Some n) = n
 
 -- ---- two expressions in one store
 
@@ -71,39 +118,40 @@ pub record SaysShapes (tb w : List ℕ) (l r : ℕ) (answer : Bool) (parts : ℕ
 
 -- ---- one head step
 
--- By what comes next for the sides e and f, with the budget b: the state, the budget b' left and the store w'. 0: the sides are
--- identical. 1: no side has a head step. 2: a step was taken in one of them; n and m are the sizes now. Else a refusal: the step
--- would leave a side too large, or is past the budget.
-pub data Turned (ls : Lines) (limit k : ℕ) (w' : List ℕ) (l r : ℕ) (e f : Expr) (b state n m b' : ℕ) : Type 0 where
-  identically : state ≡ 0 → b' ≡ b → next ls e f ≡ same → Turned ls limit k w' l r e f b state n m b'
-  to_parts : state ≡ 1 → b' ≡ b → next ls e f ≡ by_parts → Pair ls limit k w' l r e f → Turned ls limit k w' l r e f b state n m b'
-  onward : (s : Which) (g : Expr) → state ≡ 2 → b' + 1 ≡ b → next ls e f ≡ step_in s g → size g ≤ limit → Pair ls limit k w' l r (pick s g e) (pick s f g)
-      → n ≡ size (pick s g e) → m ≡ size (pick s f g) → Turned ls limit k w' l r e f b state n m b'
-  too_far : (s : Which) (g : Expr) → state ≡ 10 → b' ≡ b → 0 < b → next ls e f ≡ step_in s g → limit < size g → Turned ls limit k w' l r e f b state n m b'
-  spent : (s : Which) (g : Expr) → state ≡ 11 → b' ≡ b → b ≡ 0 → next ls e f ≡ step_in s g → Turned ls limit k w' l r e f b state n m b'
+-- By what comes next for the sides e and f, with the budget b: what was found, the budget b' left and the store w'. The sides are
+-- identical; or no side has a head step; or a step was taken in one of them, and the sizes are what they are now. Else a refusal: the
+-- step would leave a side too large, or is past the budget.
+pub data Turned (ls : Lines) (limit k : ℕ) (w' : List ℕ) (l r : ℕ) (e f : Expr) (b : ℕ) (found : Result Progress Reason) (b' : ℕ) : Type 0 where
+  identically : found ≡ Ok Progresses.Identical → b' ≡ b → next ls e f ≡ same → Turned ls limit k w' l r e f b found b'
+  to_parts : found ≡ Ok Progresses.Normal → b' ≡ b → next ls e f ≡ by_parts → Pair ls limit k w' l r e f → Turned ls limit k w' l r e f b found b'
+  onward : (s : Which) (g : Expr) → found ≡ Ok (Stepped (size (pick s g e)) (size (pick s f g))) → b' + 1 ≡ b → next ls e f ≡ step_in s g
+      → size g ≤ limit → Pair ls limit k w' l r (pick s g e) (pick s f g) → Turned ls limit k w' l r e f b found b'
+  too_far : (s : Which) (g : Expr) → found ≡ Err TooLarge → b' ≡ b → 0 < b → next ls e f ≡ step_in s g → limit < size g
+      → Turned ls limit k w' l r e f b found b'
+  spent : (s : Which) (g : Expr) → found ≡ Err OutOfBudget → b' ≡ b → b ≡ 0 → next ls e f ≡ step_in s g → Turned ls limit k w' l r e f b found b'
 
 -- the sides of n and m cells at l and r, after a step, if one is next
-pub record Turns (tb ts w : List ℕ) (limit budget l n r m : ℕ) (w' : List ℕ) (state n' m' rest : ℕ) : Type 0 where
+pub record Turns (tb ts w : List ℕ) (limit budget l n r m : ℕ) (w' : List ℕ) (found : Result Progress Reason) (rest : ℕ) : Type 0 where
   pub spends : rest ≤ budget
-  pub counts : state ≡ 2 → rest + 1 ≡ budget
+  pub counts : {n' m' : ℕ} → found ≡ Ok (Stepped n' m') → rest + 1 ≡ budget
   -- what lies below the left side is as it was
   pub frame : l ≤ r → l ≤ unit_at limit scratch_unit → Outside l (length w) w w'
   pub means : (ls : Lines) (k : ℕ) (e f : Expr) → Book ls limit tb ts → k ≤ 2 * nesting → Placed limit (length w) l r → Pair ls limit k w l r e f
-      → n ≡ size e → m ≡ size f → Turned ls limit k w' l r e f budget state n' m' rest
+      → n ≡ size e → m ≡ size f → Turned ls limit k w' l r e f budget found rest
 
 -- ---- all head steps of the first comparison
 
--- From the sides e and f with the budget b, the procedure came to a state, with the budget b' left and the store w'. 0: the
--- sides are identical. 1: no side has a head step. Else a refusal.
-pub data Goes (ls : Lines) (limit k : ℕ) (w' : List ℕ) (l r : ℕ) (e f : Expr) (b state b' : ℕ) : Type 0 where
-  identically : state ≡ 0 → ((inner : Comparison) → sides aut68 ls limit inner e f b ≡ done tt b') → Goes ls limit k w' l r e f b state b'
-  to_parts : (e' f' : Expr) → state ≡ 1 → Pair ls limit k w' l r e' f'
-      → ((inner : Comparison) → sides aut68 ls limit inner e f b ≡ compare_parts aut68 inner e' f' b') → Goes ls limit k w' l r e f b state b'
-  too_far : state ≡ 10 → ((inner : Comparison) → sides aut68 ls limit inner e f b ≡ stop too_large b') → Goes ls limit k w' l r e f b state b'
-  spent : state ≡ 11 → ((inner : Comparison) → sides aut68 ls limit inner e f b ≡ stop out_of_budget b') → Goes ls limit k w' l r e f b state b'
+-- From the sides e and f with the budget b, the procedure came to an end, with the budget b' left and the store w': the sides are
+-- identical, or no side has a head step, or it is refused.
+pub data Goes (ls : Lines) (limit k : ℕ) (w' : List ℕ) (l r : ℕ) (e f : Expr) (b : ℕ) (end : Result Settled Reason) (b' : ℕ) : Type 0 where
+  identically : end ≡ Ok SettledCases.Identical → ((inner : Comparison) → sides aut68 ls limit inner e f b ≡ done tt b') → Goes ls limit k w' l r e f b end b'
+  to_parts : (e' f' : Expr) → end ≡ Ok SettledCases.Normal → Pair ls limit k w' l r e' f'
+      → ((inner : Comparison) → sides aut68 ls limit inner e f b ≡ compare_parts aut68 inner e' f' b') → Goes ls limit k w' l r e f b end b'
+  too_far : end ≡ Err TooLarge → ((inner : Comparison) → sides aut68 ls limit inner e f b ≡ stop too_large b') → Goes ls limit k w' l r e f b end b'
+  spent : end ≡ Err OutOfBudget → ((inner : Comparison) → sides aut68 ls limit inner e f b ≡ stop out_of_budget b') → Goes ls limit k w' l r e f b end b'
 
 -- the expressions at a and b, put at l and r as the sides, after all head steps
-pub record Settles (tb ts w : List ℕ) (limit budget a b l r : ℕ) (w' : List ℕ) (state rest : ℕ) : Type 0 where
+pub record Settles (tb ts w : List ℕ) (limit budget a b l r : ℕ) (w' : List ℕ) (end : Result Settled Reason) (rest : ℕ) : Type 0 where
   pub frame : l ≤ r → l ≤ unit_at limit scratch_unit → Outside l (length w) w w'
   pub means : (ls : Lines) (k : ℕ) (e f : Expr) → Book ls limit tb ts → k ≤ 2 * nesting → Placed limit (length w) l r → Pair ls limit k (take l w) a b e f
-      → Goes ls limit k w' l r e f budget state rest
+      → Goes ls limit k w' l r e f budget end rest

@@ -5,6 +5,6 @@
 mod sides;
 
 pub use sides::{
-    Opening, Progress, Shapes, choose, identical, open_pair, same_expression, settle, shapes_of,
-    turn,
+    NextStep, Opening, Progress, Settled, choose, identical, open_pair, same_expression, settle,
+    shapes_of, turn,
 };

@@ -1,45 +1,49 @@
 // Two sides: whether they are identical, or have one shape; put in place; head steps until they are identical or neither has one.
-ghost use Rattle.sides.specs.Posts.{SaysIdentical, SaysSame, SaysShapes, Opens, Chooses, Turns, Settles};
+ghost use Rattle.std.specs.Prelude.{ℕ};
+ghost use Rattle.heads.specs.Posts.{kind_in, line_in};
+ghost use Rattle.sides.specs.Posts.{SaysIdentical, SaysSame, SaysShapes, Opens, Chooses, Takes, Turns, Settles};
+ghost use Rattle.sides.specs.Posts.{differ_in, parts_in, same_in, left_in, right_in, side_in};
 
 use cells::{extent, kids};
-use constants::{Cell, OUT_OF_BUDGET, TOO_LARGE};
+use constants::{Cell, Reason};
 use copies::{move_cells, same_cells};
-use heads::head_of;
+use heads::{Head, HeadStep, head_of};
 use reduction::step;
 
-// Where the head steps of two sides ended: 0 they are identical, 1 no side has a head step, 2 a step was taken and there may be
-// more; else a refusal. The sizes of both sides, and the budget that is left.
-#[derive(Clone, Copy)]
-pub struct Progress {
-    pub state: u32,
-    pub left: usize,
-    pub right: usize,
-    pub budget: u32,
+// The next head step of two sides: the side that it is in, and where.
+#[derive(Clone, Copy, Debug, PartialEq, Eq)]
+pub enum NextStep {
+    Left(Head),
+    Right(Head),
 }
 
-// Whether the expressions of a pair are identical; else the sizes of the sides.
-#[derive(Clone, Copy)]
+// What a turn finds: identical sides, sides without a head step, or the sizes of the sides after a step.
+#[derive(Clone, Copy, Debug, PartialEq, Eq)]
+pub enum Progress {
+    Identical,
+    Normal,
+    Stepped { left: usize, right: usize },
+}
+
+// Where head steps end: at identical sides, or where neither side has one.
+#[derive(Clone, Copy, Debug, PartialEq, Eq)]
+pub enum Settled {
+    Identical,
+    Normal,
+}
+
+// The sizes of the sides that were put in place.
+#[derive(Clone, Copy, Debug, PartialEq, Eq)]
 pub struct Opening {
-    pub same: bool,
     pub left: usize,
     pub right: usize,
-}
-
-// Whether the shapes of two sides differ; else how many parts each has.
-#[derive(Clone, Copy)]
-pub struct Shapes {
-    pub differ: bool,
-    pub parts: usize,
 }
 
 // Are the sides of n and m cells at l and r identical?
 pub fn identical(w: &[Cell], l: usize, n: usize, r: usize, m: usize) -> bool
     ensures { SaysIdentical w.now l n r m result }
 {
-    if n != m {
-        return false;
-    }
-    same_cells(w, l, r, n)
+    n == m && same_cells(w, l, r, n)
 }
 
 // Are the expressions at a and b identical? They are compared where they lie.
@@ -50,13 +54,7 @@ pub fn same_expression(table: &[u32], w: &[Cell], a: usize, b: usize) -> bool
     let mut j = b;
     let mut pending = 1;
     while pending > 0 {
-        if i >= w.len() {
-            return false;
-        }
-        if j >= w.len() {
-            return false;
-        }
-        if pending > w.len() - i {
+        if i >= w.len() || j >= w.len() || pending > w.len() - i {
             return false;
         }
         let x = w[i];
@@ -64,160 +62,108 @@ pub fn same_expression(table: &[u32], w: &[Cell], a: usize, b: usize) -> bool
             return false;
         }
         pending = pending - 1 + kids(table, x);
-        i = i + 1;
-        j = j + 1;
+        i += 1;
+        j += 1;
     }
     true
 }
 
-// The shapes of the sides at l and r, by their first cells.
-pub fn shapes_of(table: &[u32], w: &[Cell], l: usize, r: usize) -> Shapes
-    ensures { SaysShapes table.now w.now l r result.differ result.parts }
+// How many parts each of the sides at l and r has, by their first cells; None where these differ.
+pub fn shapes_of(table: &[u32], w: &[Cell], l: usize, r: usize) -> Option<usize>
+    ensures { SaysShapes table.now w.now l r (differ_in result) (parts_in result) }
 {
-    if l >= w.len() {
-        return Shapes {
-            differ: true,
-            parts: 0,
-        };
-    }
-    if r >= w.len() {
-        return Shapes {
-            differ: true,
-            parts: 0,
-        };
+    if l >= w.len() || r >= w.len() {
+        return None;
     }
     let x = w[l];
     if x != w[r] {
-        return Shapes {
-            differ: true,
-            parts: 0,
-        };
+        return None;
     }
-    Shapes {
-        differ: false,
-        parts: kids(table, x),
-    }
+    Some(kids(table, x))
 }
 
-// The expressions at a and b, put at l and r as the sides unless they are identical.
-pub fn open_pair(table: &[u32], w: &mut [Cell], a: usize, b: usize, l: usize, r: usize) -> Opening
-    ensures { Opens table.now w.old a b l r w.new result.same result.left result.right }
+// The expressions at a and b, put at l and r as the sides: None where they are identical.
+pub fn open_pair(
+    table: &[u32],
+    w: &mut [Cell],
+    a: usize,
+    b: usize,
+    l: usize,
+    r: usize,
+) -> Option<Opening>
+    ensures { Opens table.now w.old a b l r w.new (same_in result) (left_in result) (right_in result) }
 {
     if same_expression(table, w, a, b) {
-        return Opening {
-            same: true,
-            left: 0,
-            right: 0,
-        };
+        return None;
     }
     let left = extent(table, w, a);
     let right = extent(table, w, b);
     move_cells(w, a, l, left);
     move_cells(w, b, r, right);
-    Opening {
-        same: false,
-        left: left,
-        right: right,
-    }
+    Some(Opening { left, right })
 }
 
-// The side of the next head step, by the kind and the line of each side's: 0 none, 1 left, 2 right (choose).
-pub fn choose(kind: u32, line: usize, other_kind: u32, other_line: usize) -> u32
-    ensures { Chooses kind line other_kind other_line result }
+// The next head step, by that of each side (choose): a contraction before an unfolding, the left one of two contractions, the unfolding
+// of the larger line, the left one of two of one line.
+pub fn choose(left: Option<Head>, right: Option<Head>) -> Option<NextStep>
+    ensures { Chooses (kind_in left) (line_in left) (kind_in right) (line_in right) (side_in result) × Takes left right result }
 {
-    if other_kind == 0 {
-        if kind == 0 {
-            return 0;
-        }
-        return 1;
+    let Some(first) = left else {
+        let second = right?;
+        return Some(NextStep::Right(second));
+    };
+    let Some(second) = right else {
+        return Some(NextStep::Left(first));
+    };
+    let HeadStep::Unfolding { line } = first.step else {
+        return Some(NextStep::Left(first));
+    };
+    let HeadStep::Unfolding { line: other } = second.step else {
+        return Some(NextStep::Right(second));
+    };
+    if line < other {
+        return Some(NextStep::Right(second));
     }
-    if kind == 0 {
-        return 2;
-    }
-    if kind == 1 {
-        return 1;
-    }
-    if other_kind == 1 {
-        return 2;
-    }
-    if line >= other_line {
-        return 1;
-    }
-    2
+    Some(NextStep::Left(first))
 }
 
-// One head step in the sides of n and m cells at l and r, if one is next.
+// One head step in the sides of n and m cells at l and r, if one is next. Refused where it is past the budget, or would leave more than
+// `limit` cells: it is then neither made nor counted.
 pub fn turn(
     table: &[u32],
     terms: &[Cell],
     w: &mut [Cell],
     limit: usize,
-    budget: u32,
+    budget: &mut u32,
     l: usize,
     n: usize,
     r: usize,
     m: usize,
-) -> Progress
-    ensures { Turns table.now terms.now w.old limit budget l n r m w.new result.state result.left result.right result.budget }
+) -> Result<Progress, Reason>
+    ensures { Turns table.now terms.now w.old limit budget.old l n r m w.new result budget.new }
 {
     if identical(w, l, n, r, m) {
-        return Progress {
-            state: 0,
-            left: n,
-            right: m,
-            budget: budget,
-        };
+        return Ok(Progress::Identical);
     }
-    let hl = head_of(table, w, l, n);
-    let hr = head_of(table, w, r, m);
-    let side = choose(hl.kind, hl.line, hr.kind, hr.line);
-    if side == 0 {
-        return Progress {
-            state: 1,
-            left: n,
-            right: m,
-            budget: budget,
-        };
+    let first = head_of(table, w, l, n);
+    let second = head_of(table, w, r, m);
+    let Some(next) = choose(first, second) else {
+        return Ok(Progress::Normal);
+    };
+    if *budget == 0 {
+        return Err(Reason::OutOfBudget);
     }
-    if budget == 0 {
-        return Progress {
-            state: OUT_OF_BUDGET,
-            left: n,
-            right: m,
-            budget: budget,
-        };
-    }
-    if side == 1 {
-        let left = step(table, terms, w, limit, hl);
-        if left > limit {
-            return Progress {
-                state: TOO_LARGE,
-                left: n,
-                right: m,
-                budget: budget,
-            };
+    match next {
+        NextStep::Left(head) => {
+            let left = step(table, terms, w, limit, head).ok_or(Reason::TooLarge)?;
+            *budget -= 1;
+            Ok(Progress::Stepped { left, right: m })
         }
-        return Progress {
-            state: 2,
-            left: left,
-            right: m,
-            budget: budget - 1,
-        };
-    }
-    let right = step(table, terms, w, limit, hr);
-    if right > limit {
-        return Progress {
-            state: TOO_LARGE,
-            left: n,
-            right: m,
-            budget: budget,
-        };
-    }
-    Progress {
-        state: 2,
-        left: n,
-        right: right,
-        budget: budget - 1,
+        NextStep::Right(head) => {
+            let right = step(table, terms, w, limit, head).ok_or(Reason::TooLarge)?;
+            *budget -= 1;
+            Ok(Progress::Stepped { left: n, right })
+        }
     }
 }
 
@@ -228,33 +174,31 @@ pub fn settle(
     terms: &[Cell],
     w: &mut [Cell],
     limit: usize,
-    budget: u32,
+    budget: &mut u32,
     a: usize,
     b: usize,
     l: usize,
     r: usize,
-) -> Progress
-    ensures { Settles table.now terms.now w.old limit budget a b l r w.new result.state result.budget }
+) -> Result<Settled, Reason>
+    ensures { Settles table.now terms.now w.old limit budget.old a b l r w.new result budget.new }
 {
-    let o = open_pair(table, w, a, b, l, r);
-    if o.same {
-        return Progress {
-            state: 0,
-            left: 0,
-            right: 0,
-            budget: budget,
-        };
-    }
-    let mut left = o.left;
-    let mut right = o.right;
-    let mut rest = budget;
+    let Some(
+        Opening {
+            mut left,
+            mut right,
+        },
+    ) = open_pair(table, w, a, b, l, r)
+    else {
+        return Ok(Settled::Identical);
+    };
     loop {
-        let t = turn(table, terms, w, limit, rest, l, left, r, right);
-        if t.state != 2 {
-            return t;
+        match turn(table, terms, w, limit, budget, l, left, r, right)? {
+            Progress::Identical => return Ok(Settled::Identical),
+            Progress::Normal => return Ok(Settled::Normal),
+            Progress::Stepped { left: n, right: m } => {
+                left = n;
+                right = m;
+            }
         }
-        left = t.left;
-        right = t.right;
-        rest = t.budget;
     }
 }

@@ -1,26 +1,27 @@
-use mathlib.Core.Path.{◌∙◌}
-use native.Mathlib.Omega.{arith}
+use mathlib.Core.Path.{refl}
+use Rattle.std.proofs.lemmas.Result.{err_from_is_err_and}
 use Rattle.sides.proofs.ProgressLaws.{progress_none, put_in_place}
 use Rattle.sides.proofs.Settling.{sides_under, settled_same, settle_on, settle_ended}
 use Rattle.sides.proofs.sides.settle.Goals as goal
 
-pub returns-then-o : goal.returns-then-o
-returns-then-o c = settled_same c.open_pair-o.ensures c.if-o.true
+pub returns-in_default : goal.returns-in_default
+returns-in_default c = settled_same c.in_default.ensures refl
 
-pub loop-t-init : goal.loop-t-init
-loop-t-init c = progress_none (sides_under _)
+pub loop-n-init : goal.loop-n-init
+loop-n-init c = progress_none (sides_under _)
 
-pub shape_of-w-then-t-ne2 : goal.shape_of-w-then-t-ne2
-shape_of-w-then-t-ne2 c =
-    c.turn-t.auto.w ∙ c.loop-t.invariant.long ∙ c.open_pair-o.auto.w
+pub returns-in_err-turn : goal.returns-in_err-turn
+returns-in_err-turn c =
+    let p = err_from_is_err_and c.from_residual.result c.from_residual.ensures.1 in
+    rw (p.1, p.2) (settle_ended c.loop-n.invariant (put_in_place c.in-Some.ensures refl c.open_pair.auto.w) c.in_err-turn.ensures _ refl)
 
-pub returns-then-t-ne2 : goal.returns-then-t-ne2
-returns-then-t-ne2 c =
-    settle_ended c.loop-t.invariant c.turn-t.ensures (put_in_place c.open_pair-o.ensures c.if-o.false c.open_pair-o.auto.w) c.if-t-ne2.true
+pub returns-in-Identical : goal.returns-in-Identical
+returns-in-Identical c =
+    settle_ended c.loop-n.invariant (put_in_place c.in-Some.ensures refl c.open_pair.auto.w) (rw c.in-Identical.is at c.in_ok-turn.ensures) _ refl
 
-pub loop-t-smaller : goal.loop-t-smaller
-loop-t-smaller c = omega (arith, c.turn-t.ensures.counts c.if-t-ne2.false)
+pub returns-in-Normal : goal.returns-in-Normal
+returns-in-Normal c =
+    settle_ended c.loop-n.invariant (put_in_place c.in-Some.ensures refl c.open_pair.auto.w) (rw c.in-Normal.is at c.in_ok-turn.ensures) _ refl
 
-pub loop-t-preserved : goal.loop-t-preserved
-loop-t-preserved c =
-    settle_on c.loop-t.invariant c.turn-t.ensures c.turn-t.auto.w c.if-t-ne2.false
+pub loop-n-preserved : goal.loop-n-preserved
+loop-n-preserved c = settle_on c.loop-n.invariant (rw c.in-Stepped.is at c.in_ok-turn.ensures) c.turn.auto.w

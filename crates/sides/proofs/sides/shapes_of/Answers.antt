@@ -4,10 +4,7 @@ use Rattle.sides.proofs.ShapesLaws.{shapes_differ, shapes_match}
 use Rattle.sides.proofs.sides.shapes_of.Goals as goal
 
 pub returns-then-l-w : goal.returns-then-l-w
-returns-then-l-w c = shapes_differ λ p q e. omega (arith, c.if-l-w.true)
-
-pub returns-then-r-w : goal.returns-then-r-w
-returns-then-r-w c = shapes_differ λ p q e. omega (arith, c.if-r-w.true)
+returns-then-l-w c = shapes_differ λ p q e. omega arith
 
 pub returns-then-x-w : goal.returns-then-x-w
 returns-then-x-w c = shapes_differ λ p q e. c.if-x-w.true e
