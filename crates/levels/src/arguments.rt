@@ -12,6 +12,7 @@ use copies::load;
 use instances::instantiate;
 
 // A copy of the n cells of s from `at` on, as far behind `base` in w.
+#[tactic(auto, using(crate::proofs::Instances::kept_copied))]
 pub fn keep_argument(s: &[Cell], at: usize, n: usize, w: &mut [Cell], base: usize)
     requires { at ≤ length s.now }
     ensures { KeptArgument s.now at n w.old base w.new }

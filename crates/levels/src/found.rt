@@ -50,6 +50,7 @@ pub fn is_type(w: &[Cell], limit: usize, level: usize) -> bool
 }
 
 // What was found at a level must be `type`.
+#[tactic(auto, using(crate::proofs::Types::type_passed, crate::proofs::Types::type_missed), unfolding(aut68::specs::Procedure::Answer::code_of))]
 pub fn found_type(w: &[Cell], limit: usize, level: usize) -> Result<(), Reason>
     requires { level < levels }
     ensures { (size budget : ℕ) → FoundTypePost w.now limit level 0 size budget (code_in result) budget }

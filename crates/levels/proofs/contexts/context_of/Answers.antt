@@ -1,10 +1,7 @@
 use mathlib.Core.Path.{refl}
 use native.Mathlib.Omega.{arith}
-use Rattle.levels.proofs.ContextWalk.{noting_start, noting_kept, noting_more, noting_end}
+use Rattle.levels.proofs.ContextWalk.{noting_kept, noting_more, noting_end}
 use Rattle.levels.proofs.contexts.context_of.Goals as goal
-
-pub loop-i-init : goal.loop-i-init
-loop-i-init c = noting_start c.requires c.field-c.ensures.0
 
 pub loop-i-preserved-then-line-lt-CELL_VALUES : goal.loop-i-preserved-then-line-lt-CELL_VALUES
 loop-i-preserved-then-line-lt-CELL_VALUES c = noting_more (omega arith) c.field-c-in-loop-i.ensures.0 c.loop-i.invariant c.if-i-lt64.true refl
