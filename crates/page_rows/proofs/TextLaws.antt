@@ -2,9 +2,15 @@
 use mathlib.Core.Path.{◌≡◌, refl, sym, ap, ◌∙◌}
 use mathlib.Core.Bool.{Bool, true, false, ◌&&◌, ◌||◌, not}
 use mathlib.Core.List.{[], ◌∷◌}
-use Prim.Native.Nat.{ℕ, ◌+◌, ◌≤◌, ◌<◌}
+use Prim.Native.Nat.{ℕ, suc, ◌+◌, ◌≤◌, ◌<◌}
+use Rattle.std.specs.Prelude.{Option, Some, None, cond, count_by, position}
+use Rattle.std.specs.List.{position_or_len}
+use Rattle.std.specs.Option.{unwrap_or}
 use native.Mathlib.Omega.{arith}
-use lib.Dec.{eqb}
+use Rattle.std.proofs.lemmas.List.Recursion.{is_count_by}
+use lib.Dec.{eqb, ltb}
+use borrow.Author.Tests.{ltb-false}
+use Rattle.std.proofs.lemmas.List.Quantifiers.{position-Some}
 use lib.ListN.{length, get_or, take, drop, set, drop_of_length-le}
 use lib.Seq.{take_all}
 use Rattle.aut68.specs.Bytes.{Bytes}
@@ -67,6 +73,47 @@ module _ {line text : Bytes} {i : ℕ} (h : TextLeft line text i) (l : i < lengt
   pub signed_left : begins_signed text ≡ eqb (get_or line i 0) 43 || eqb (get_or line i 0) 45
   unfolding begins_signed
   signed_left = ap begins_signed first_left
+
+suc_is : (n : ℕ) → 1 + n ≡ suc n
+suc_is n = omega arith
+
+-- a line's text begins at the first byte that is printed
+begins : (line : Bytes) → TextLeft line (text_of line) (position_or_len text_byte line)
+begins [] = record { within = omega arith; is = refl; some = λ l. absurd (omega arith) }
+begins (b ∷ bs) = at (text_byte b) refl (begins bs)
+  where
+    at : (t : Bool) → text_byte b ≡ t → TextLeft bs (text_of bs) (position_or_len text_byte bs)
+        → TextLeft (b ∷ bs) (text_of (b ∷ bs)) (cond (not t) (1 + position_or_len text_byte bs) 0)
+    at true e h = record { within = omega arith; is = refl; some = λ _. e }
+    at false e h =
+        rw (suc_is (position_or_len text_byte bs))
+        record { within = omega (arith, h.within); is = h.is ∙ sym (unprinted b bs e); some = λ l. h.some (omega arith) }
+
+pub text_begins : {line : Bytes} {o : Option ℕ} {r : ℕ} → o ≡ position text_byte line → r ≡ unwrap_or o (length line) → TextLeft line (text_of line) r
+text_begins {line} {o} {r} e f = at (ltb (position_or_len text_byte line) (length line)) refl e
+  where
+    at : (t : Bool) → ltb (position_or_len text_byte line) (length line) ≡ t → o ≡ cond t (Some (position_or_len text_byte line)) None → TextLeft line (text_of line) r
+    at true g h = rw (f ∙ ap (λ (q : Option ℕ). unwrap_or q (length line)) h) (begins line)
+    at false g h =
+        let k : r ≡ position_or_len text_byte line =
+        f ∙ ap (λ (q : Option ℕ). unwrap_or q (length line)) h ∙ omega (arith, ltb-false (position_or_len text_byte line) (length line) g, (begins line).within)
+        in
+        rw k (begins line)
+
+-- a first byte stands in the line
+pub begins_within : (line : Bytes) (i : ℕ) → Some i ≡ position text_byte line → i < length line
+begins_within line i e = (position-Some text_byte line i 0 (sym e)).0
+
+-- how many bytes are printed
+pub text_counted : (line : Bytes) → count_by text_byte line ≡ length (text_of line)
+text_counted line = sym (is_count_by (λ (l : Bytes). length (text_of l)) text_byte (ap length (no_text [] 0 (omega arith))) more line)
+  where
+    more : (b : ℕ) (bs : Bytes) → length (text_of (b ∷ bs)) ≡ cond (text_byte b) (1 + length (text_of bs)) (length (text_of bs))
+    more b bs = at (text_byte b) refl
+      where
+        at : (t : Bool) → text_byte b ≡ t → length (text_of (b ∷ bs)) ≡ cond t (1 + length (text_of bs)) (length (text_of bs))
+        at true e = omega (arith, ap length (printed b bs e))
+        at false e = ap length (unprinted b bs e)
 
 -- no sign is left at the end of a line
 pub none_left : {line text : Bytes} {i : ℕ} → TextLeft line text i → length line ≤ i → begins_signed text ≡ false

@@ -1,11 +1,11 @@
 // Printed pages: how many rows a book has, and their bytes. aut68's Pages has the layout, specs/Posts the contracts.
 #![tactic(auto)]
 
-ghost use Rattle.std.specs.Prelude.{◌≡◌, ◌*◌, ◌≤◌, ◌<◌, length, replicate};
+ghost use Rattle.std.specs.Prelude.{◌≡◌, ◌*◌, ◌≤◌, ◌<◌, length, position};
 ghost use Rattle.aut68.specs.Sizes.{number_columns, page_row};
 ghost use Rattle.aut68.specs.Procedure.Run.{over};
 ghost use Rattle.aut68.specs.Pages.{text_of, digit, numbered, row_count, text_rows, begins_signed, pages};
-ghost use Rattle.page_rows.specs.Posts.{text_byte, TextLeft, TextPut, RowPut};
+ghost use Rattle.page_rows.specs.Posts.{text_byte, TextPut, RowPut};
 
 use constants::{NUMBER_COLUMNS, PAGE_ROW, TEXT_COLUMNS};
 use headings::line_end;
@@ -17,37 +17,21 @@ const TEXT_START: usize = NUMBER_COLUMNS + 1;
 fn is_text(b: u8) -> bool
     ensures { result ≡ text_byte b }
 {
-    if b == 32 {
-        return false;
-    }
-    b != 10
+    b != b' ' && b != b'\n'
 }
 
 // How many bytes of a line are printed.
 fn text_length(line: &[u8]) -> usize
     ensures { (result ≡ length (text_of line.now)) × (result ≤ length line.now) }
 {
-    let mut n = 0;
-    let mut i = 0;
-    while i < line.len() {
-        if is_text(line[i]) {
-            n = n + 1;
-        }
-        i = i + 1;
-    }
-    n
+    line.iter().filter(|b| is_text(**b)).count()
 }
 
 // How many rows a line has.
 fn rows_of(line: &[u8]) -> usize
     ensures { (result ≡ row_count (text_of line.now)) × (result ≤ length line.now) }
 {
-    let n = text_length(line);
-    let whole = n / TEXT_COLUMNS;
-    if n % TEXT_COLUMNS == 0 {
-        return whole;
-    }
-    whole + 1
+    text_length(line).div_ceil(TEXT_COLUMNS)
 }
 
 // How many rows a book has.
@@ -58,8 +42,7 @@ pub fn count_rows(book: &[u8]) -> usize
     let mut at = 0;
     while at < book.len() {
         let end = line_end(book, at);
-        let more = rows_of(&book[at..end]);
-        rows = rows + more;
+        rows += rows_of(&book[at..end]);
         at = end;
     }
     rows
@@ -71,10 +54,10 @@ fn digit_of(unit: usize, n: usize) -> u8
     ensures { result ≡ digit unit n }
 {
     if n < unit {
-        return 32;
+        return b' ';
     }
     let d = n / unit % 10;
-    48 + d as u8
+    b'0' + d as u8
 }
 
 // The number in its columns; blanks, if it is 0.
@@ -89,29 +72,11 @@ fn put_number(n: usize, part: &mut [u8])
     part[4] = digit_of(1, n);
 }
 
-// Blanks in every column.
-fn put_blanks(part: &mut [u8])
-    ensures { part.new ≡ replicate (length part.old) 32 }
+// Where the first printed byte of a line is, if it has one.
+fn first_text(line: &[u8]) -> Option<usize>
+    ensures { result ≡ position text_byte line.now }
 {
-    let mut i = 0;
-    while i < part.len() {
-        part[i] = 32;
-        i = i + 1;
-    }
-}
-
-// Where the first printed byte of a line is; its end, if it has none.
-fn first_text(line: &[u8]) -> usize
-    ensures { TextLeft line.now (text_of line.now) result }
-{
-    let mut i = 0;
-    while i < line.len() {
-        if is_text(line[i]) {
-            return i;
-        }
-        i = i + 1;
-    }
-    i
+    line.iter().position(|b| is_text(*b))
 }
 
 // The printed bytes of a line, from index `at` on, at the front of the part, until it is full. The answer: where to go on.
@@ -120,19 +85,17 @@ fn put_text(line: &[u8], at: usize, part: &mut [u8]) -> usize
     ensures { TextPut line.now at part.old result part.new }
 {
     let mut n = 0;
-    let mut i = at;
-    while i < line.len() {
+    for i in at..line.len() {
         let b = line[i];
         if is_text(b) {
             if n == part.len() {
                 return i;
             }
             part[n] = b;
-            n = n + 1;
+            n += 1;
         }
-        i = i + 1;
     }
-    i
+    line.len()
 }
 
 // A row of a line, whose printed bytes from index `at` on it takes, with this number. The answer: where the next row goes on.
@@ -142,8 +105,8 @@ fn put_row(line: &[u8], at: usize, n: usize, part: &mut [u8]) -> usize
 {
     let end = TEXT_START + TEXT_COLUMNS;
     put_number(n, &mut part[..NUMBER_COLUMNS]);
-    put_blanks(&mut part[NUMBER_COLUMNS..end]);
-    part[end] = 10;
+    part[NUMBER_COLUMNS..end].fill(b' ');
+    part[end] = b'\n';
     put_text(line, at, &mut part[TEXT_START..end])
 }
 
@@ -152,7 +115,7 @@ fn put_line(line: &[u8], number: usize, page: &mut [u8]) -> usize
     requires { length (text_rows (numbered number) (text_of line.now)) ≤ length page.old }
     ensures { (result ≡ length (text_rows (numbered number) (text_of line.now))) × (page.new ≡ over (text_rows (numbered number) (text_of line.now)) page.old) }
 {
-    let mut at = first_text(line);
+    let mut at = first_text(line).unwrap_or(line.len());
     let mut n = number;
     let mut to = 0;
     while at < line.len() {
@@ -168,15 +131,10 @@ fn put_line(line: &[u8], number: usize, page: &mut [u8]) -> usize
 fn is_signed(line: &[u8]) -> bool
     ensures { result ≡ begins_signed (text_of line.now) }
 {
-    let i = first_text(line);
-    if i >= line.len() {
-        return false;
+    match first_text(line) {
+        Some(i) => line[i] == b'+' || line[i] == b'-',
+        None => false,
     }
-    let b = line[i];
-    if b == 43 {
-        return true;
-    }
-    b == 45
 }
 
 // The pages of a book, at the front of a store that has room for them.
@@ -194,10 +152,9 @@ pub fn put_pages(book: &[u8], page: &mut [u8])
         if is_signed(&book[at..end]) {
             number = 0;
         } else {
-            n = n + 1;
+            n += 1;
         }
-        let more = put_line(&book[at..end], number, &mut page[to..]);
-        to = to + more;
+        to += put_line(&book[at..end], number, &mut page[to..]);
         at = end;
     }
 }

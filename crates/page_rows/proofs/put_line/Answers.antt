@@ -1,19 +1,14 @@
 use native.Mathlib.Omega.{arith}
 use lib.ListN.{length-take, length-drop}
+use Rattle.page_rows.proofs.TextLaws.{text_begins}
 use Rattle.page_rows.proofs.PageLaws.{line_start, row_fits, line_row, less_left, line_end_lem}
 use Rattle.page_rows.proofs.put_line.Goals as goal
 
 pub loop-at-init : goal.loop-at-init
-loop-at-init c = line_start c.first_text-at.ensures
+loop-at-init c = line_start (text_begins c.first_text.ensures c.unwrap_or-at.ensures)
 
 pub overflow_add-end : goal.overflow_add-end
 overflow_add-end c = omega (arith, row_fits c.loop-at.invariant (omega arith) c.requires)
-
-pub slice_bounds-put_row-count : goal.slice_bounds-put_row-count
-slice_bounds-put_row-count c = omega arith
-
-pub slice_bounds-put_row-start : goal.slice_bounds-put_row-start
-slice_bounds-put_row-start c = omega arith
 
 pub slice_bounds-put_row-end : goal.slice_bounds-put_row-end
 slice_bounds-put_row-end c = row_fits c.loop-at.invariant (omega arith) c.requires

@@ -52,12 +52,9 @@ slice_bounds-put_line-start-in-loop-at c =
     let d = counted (goal.at.slice_bounds-put_line-start-in-loop-at c).Joined-is_signed in
     omega (arith, line_fits c.loop-at.invariant (omega arith) c.line_end-end.ensures c.requires d)
 
-pub slice_bounds-put_line-end-in-loop-at : goal.slice_bounds-put_line-end-in-loop-at
-slice_bounds-put_line-end-in-loop-at c = omega arith
-
-pub put_line-more-requires : goal.put_line-more-requires
-put_line-more-requires c =
-    let d = counted (goal.at.put_line-more-requires c).Joined-is_signed in
+pub put_line-to-requires : goal.put_line-to-requires
+put_line-to-requires c =
+    let d = counted (goal.at.put_line-to-requires c).Joined-is_signed in
     let fits = line_fits c.loop-at.invariant (omega arith) c.line_end-end.ensures c.requires d in
     simp (length-take, length-drop) (omega (arith, fits))
 
@@ -65,7 +62,7 @@ pub overflow_add-to : goal.overflow_add-to
 overflow_add-to c =
     let d = counted (goal.at.overflow_add-to c).Joined-is_signed in
     let fits = line_fits c.loop-at.invariant (omega arith) c.line_end-end.ensures c.requires d in
-    omega (arith, fits, c.put_line-more.ensures.0)
+    omega (arith, fits, c.put_line-to.ensures.0)
 
 pub loop-at-smaller : goal.loop-at-smaller
 loop-at-smaller c = omega (arith, c.line_end-end.ensures.from (omega arith))
@@ -73,7 +70,7 @@ loop-at-smaller c = omega (arith, c.line_end-end.ensures.from (omega arith))
 pub loop-at-preserved : goal.loop-at-preserved
 loop-at-preserved c =
     let d = counted (goal.at.loop-at-preserved c).Joined-is_signed in
-    pages_line c.loop-at.invariant (omega arith) c.line_end-end.ensures c.requires d c.put_line-more.ensures
+    pages_line c.loop-at.invariant (omega arith) c.line_end-end.ensures c.requires d c.put_line-to.ensures
 
 pub shape_of-page : goal.shape_of-page
 shape_of-page c = c.loop-at.invariant.sofar.long

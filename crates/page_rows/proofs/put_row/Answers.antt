@@ -1,4 +1,5 @@
 use mathlib.Core.Path.{refl, sym, ◌∙◌}
+use Rattle.std.proofs.Common.{rules}
 use native.Mathlib.Omega.{arith}
 use lib.ListN.{length-take}
 use Rattle.aut68.specs.Pages.{text_in}
@@ -13,12 +14,12 @@ put_number-requires c = simp length-take (omega arith)
 
 pub slice_bounds-put_text-end : goal.slice_bounds-put_text-end
 slice_bounds-put_text-end c =
-    omega (arith, unfilled_long c.args.n c.args.part.now _ _ c.requires.1 c.put_number.ensures c.put_blanks.ensures)
+    omega (arith, unfilled_long c.args.n c.args.part.now c.put_number.new.part c.fill.new.self c.requires.1 c.put_number.ensures (search rules))
 
 pub returns : goal.returns
 unfolding text_in
 returns c =
-    row_put c.args.n c.args.part.now _ _ c.requires.1 c.put_number.ensures c.put_blanks.ensures c.put_text.ensures refl
+    row_put c.args.n c.args.part.now c.put_number.new.part c.fill.new.self c.requires.1 c.put_number.ensures (search rules) c.put_text.ensures refl
 
 pub shape_of-part : goal.shape_of-part
 shape_of-part c = row_put_long (returns c) ∙ sym c.requires.1

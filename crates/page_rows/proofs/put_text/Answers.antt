@@ -1,4 +1,6 @@
 use mathlib.Core.Path.{sym, ◌∙◌}
+use mathlib.Core.Path.{◌≡◌}
+use lib.ListN.{length}
 use native.Mathlib.Omega.{arith}
 use Rattle.page_rows.proofs.TextLaws.{text_start, text_byte_lem, other_byte, text_full, text_ended}
 use Rattle.page_rows.proofs.put_text.Goals as goal
@@ -7,27 +9,12 @@ use Rattle.page_rows.proofs.put_text.Goals.{then-is_text+else-n-part, else-is_te
 pub loop-i-init : goal.loop-i-init
 loop-i-init c = text_start c.requires
 
-pub bounds-line-i : goal.bounds-line-i
-bounds-line-i c = omega arith
-
 pub shape_of-part-then-n-part : goal.shape_of-part-then-n-part
 shape_of-part-then-n-part c = c.loop-i.invariant.sofar.long
 
 pub returns-then-n-part : goal.returns-then-n-part
 returns-then-n-part c =
     text_full c.loop-i.invariant (omega arith) (sym c.is_text.ensures ∙ c.if-is_text.true) c.if-n-part.true
-
-pub bounds-part-n : goal.bounds-part-n
-bounds-part-n c = omega arith
-
-pub overflow_add-n : goal.overflow_add-n
-overflow_add-n c = omega arith
-
-pub overflow_add-i : goal.overflow_add-i
-overflow_add-i c = omega arith
-
-pub loop-i-smaller : goal.loop-i-smaller
-loop-i-smaller c = omega arith
 
 pub loop-i-preserved : goal.loop-i-preserved
 loop-i-preserved c =
@@ -42,4 +29,6 @@ pub shape_of-part : goal.shape_of-part
 shape_of-part c = c.loop-i.invariant.sofar.long
 
 pub returns : goal.returns
-returns c = text_ended c.loop-i.invariant (omega arith)
+returns c =
+    let e : c.loop-i.i ≡ length c.args.line.now = omega (arith, c.loop-i.invariant.within) in
+    rw e at (text_ended c.loop-i.invariant (omega arith))
