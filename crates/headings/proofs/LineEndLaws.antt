@@ -6,12 +6,16 @@ use Prim.Native.Nat.{ℕ, zero, suc, ◌+◌, ◌-◌, ◌≤◌, ◌<◌}
 use native.Mathlib.Omega.{arith}
 use lib.ListN.{length, get_or, drop, take, length-drop, length-take}
 use lib.Seq.{take-suc, take-add, get_or-take, get_or-drop, drop-drop}
-use borrow.Author.Tests.{ne_eqb}
+use borrow.Author.Tests.{ne_eqb, eq-eqb}
+use lib.Dec.{eqb}
+use mathlib.Core.Bool.{false, false≢true}
+use Rattle.std.specs.List.{list_any}
+use Rattle.std.proofs.lemmas.List.Folds.{list_any_at}
 use Rattle.aut68.specs.Bytes.{Bytes, onto, lines}
 use Rattle.aut68.specs.Procedure.Answer.{done, stop, malformed}
 use Rattle.aut68.specs.Procedure.Parse.{line_end}
 use Rattle.symbols.proofs.SymbolLaws.{step, ended}
-use Rattle.headings.specs.Posts.{NoEnd, LineEnd, stride}
+use Rattle.headings.specs.Posts.{LineEnd}
 
 -- bytes without byte 10, in front of lines
 pub onto_all : Bytes → List Bytes → List Bytes
@@ -134,10 +138,13 @@ no_end_many {book} {at} {i} (suc n) h l f =
     let e : i + n + 1 ≡ i + suc n = omega arith in
     subst (NoEndSoFar book at) e (no_end_more (no_end_many n h (omega arith) (λ j m. f j (omega arith))) (omega arith) (f n (omega arith)))
 
--- the bytes that has_end passes
-pub no_end_part : {book : Bytes} {at i : ℕ} → NoEndSoFar book at i → i + stride ≤ length book → NoEnd (take (i + stride - i) (drop i book)) stride → NoEndSoFar book at (i + stride)
+-- 32 bytes at once, none of them 10
+pub no_end_part : {book : Bytes} {at i : ℕ} → NoEndSoFar book at i → i + 32 ≤ length book → false ≡ list_any (λ b. eqb b 10) (take (i + 32 - i) (drop i book)) → NoEndSoFar book at (i + 32)
 no_end_part {book} {at} {i} h l f =
-    no_end_many stride h l (λ j m e. f j m (get_or-take (i + stride - i) (drop i book) j 0 (omega arith) ∙ get_or-drop i book j 0 ∙ e))
+    no_end_many 32 h l (λ j m e.
+    false≢true (f
+    ∙ list_any_at (λ b. eqb b 10) (take (i + 32 - i) (drop i book)) j 0 (omega (arith, length-take (i + 32 - i) (drop i book), length-drop i book))
+    (eq-eqb _ 10 (get_or-take (i + 32 - i) (drop i book) j 0 (omega arith) ∙ get_or-drop i book j 0 ∙ e))))
 
 -- ---- a line that is read
 

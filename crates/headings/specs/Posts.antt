@@ -1,5 +1,5 @@
 -- What the functions on headings and on the ends of lines leave.
-use Rattle.std.specs.Prelude.{◌≡◌, ◌≢◌, ◌∷◌, ℕ, ◌+◌, ◌-◌, ◌≤◌, ◌<◌, eqb, length, get_or, drop, take, Option, Some, None}
+use Rattle.std.specs.Prelude.{◌≡◌, ◌≢◌, ◌∷◌, ℕ, ◌+◌, ◌-◌, ◌≤◌, ◌<◌, eqb, length, drop, take, Option, Some, None}
 use Rattle.std.proofs.Math.Seq.{slice}
 use Rattle.aut68.specs.Language.{aut68}
 use Rattle.aut68.specs.Bytes.{Bytes, lines}
@@ -51,14 +51,6 @@ pub record SignRead (ks s : Bytes) (k start len : ℕ) : Type 0 where
 abbrev pub SignNamed : Bytes → Bytes → ℕ → Option Name → Type 0
 SignNamed ks s k (Some n) = (n.len ≢ 0) × SignRead ks s k n.start n.len
 SignNamed ks s k None = SignRead ks s k 0 0
-
--- how many bytes are looked at at once for the end of a line
-abbrev pub stride : ℕ
-stride = 32
-
--- none of the first n bytes is 10
-abbrev pub NoEnd : Bytes → ℕ → Type 0
-NoEnd part n = (j : ℕ) → j < n → get_or part j 0 ≢ 10
 
 -- r is the end of the first line of what is left of the book at `at`
 pub record LineEnd (book : Bytes) (at r : ℕ) : Type 0 where

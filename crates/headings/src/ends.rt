@@ -1,23 +1,8 @@
 // Where the lines of a book end.
-ghost use Rattle.std.specs.Prelude.{◌≡◌, false, length};
-ghost use Rattle.headings.specs.Posts.{stride, NoEnd, LineEnd};
+ghost use Rattle.headings.specs.Posts.{LineEnd};
 
 // How many bytes are looked at at once.
 const STRIDE: usize = 32;
-
-// Is there a byte 10 among so many bytes?
-fn has_end(part: &[u8]) -> bool
-    requires { length part.now ≡ stride }
-    ensures { result ≡ false → NoEnd part.now stride }
-{
-    let mut found = false;
-    for j in 0..STRIDE {
-        if part[j] == b'\n' {
-            found = true;
-        }
-    }
-    found
-}
 
 // The end of the line, looked for byte by byte from `at` on.
 fn byte_end(book: &[u8], at: usize) -> usize
@@ -37,7 +22,7 @@ pub fn line_end(book: &[u8], at: usize) -> usize
 {
     let mut i = at;
     while i < book.len() {
-        if book.len() - i < STRIDE || has_end(&book[i..i + STRIDE]) {
+        if book.len() - i < STRIDE || book[i..i + STRIDE].contains(&b'\n') {
             return byte_end(book, i);
         }
         i += STRIDE;
