@@ -5,7 +5,7 @@ ghost use Rattle.std.specs.Prelude.{List, ℕ, ◌+◌, ◌≤◌, ◌<◌, leng
 ghost use Rattle.aut68.specs.Sizes.{cell_values, book_limit, open_limit};
 ghost use Rattle.noting.specs.Posts.{Put, EntryPost, OpeningPost, ClosingPost};
 
-use constants::Cell;
+use constants::{CELL_VALUES, Cell};
 use names::hash;
 use notes::{
     AROUNDS, CHAIN_FACTOR, COUNT, DEPTH, FROMS, HEADS, NUMBERS, PLACE_FACTOR, TITLES, UPTO,
@@ -17,10 +17,7 @@ fn put_cell(w: &mut [Cell], i: usize, x: usize)
     ensures { Put (length w.old) i x w.old w.new }
 {
     let half = w.len() / 2;
-    if i >= w.len() - half {
-        return;
-    }
-    if x > 4294967295 {
+    if i >= w.len() - half || x >= CELL_VALUES {
         return;
     }
     w[half + i] = x as Cell;
@@ -36,8 +33,7 @@ fn note_entry(book: &[u8], w: &mut [Cell], start: usize, len: usize, n: usize, q
     if n > most {
         return;
     }
-    let end = start + len;
-    let h = hash(&book[start..end]);
+    let h = hash(&book[start..start + len]);
     let head = HEADS + chain(w.len(), h, q);
     let was = cell_at(w, head);
     put_cell(w, head, n);
