@@ -7,6 +7,7 @@ use mathlib.Core.List.{List, ◌++◌}
 use Prim.Native.Nat.{ℕ, ◌≤◌}
 use native.Mathlib.Omega.{arith}
 use lib.ListN.{length, get_or, drop}
+use Rattle.std.specs.Prelude as Prelude
 use Rattle.aut68.specs.Bytes.{Bytes}
 use Rattle.aut68.specs.Bytes as B
 use Rattle.aut68.specs.Paragraphs.{Paragraph, Place, current}
@@ -14,6 +15,7 @@ use Rattle.aut68.specs.Procedure.Lookup.{paragraph_in, closed_in}
 use Rattle.aut68.specs.Rules.Names.{Member, ParagraphIn}
 use Rattle.lookup.specs.Identifiers.{DistinctParagraphs, paragraph_in_sound, paragraph_in_none, paragraph_in_unique}
 use Rattle.lookup.specs.Places.{RightPlace, numbered_within, closed_none, closed_found, closed_open}
+use Rattle.names.specs.Search.{Gives, gives_so}
 use Rattle.names.specs.Posts.{number_or}
 use Rattle.walks.specs.Walk.{child_from}
 use Rattle.walks.specs.Posts.{Walked}
@@ -81,6 +83,11 @@ module _ {ks book w : List ℕ} {word : Bytes} {h i q : ℕ} (l : OfLevel number
             ∙ ap (λ (n : ℕ). number_or 0 (child_from word 0 n v.pieces)) (level_number o l)
             ∙ ap (number_or 0) (v.walk.child word));
       }
+
+pub gives_in_book : (ks book w : List ℕ) (word : Bytes) (h : ℕ) {i q from upto : ℕ} → OfLevel numbers w i q → OfLevel froms w i from → upto ≡ get_or w (upto_cell (length w)) 0 → (r : Prelude.Option ℕ)
+    → Gives (Walked ks book from upto q word) r → Gives (FoundIn paragraph_in ks book w word h i) r
+gives_in_book ks book w word h {i} {q} {from} {upto} l m e =
+    gives_so (Walked ks book from upto q word) (FoundIn paragraph_in ks book w word h i) (λ r k. in_book l m e k)
 
 -- ---- among closed ones
 

@@ -1,15 +1,13 @@
 -- The line that a used name means, and whether a name is taken.
 use mathlib.Core.Path.{◌≡◌, refl, sym, ap, ◌∙◌}
 use mathlib.Core.Logic.{◌≢◌}
-use mathlib.Core.Bool.{true, false, not}
+use mathlib.Core.Bool.{true, false, not, true≢false, false≢true}
 use mathlib.Core.Option.{none, some}
 use mathlib.Core.List.{List, [], ◌∷◌}
 use Prim.Native.Nat.{ℕ, ◌≤◌}
-use native.Mathlib.Decide.{ℕ_discrete}
 use native.Mathlib.Omega.{arith}
-use lib.Dec.{eqb}
-use borrow.Author.Tests.{eq-eqb, ne_eqb}
 use lib.ListN.{length, get_or}
+use Rattle.std.specs.Prelude as Prelude
 use Rattle.aut68.specs.Bytes.{Bytes}
 use Rattle.aut68.specs.Lines.{number_in}
 use Rattle.aut68.specs.Paragraphs.{State, numbers_of, current}
@@ -17,13 +15,14 @@ use Rattle.aut68.specs.Procedure.Lookup.{seek, paragraph_in, closed_in, number_o
 use Rattle.kinds.specs.Kinds.{KindsTable}
 use Rattle.names.specs.Hints.{hash_of}
 use Rattle.names.specs.Known.{Known}
+use Rattle.names.specs.Search.{Gives, gives_so}
 use Rattle.names.specs.Posts.{number_or, LineFound}
 use Rattle.symbols.specs.Symbols.{used_by}
 use Rattle.notes.specs.Note.{depth_cell, numbers, StateNoted}
 use Rattle.notes.specs.NoteLaws.{outer_all, level_number}
 use Rattle.notes.specs.Posts.{OfLevel}
-use Rattle.paragraphs.specs.Posts.{FoundIn, ClosedFound, PlainFound, UsedFound, TakenTold, CurrentTold}
-use Rattle.paragraphs.proofs.NumberLaws.{Positive, number_some, number_none, or_none, line_number, paragraph_number, closed_number, seek_number}
+use Rattle.paragraphs.specs.Posts.{LineInLevel, FoundIn, ClosedFound, PlainFound, UsedFound, TakenTold, CurrentTold}
+use Rattle.paragraphs.proofs.NumberLaws.{number_some, number_none, or_none, line_number, paragraph_number, closed_number, seek_number}
 
 -- ---- the innermost open paragraph
 
@@ -36,6 +35,10 @@ pub used_plain : {ks book tb : List ℕ} {lines : ℕ} {w : List ℕ} {title wor
 unfolding used_by number_of
 used_plain {title = []} e f = record { within = f.within; is = λ st t k n p. f.is st k n p }
 used_plain {title = c ∷ cs} e f = absurd (omega (arith, e))
+
+pub gives_used_plain : (ks book tb : List ℕ) (lines : ℕ) (w : List ℕ) (title word : Bytes) → length title ≡ 0 → (r : Prelude.Option ℕ) → Gives (PlainFound book tb lines w word) r
+    → Gives (UsedFound ks book tb lines w title word) r
+gives_used_plain ks book tb lines w title word e = gives_so (PlainFound book tb lines w word) (UsedFound ks book tb lines w title word) (λ r f. used_plain e f)
 
 -- what is found inside a paragraph that is found, or not
 inside_none : (st : State) (c : ℕ) (cs word : Bytes) → seek (closed_in st.place (c ∷ cs)) (numbers_of st.place.opened) ≡ none → number_of st (used_by (c ∷ cs) word) ≡ none
@@ -65,6 +68,11 @@ module _ {ks book tb : List ℕ} {lines : ℕ} {w : List ℕ} {title word : Byte
       at (c ∷ cs) f l st t k n p =
           g.is st.earlier k n.hinted p e ∙ ap (number_or 0) (sym (inside_some st c cs word (number_some _ (f.is st tb lines t n (omega arith)) m)))
 
+pub gives_used_inside : (ks book tb : List ℕ) (lines : ℕ) (w : List ℕ) (title word : Bytes) {q h : ℕ} → length title ≢ 0 → (1 ≤ q) × ClosedFound ks book w title q → h ≡ hash_of word
+    → (r : Prelude.Option ℕ) → Gives (LineFound book tb lines w word h q) r → Gives (UsedFound ks book tb lines w title word) r
+gives_used_inside ks book tb lines w title word {q} {h} l f e =
+    gives_so (LineFound book tb lines w word h q) (UsedFound ks book tb lines w title word) (λ r g. used_inside l f.1 e g (λ z. let p = f.0 in omega arith))
+
 -- ---- taken names
 
 module _ (w : Bytes) (st : State) where
@@ -81,23 +89,28 @@ module _ (w : Bytes) (st : State) where
     unfolding unused
     not_taken f = rw (e, f, unused)
 
-module _ {book tb : List ℕ} {lines : ℕ} {w : List ℕ} {word : Bytes} {h i q r : ℕ} (e : h ≡ hash_of word) (d : i ≡ get_or w (depth_cell (length w)) 0) (l : OfLevel numbers w i q)
-    (f : LineFound book tb lines w word h q r) where
-  line_there : (st : State) → Known st.earlier book tb lines → StateNoted st book tb lines w → 1 ≤ length word → r ≡ number_or 0 (number_in st.earlier word (current st.place.opened))
-  line_there st k n p = f.is st.earlier k n.hinted p e ∙ ap (λ (x : ℕ). number_or 0 (number_in st.earlier word x)) (level_number (outer_all n.place d) l)
+module _ {book tb : List ℕ} {lines : ℕ} {w : List ℕ} {word : Bytes} {h i : ℕ} (e : h ≡ hash_of word) (d : i ≡ get_or w (depth_cell (length w)) 0) where
+  line_there : (st : State) → Known st.earlier book tb lines → StateNoted st book tb lines w → 1 ≤ length word → {q r : ℕ} → OfLevel numbers w i q → LineFound book tb lines w word h q r
+      → r ≡ number_or 0 (number_in st.earlier word (current st.place.opened))
+  line_there st k n p l f = f.is st.earlier k n.hinted p e ∙ ap (λ (x : ℕ). number_or 0 (number_in st.earlier word x)) (level_number (outer_all n.place d) l)
 
-  pub taken_by_line : {ks : List ℕ} → r ≢ 0 → TakenTold ks book tb lines w word true
-  taken_by_line m = record { is = λ st t k n p. ap not (sym (line_taken word st (number_some _ (line_there st k n p) m))) }
+  pub taken_by_line : {ks : List ℕ} (r : Prelude.Option ℕ) → LineInLevel book tb lines w word h i r → Prelude.is_some r ≡ true → TakenTold ks book tb lines w word true
+  taken_by_line Prelude.None f s = absurd (false≢true s)
+  taken_by_line (Prelude.Some v) f s =
+      record { is = λ st t k n p. ap not (sym (line_taken word st (number_some _ (line_there st k n p f.level f.found.1) (λ z. let a = f.found.0 in omega arith)))) }
 
-  pub taken_by_paragraph : {ks : List ℕ} {n : ℕ} → r ≡ 0 → FoundIn paragraph_in ks book w word h i n → TakenTold ks book tb lines w word (not (eqb n 0))
-  taken_by_paragraph {n = n} z g =
+  pub taken_by_paragraph : {ks : List ℕ} (r o : Prelude.Option ℕ) → LineInLevel book tb lines w word h i r → Prelude.is_some r ≡ false → Gives (FoundIn paragraph_in ks book w word h i) o
+      → TakenTold ks book tb lines w word (Prelude.is_some o)
+  taken_by_paragraph (Prelude.Some v) o f s g = absurd (true≢false s)
+  taken_by_paragraph Prelude.None Prelude.None f s g =
       record {
-        is = λ st t k s p.
-            ap not (test st (number_none _ (line_there st k s p) z (line_number st.earlier word _)) (g.is st tb lines t s p e _ (outer_all s.place d)) (paragraph_number s.right word _)
-            (ℕ_discrete n 0));
+        is = λ st t k n p.
+            ap not (sym (not_taken word st (number_none _ (line_there st k n p f.level f.found) refl (line_number st.earlier word _))
+            (number_none _ (g.is st tb lines t n p e _ (outer_all n.place d)) refl (paragraph_number n.right word _))));
       }
-    where
-      test : (st : State) → number_in st.earlier word (current st.place.opened) ≡ none → n ≡ number_or 0 (paragraph_in st.place word (current st.place.opened))
-          → Positive (paragraph_in st.place word (current st.place.opened)) → Dec (n ≡ 0) → eqb n 0 ≡ unused word st
-      test st a b c (yes y) = eq-eqb n 0 y ∙ sym (not_taken word st a (number_none _ b y c))
-      test st a b c (no y) = ne_eqb n 0 y ∙ sym (paragraph_taken word st a (number_some _ b y))
+  taken_by_paragraph Prelude.None (Prelude.Some v) f s g =
+      record {
+        is = λ st t k n p.
+            ap not (sym (paragraph_taken word st (number_none _ (line_there st k n p f.level f.found) refl (line_number st.earlier word _))
+            (number_some _ (g.1.is st tb lines t n p e _ (outer_all n.place d)) (λ z. let a = g.0 in omega arith))));
+      }

@@ -1,5 +1,6 @@
 -- What the functions on lines and paragraphs by their names give.
-use Rattle.std.specs.Prelude.{◌≡◌, Bool, not, List, ℕ, ◌≤◌, ◌<◌, length}
+use Rattle.std.specs.Prelude.{◌≡◌, Bool, not, List, ℕ, ◌-◌, ◌≤◌, ◌<◌, length}
+use Rattle.std.specs.Prelude as Found
 use Rattle.std.proofs.Math.Option.{Option}
 use Rattle.aut68.specs.Sizes.{cell_values}
 use Rattle.aut68.specs.Bytes.{Bytes}
@@ -9,15 +10,29 @@ use Rattle.aut68.specs.Lines.{number_in}
 use Rattle.kinds.specs.Kinds.{KindsTable}
 use Rattle.names.specs.Hints.{hash_of}
 use Rattle.names.specs.Known.{Known}
-use Rattle.names.specs.Posts.{number_or}
+use Rattle.names.specs.Search.{Gives}
+use Rattle.names.specs.Posts.{number_or, LineFound}
 use Rattle.symbols.specs.Symbols.{used_by}
-use Rattle.notes.specs.Note.{PlaceNoted, StateNoted}
+use Rattle.notes.specs.Note.{numbers, PlaceNoted, StateNoted}
 use Rattle.notes.specs.NoteLaws.{Outer}
+use Rattle.notes.specs.Posts.{OfLevel}
+
+-- r is the line with the name, of the hash h, in the i-th open paragraph from outside
+pub record LineInLevel (book tb : List ℕ) (lines : ℕ) (w : List ℕ) (word : Bytes) (h i : ℕ) (r : Found.Option ℕ) : Type 0 where
+  pub around : ℕ
+  pub level : OfLevel numbers w i around
+  pub found : Gives (LineFound book tb lines w word h around) r
 
 -- r is what `sought` finds under the name in the i-th open paragraph from outside, the innermost of os; 0: none
 pub record FoundIn (sought : Place → Bytes → ℕ → Option ℕ) (ks book w : List ℕ) (word : Bytes) (h i r : ℕ) : Type 0 where
   pub is : (st : State) (tb : List ℕ) (lines : ℕ) → KindsTable ks → StateNoted st book tb lines w → 1 ≤ length word → h ≡ hash_of word
       → (os : List Opened) → Outer book st.place w i os → r ≡ number_or 0 (sought st.place word (current os))
+
+-- From the innermost of i paragraphs outward, outside being one of them, to what is found first: what may be found in each.
+pub data Outward (found_in : ℕ → Found.Option ℕ → Type 0) : ℕ → Found.Option ℕ → Type 0 where
+  nowhere : {i : ℕ} → i ≡ 0 → Outward found_in i Found.None
+  here : {i v : ℕ} → 1 ≤ i → found_in (i - 1) (Found.Some v) → Outward found_in i (Found.Some v)
+  further : {i : ℕ} {r : Found.Option ℕ} → 1 ≤ i → found_in (i - 1) Found.None → Outward found_in (i - 1) r → Outward found_in i r
 
 -- r is the closed paragraph that the name means, sought outward; 0: none
 pub record ClosedFound (ks book w : List ℕ) (word : Bytes) (r : ℕ) : Type 0 where

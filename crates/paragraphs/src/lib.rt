@@ -1,8 +1,11 @@
 // Lines and paragraphs by their names, from the innermost open paragraph outward. specs/Posts has the contracts.
 #![tactic(auto)]
 
+ghost use Rattle.std.specs.Prelude.{◌+◌, length, get_or};
 ghost use Rattle.aut68.specs.Procedure.Lookup.{paragraph_in, closed_in};
-ghost use Rattle.paragraphs.specs.Posts.{FoundIn, ClosedFound, PlainFound, UsedFound, TakenTold, CurrentTold};
+ghost use Rattle.names.specs.Search.{Gives};
+ghost use Rattle.notes.specs.Note.{depth_cell};
+ghost use Rattle.paragraphs.specs.Posts.{LineInLevel, FoundIn, Outward, ClosedFound, PlainFound, UsedFound, TakenTold, CurrentTold};
 
 use constants::Cell;
 use names::{find, hash};
@@ -16,8 +19,23 @@ pub fn current(w: &[Cell]) -> usize
     number_at(w, cell_at(w, DEPTH))
 }
 
-// The paragraph with this name, h being its hash, that was opened in the i-th open paragraph from outside (paragraph_in); 0: none. A
-// paragraph that is not noted is looked for in the book.
+// The line with this name, h being its hash, in the i-th open paragraph from outside, outside itself for 0.
+fn line_in(
+    book: &[u8],
+    table: &[u32],
+    lines: usize,
+    w: &[Cell],
+    word: &[u8],
+    h: usize,
+    i: usize,
+) -> Option<usize>
+    ensures { LineInLevel book.now table.now lines w.now word.now h i result }
+{
+    find(book, table, lines, w, word, h, number_at(w, i))
+}
+
+// The paragraph with this name, h being its hash, that was opened in the i-th open paragraph from outside (paragraph_in). A paragraph
+// that is not noted is looked for in the book.
 fn paragraph_in(
     book: &[u8],
     kinds: &[u8; 256],
@@ -25,72 +43,74 @@ fn paragraph_in(
     word: &[u8],
     h: usize,
     i: usize,
-) -> usize
-    ensures { FoundIn paragraph_in kinds.now book.now w.now word.now h i result }
+) -> Option<usize>
+    ensures { Gives (FoundIn paragraph_in kinds.now book.now w.now word.now h i) result }
 {
     let q = number_at(w, i);
     let count = cell_at(w, COUNT);
     if count == q {
-        return 0;
+        return None;
     }
-    let n = noted_in(book, w, word, h, q);
-    if n != 0 {
-        return n;
+    match noted_in(book, w, word, h, q) {
+        Some(n) => Some(n),
+        None => {
+            if count <= capacity(w.len()) {
+                return None;
+            }
+            walk(book, kinds, from_at(w, i), cell_at(w, UPTO), q, word)
+        }
     }
-    if count <= capacity(w.len()) {
-        return 0;
-    }
-    walk(book, kinds, from_at(w, i), cell_at(w, UPTO), q, word)
 }
 
 // The same among closed ones (closed_in).
-fn closed_in(book: &[u8], kinds: &[u8; 256], w: &[Cell], word: &[u8], h: usize, i: usize) -> usize
-    ensures { FoundIn closed_in kinds.now book.now w.now word.now h i result }
+fn closed_in(
+    book: &[u8],
+    kinds: &[u8; 256],
+    w: &[Cell],
+    word: &[u8],
+    h: usize,
+    i: usize,
+) -> Option<usize>
+    ensures { Gives (FoundIn closed_in kinds.now book.now w.now word.now h i) result }
 {
-    let n = paragraph_in(book, kinds, w, word, h, i);
-    if n == 0 {
-        return 0;
-    }
+    let n = paragraph_in(book, kinds, w, word, h, i)?;
     if is_open(w, n) {
-        return 0;
+        return None;
     }
-    n
+    Some(n)
 }
 
-// The closed paragraph that a name means, sought outward; 0: none.
-fn closed(book: &[u8], kinds: &[u8; 256], w: &[Cell], word: &[u8]) -> usize
-    ensures { ClosedFound kinds.now book.now w.now word.now result }
+// The first that is found in an open paragraph, from the innermost outward, or outside (seek).
+fn seek<F: Fn(usize) -> Option<usize>>(w: &[Cell], found_in: F) -> Option<usize>
+    requires { F.IsAlwaysCallable found_in }
+    ensures { Outward (F.post found_in) (get_or w.now (depth_cell (length w.now)) 0 + 1) result }
+{
+    for i in (0..cell_at(w, DEPTH) + 1).rev() {
+        if let Some(n) = found_in(i) {
+            return Some(n);
+        }
+    }
+    None
+}
+
+// The closed paragraph that a name means, sought outward.
+fn closed(book: &[u8], kinds: &[u8; 256], w: &[Cell], word: &[u8]) -> Option<usize>
+    ensures { Gives (ClosedFound kinds.now book.now w.now word.now) result }
 {
     let h = hash(word);
-    let mut i = cell_at(w, DEPTH);
-    while i > 0 {
-        let n = closed_in(book, kinds, w, word, h, i);
-        if n != 0 {
-            return n;
-        }
-        i = i - 1;
-    }
-    closed_in(book, kinds, w, word, h, 0)
+    seek(w, |i| closed_in(book, kinds, w, word, h, i))
 }
 
-// The line that a plain name means, sought outward; 0: none.
-fn plain(book: &[u8], table: &[u32], lines: usize, w: &[Cell], word: &[u8]) -> usize
-    ensures { PlainFound book.now table.now lines w.now word.now result }
+// The line that a plain name means, sought outward.
+fn plain(book: &[u8], table: &[u32], lines: usize, w: &[Cell], word: &[u8]) -> Option<usize>
+    ensures { Gives (PlainFound book.now table.now lines w.now word.now) result }
 {
     let h = hash(word);
-    let mut i = cell_at(w, DEPTH);
-    while i > 0 {
-        let q = number_at(w, i);
-        let v = find(book, table, lines, w, word, h, q);
-        if v != 0 {
-            return v;
-        }
-        i = i - 1;
-    }
-    find(book, table, lines, w, word, h, 0)
+    seek(w, |i| line_in(book, table, lines, w, word, h, i))
 }
 
-// The line that a used name means (numberOf): a plain one where the title is empty; 0: none.
+// The line that a used name means (numberOf): a plain one where the title is empty.
+// Kept: an empty title for none, since no name is empty; `Some` of an empty one would be a third case.
 pub fn find_used(
     book: &[u8],
     kinds: &[u8; 256],
@@ -99,16 +119,13 @@ pub fn find_used(
     w: &[Cell],
     title: &[u8],
     word: &[u8],
-) -> usize
-    ensures { UsedFound kinds.now book.now table.now lines w.now title.now word.now result }
+) -> Option<usize>
+    ensures { Gives (UsedFound kinds.now book.now table.now lines w.now title.now word.now) result }
 {
-    if title.len() == 0 {
+    if title.is_empty() {
         return plain(book, table, lines, w, word);
     }
-    let n = closed(book, kinds, w, title);
-    if n == 0 {
-        return 0;
-    }
+    let n = closed(book, kinds, w, title)?;
     find(book, table, lines, w, word, hash(word), n)
 }
 
@@ -122,13 +139,11 @@ pub fn find_plain_first(
     w: &[Cell],
     title: &[u8],
     word: &[u8],
-) -> usize
-    ensures { UsedFound kinds.now book.now table.now lines w.now title.now word.now result }
+) -> Option<usize>
+    ensures { Gives (UsedFound kinds.now book.now table.now lines w.now title.now word.now) result }
 {
-    if title.len() == 0 {
-        if cell_at(w, DEPTH) == 0 {
-            return find(book, table, lines, w, word, hash(word), 0);
-        }
+    if title.is_empty() && cell_at(w, DEPTH) == 0 {
+        return find(book, table, lines, w, word, hash(word), 0);
     }
     find_used(book, kinds, table, lines, w, title, word)
 }
@@ -146,9 +161,6 @@ pub fn is_taken(
 {
     let h = hash(word);
     let i = cell_at(w, DEPTH);
-    let q = number_at(w, i);
-    if find(book, table, lines, w, word, h, q) != 0 {
-        return true;
-    }
-    paragraph_in(book, kinds, w, word, h, i) != 0
+    line_in(book, table, lines, w, word, h, i).is_some()
+        || paragraph_in(book, kinds, w, word, h, i).is_some()
 }
