@@ -4,5 +4,5 @@
 mod admission;
 mod lines;
 
-pub use admission::{Admission, admit};
+pub use admission::admit;
 pub use lines::check_linked;

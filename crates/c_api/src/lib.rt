@@ -14,10 +14,10 @@ ghost use Rattle.names.specs.Known.{IdentifierPlaced};
 ghost use Rattle.pairs.specs.Sheet.{ComparesSheet};
 
 use constants::{Cell, NarrowCell};
-use outcomes::AnswerNumbers;
+use outcomes::{AnswerNumbers, Numbers};
 use pairs::Pair;
 
-// Document 01's numbers of an outcome: code, line, steps.
+// The published numbers of an outcome: code, line, steps.
 #[repr(C)]
 #[derive(Clone, Copy)]
 pub struct Aut68Outcome {
@@ -40,12 +40,11 @@ pub extern "C" fn aut68_check(
     ensures { Checks aut68 book.now budget limit (stores table.old terms.old work.old index.old) result.code result.line result.steps (stores table.new terms.new work.new index.new) }
 {
     let o = verifier::check_book(book, budget, limit, table, terms, work, index);
-    let n = verifier::numbers_of(o);
-    let steps = n.steps as u64;
+    let n = Numbers::from(o);
     Aut68Outcome {
         code: n.code,
         line: n.line,
-        steps: steps,
+        steps: u64::from(n.steps),
     }
 }
 
@@ -65,7 +64,7 @@ pub extern "C" fn aut68_rests_on(
     ensures { TellsRests aut68 book.now budget limit (stores table.old terms.old work.old index.old) line answer.old result.code result.line result.steps result.length (stores table.new terms.new work.new index.new) answer.new }
 {
     let a = verifier::rests_on(book, budget, limit, table, terms, work, index, line, answer);
-    verifier::answer_numbers(a)
+    AnswerNumbers::from(a)
 }
 
 // Prints a book: its pages, in the first bytes of the page store.
@@ -83,7 +82,7 @@ pub extern "C" fn aut68_pages(
     ensures { PrintsPages aut68 book.now budget limit (stores table.old terms.old work.old index.old) page.old result.code result.line result.steps result.length (stores table.new terms.new work.new index.new) page.new }
 {
     let a = verifier::print_pages(book, budget, limit, table, terms, work, index, page);
-    verifier::answer_numbers(a)
+    AnswerNumbers::from(a)
 }
 
 // Compares two strings of cells over a book, with a budget of its own.
@@ -105,7 +104,7 @@ pub extern "C" fn aut68_compare(
     let a = verifier::compare_strings(
         book, budget, limit, table, terms, work, index, left, right, own,
     );
-    verifier::answer_numbers(a)
+    AnswerNumbers::from(a)
 }
 
 // The same by the second comparison, parts first.
@@ -127,7 +126,7 @@ pub extern "C" fn aut68_compare_parts_first(
     let a = verifier::compare_strings_parts_first(
         book, budget, limit, table, terms, work, index, left, right, own,
     );
-    verifier::answer_numbers(a)
+    AnswerNumbers::from(a)
 }
 
 // Compares a list of pairs of strings over a book, each on its own budget, into the places of the sheet.
@@ -146,9 +145,10 @@ pub extern "C" fn aut68_compare_sheet(
 ) -> AnswerNumbers
     ensures { ComparesSheet book.now budget limit (stores table.old terms.old work.old index.old) cells.now pairs.now sheet.old result.code result.line result.steps result.length (stores table.new terms.new work.new index.new) sheet.new }
 {
-    verifier::compare_sheet(
+    let a = verifier::compare_sheet(
         book, budget, limit, table, terms, work, index, cells, pairs, sheet,
-    )
+    );
+    AnswerNumbers::from(a)
 }
 
 // Puts the cells of a shelf into cells of 32 bits, the first of the target.
@@ -157,7 +157,7 @@ pub extern "C" fn aut68_widen(source: &[NarrowCell], target: &mut [Cell]) -> Ans
     ensures { Converts cell_values source.now target.old result.code result.line result.steps result.length target.new }
 {
     let a = verifier::widen(source, target);
-    verifier::answer_numbers(a)
+    AnswerNumbers::from(a)
 }
 
 // Puts the cells of a shelf into cells of 16 bits, the first of the target.
@@ -166,7 +166,7 @@ pub extern "C" fn aut68_narrow(source: &[Cell], target: &mut [NarrowCell]) -> An
     ensures { Converts narrow_values source.now target.old result.code result.line result.steps result.length target.new }
 {
     let a = verifier::narrow(source, target);
-    verifier::answer_numbers(a)
+    AnswerNumbers::from(a)
 }
 
 // Where an identifier stands in the book: its first byte and its length; length 0 where there is none.

@@ -10,7 +10,7 @@ use books::admit;
 use constants::{Cell, WORK_UNITS};
 use copies::clear;
 use judging::judge;
-use outcomes::{Answer, pass_on};
+use outcomes::Answer;
 
 // The first comparison of two strings of cells, or the second, over the lines of a book.
 fn compare_over(
@@ -28,13 +28,10 @@ fn compare_over(
 ) -> Answer
     ensures { ComparesStrings second book.now budget limit (stores table.old terms.old work.old index.old) left.now right.now own (code_of_answer result) (line_of_answer result) (steps_of_answer result) (length_of_answer result) (stores table.new terms.new work.new index.new) }
 {
-    let a = admit(book, budget, limit, table, terms, work, index);
-    if a.code != 0 {
-        return pass_on(a.code, a.line, a.steps);
-    }
+    let a = admit(book, budget, limit, table, terms, work, index)?;
     let most = limit as usize;
     let n = WORK_UNITS * most;
-    let lines = a.line as usize;
+    let lines = a.lines as usize;
     let r = judge(
         table,
         terms,

@@ -10,7 +10,7 @@ use cells::level_at;
 use comparison::{Compared, compare, compare_parts_first};
 use constants::{Cause, Cell, MISMATCH, NESTING, TOO_LARGE};
 use copies::load;
-use outcomes::{Answer, spent};
+use outcomes::{Answer, Given, Unanswered, spent};
 use strings::is_whole;
 
 // The first comparison of the expressions at a and b of w, or the second.
@@ -37,22 +37,19 @@ fn answer_of(code: u32, steps: u32) -> Answer
     ensures { Named code (code_of_answer result) × (line_of_answer result ≡ 0) × (steps_of_answer result ≡ steps) × (length_of_answer result ≡ 0) }
 {
     match code {
-        0 => Answer::Given {
-            steps: steps,
-            length: 0,
-        },
-        MISMATCH => Answer::Declined {
+        0 => Ok(Given { steps, length: 0 }),
+        MISMATCH => Err(Unanswered::Declined {
             cause: Cause::Different,
-            steps: steps,
-        },
-        TOO_LARGE => Answer::Declined {
+            steps,
+        }),
+        TOO_LARGE => Err(Unanswered::Declined {
             cause: Cause::TooLarge,
-            steps: steps,
-        },
-        _ => Answer::Declined {
+            steps,
+        }),
+        _ => Err(Unanswered::Declined {
             cause: Cause::OutOfBudget,
-            steps: steps,
-        },
+            steps,
+        }),
     }
 }
 
@@ -73,16 +70,16 @@ pub fn judge(
     if is_whole(table, lines, left, w) {
         if is_whole(table, lines, right, w) {
             if left.len() > limit {
-                return Answer::Declined {
+                return Err(Unanswered::Declined {
                     cause: Cause::TooLarge,
                     steps: 0,
-                };
+                });
             }
             if right.len() > limit {
-                return Answer::Declined {
+                return Err(Unanswered::Declined {
                     cause: Cause::TooLarge,
                     steps: 0,
-                };
+                });
             }
             let a = level_at(limit, 0);
             let b = level_at(limit, 1);
@@ -92,8 +89,8 @@ pub fn judge(
             return answer_of(c.code, spent(budget, c.budget));
         }
     }
-    Answer::Declined {
+    Err(Unanswered::Declined {
         cause: Cause::NotWhole,
         steps: 0,
-    }
+    })
 }

@@ -6,9 +6,9 @@ ghost use Rattle.std.specs.Prelude.{◌*◌, ◌≤◌, ◌<◌, length};
 ghost use Rattle.aut68.specs.Sizes.{work_units};
 ghost use Rattle.pairs.specs.Posts.{NotWhole, PairPost, PairsPost};
 
-use constants::{Cell, NOT_WHOLE, WORK_UNITS};
+use constants::{Cause, Cell, WORK_UNITS};
 use judging::judge;
-use outcomes::{AnswerNumbers, answer_numbers};
+use outcomes::{AnswerNumbers, Unanswered};
 
 // Two strings in one lent slice of cells, by the start and the length of each, and the budget for their comparison; C callers lend them so.
 #[repr(C)]
@@ -57,19 +57,17 @@ pub fn compare_pair(
         p.budget,
         false,
     );
-    answer_numbers(a)
+    AnswerNumbers::from(a)
 }
 
 // The outcome of a pair with a string that reaches past the end of the cells.
 fn not_whole() -> AnswerNumbers
     ensures { NotWhole result }
 {
-    AnswerNumbers {
-        code: NOT_WHOLE,
-        line: 0,
+    AnswerNumbers::from(Err(Unanswered::Declined {
+        cause: Cause::NotWhole,
         steps: 0,
-        length: 0,
-    }
+    }))
 }
 
 // The outcomes of the first n pairs, in their order, into the first n places of the sheet.
@@ -87,11 +85,7 @@ pub fn compare_pairs(
     requires { (0 < n → work_units * limit ≤ length work.old) × (n ≤ length pairs.now) × (n ≤ length sheet.old) }
     ensures { PairsPost table.now terms.now work.old limit lines cells.now pairs.now sheet.old n work.new sheet.new }
 {
-    let mut i = 0;
-    while i < n {
-        let p = pairs[i];
-        let r = compare_pair(table, terms, work, limit, lines, cells, p);
-        sheet[i] = r;
-        i += 1;
+    for i in 0..n {
+        sheet[i] = compare_pair(table, terms, work, limit, lines, cells, pairs[i]);
     }
 }

@@ -8,7 +8,7 @@ ghost use Rattle.outcomes.specs.Answers.{code_of_answer, line_of_answer, steps_o
 
 use books::admit;
 use constants::{Cause, Cell, PAGE_ROW};
-use outcomes::{Answer, pass_on};
+use outcomes::{Answer, Given, Unanswered};
 use page_rows::{count_rows, put_pages};
 
 // Prints a book, in the first bytes of the page store. The book is checked first, as `check_book` does it, and a refusal is passed on.
@@ -25,21 +25,18 @@ pub fn print_pages(
 ) -> Answer
     ensures { PrintsPages aut68 book.now budget limit (stores table.old terms.old work.old index.old) page.old (code_of_answer result) (line_of_answer result) (steps_of_answer result) (length_of_answer result) (stores table.new terms.new work.new index.new) page.new }
 {
-    let a = admit(book, budget, limit, table, terms, work, index);
-    if a.code != 0 {
-        return pass_on(a.code, a.line, a.steps);
-    }
+    admit(book, budget, limit, table, terms, work, index)?;
     let rows = count_rows(book);
     if rows > page.len() / PAGE_ROW {
-        return Answer::Declined {
+        return Err(Unanswered::Declined {
             cause: Cause::StoreTooSmall,
             steps: 0,
-        };
+        });
     }
     put_pages(book, page);
     let bytes = PAGE_ROW * rows;
-    Answer::Given {
+    Ok(Given {
         steps: 0,
         length: bytes as u32,
-    }
+    })
 }

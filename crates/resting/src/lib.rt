@@ -8,7 +8,7 @@ ghost use Rattle.outcomes.specs.Answers.{code_of_answer, line_of_answer, steps_o
 
 use books::admit;
 use constants::{Cause, Cell, WORK_UNITS};
-use outcomes::{Answer, pass_on};
+use outcomes::{Answer, Given, Unanswered};
 use reaching::put_beneath;
 
 // Tells what a line of a book rests on: the `PN` lines reached from it by following names, itself included, ascending, each once, in the
@@ -27,32 +27,29 @@ pub fn rests_on(
 ) -> Answer
     ensures { TellsRests aut68 book.now budget limit (stores table.old terms.old work.old index.old) line answer.old (code_of_answer result) (line_of_answer result) (steps_of_answer result) (length_of_answer result) (stores table.new terms.new work.new index.new) answer.new }
 {
-    let a = admit(book, budget, limit, table, terms, work, index);
-    if a.code != 0 {
-        return pass_on(a.code, a.line, a.steps);
-    }
+    let a = admit(book, budget, limit, table, terms, work, index)?;
     if line == 0 {
-        return Answer::Declined {
+        return Err(Unanswered::Declined {
             cause: Cause::NoSuchLine,
             steps: 0,
-        };
+        });
     }
-    if line > a.line {
-        return Answer::Declined {
+    if line > a.lines {
+        return Err(Unanswered::Declined {
             cause: Cause::NoSuchLine,
             steps: 0,
-        };
+        });
     }
     let n = WORK_UNITS * (limit as usize);
     let count = put_beneath(table, terms, line as usize, &mut work[..n], answer);
     if count > answer.len() {
-        return Answer::Declined {
+        return Err(Unanswered::Declined {
             cause: Cause::AnswerTooLong,
             steps: 0,
-        };
+        });
     }
-    Answer::Given {
+    Ok(Given {
         steps: 0,
         length: count as u32,
-    }
+    })
 }

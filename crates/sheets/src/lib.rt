@@ -4,95 +4,22 @@
 
 ghost use Rattle.aut68.specs.Stores.{stores};
 ghost use Rattle.pairs.specs.Sheet.{ComparesSheet, counted};
-ghost use Rattle.sheets.specs.Posts.{Opens, Closes};
+ghost use Rattle.outcomes.specs.Answers.{code_of_answer, line_of_answer, steps_of_answer, length_of_answer};
 ghost use Rattle.std.specs.Prelude.{◌≡◌};
 
 use books::admit;
-use constants::{Cell, STORE_TOO_SMALL, WORK_UNITS};
+use constants::{Cause, Cell, WORK_UNITS};
 use copies::clear;
-use outcomes::AnswerNumbers;
+use outcomes::{Answer, AnswerNumbers, Given, Unanswered};
 use pairs::{Pair, compare_pairs};
-
-// How far a call is when its book is checked: the numbers that it will end with; the lines of the book, and how many pairs are to be
-// compared over them.
-#[derive(Clone, Copy)]
-pub struct Opened {
-    pub code: u32,
-    pub line: u32,
-    pub steps: u32,
-    pub length: u32,
-    pub lines: u32,
-    pub pairs: usize,
-}
 
 // A number of pairs, as far as 32 bits go.
 fn count(pairs: usize) -> u32
     ensures { result ≡ counted pairs }
 {
-    if pairs <= 4294967295 {
-        return pairs as u32;
-    }
-    4294967295
-}
-
-// Checks the book, then the room on the sheet.
-fn open_sheet(
-    book: &[u8],
-    budget: u32,
-    limit: u32,
-    table: &mut [u32],
-    terms: &mut [Cell],
-    work: &mut [Cell],
-    index: &mut [u32],
-    pairs: usize,
-    places: usize,
-) -> Opened
-    ensures { Opens book.now budget limit (stores table.old terms.old work.old index.old) pairs places result (stores table.new terms.new work.new index.new) }
-{
-    let a = admit(book, budget, limit, table, terms, work, index);
-    if a.code != 0 {
-        return Opened {
-            code: a.code,
-            line: a.line,
-            steps: a.steps,
-            length: 0,
-            lines: 0,
-            pairs: 0,
-        };
-    }
-    if places < pairs {
-        return Opened {
-            code: STORE_TOO_SMALL,
-            line: 0,
-            steps: 0,
-            length: 0,
-            lines: 0,
-            pairs: 0, // and not those that fit
-        };
-    }
-    let length = count(pairs);
-    Opened {
-        code: 0,
-        line: 0,
-        steps: 0,
-        length: length,
-        lines: a.line,
-        pairs: pairs,
-    }
-}
-
-// Clears the working store behind comparisons, and gives the numbers of the call.
-fn close_sheet(work: &mut [Cell], limit: u32, o: Opened) -> AnswerNumbers
-    ensures { Closes work.old limit o result work.new }
-{
-    if o.pairs > 0 {
-        clear(work, WORK_UNITS * limit as usize);
-    }
-    AnswerNumbers {
-        code: o.code,
-        line: o.line,
-        steps: o.steps,
-        length: o.length,
+    match u32::try_from(pairs) {
+        Ok(n) => n,
+        Err(_) => u32::MAX,
     }
 }
 
@@ -110,22 +37,30 @@ pub fn compare_sheet(
     cells: &[Cell],
     pairs: &[Pair],
     sheet: &mut [AnswerNumbers],
-) -> AnswerNumbers
-    ensures { ComparesSheet book.now budget limit (stores table.old terms.old work.old index.old) cells.now pairs.now sheet.old result.code result.line result.steps result.length (stores table.new terms.new work.new index.new) sheet.new }
+) -> Answer
+    ensures { ComparesSheet book.now budget limit (stores table.old terms.old work.old index.old) cells.now pairs.now sheet.old (code_of_answer result) (line_of_answer result) (steps_of_answer result) (length_of_answer result) (stores table.new terms.new work.new index.new) sheet.new }
 {
-    let o = open_sheet(
-        book,
-        budget,
-        limit,
+    let a = admit(book, budget, limit, table, terms, work, index)?;
+    if sheet.len() < pairs.len() {
+        return Err(Unanswered::Declined {
+            cause: Cause::StoreTooSmall,
+            steps: 0,
+        });
+    }
+    compare_pairs(
         table,
         terms,
         work,
-        index,
+        limit,
+        a.lines,
+        cells,
+        pairs,
+        sheet,
         pairs.len(),
-        sheet.len(),
     );
-    compare_pairs(
-        table, terms, work, limit, o.lines, cells, pairs, sheet, o.pairs,
-    );
-    close_sheet(work, limit, o)
+    clear(work, WORK_UNITS * limit as usize);
+    Ok(Given {
+        steps: 0,
+        length: count(pairs.len()),
+    })
 }

@@ -6,11 +6,12 @@ ghost use Rattle.outcomes.specs.Outcomes.{code_of_outcome, line_of_outcome, step
 
 use books::admit;
 use constants::Cell;
-use outcomes::{Outcome, outcome_of};
+use outcomes::Outcome;
 
-// Checks a book (run). See document 01 for what each outcome means. Limit out of range, working store too small: every cell is as
+// Checks a book (run). Limit out of range, working store too small: every cell is as
 // it was. Else: the rows, the term cells and the index entries of the lines before the refused one are written, the first
 // WORK_UNITS × limit working cells are zero, and every other cell is as it was.
+#[tactic(auto, using(theorems::proofs::Checks::checks))]
 pub fn check_book(
     book: &[u8],
     budget: u32,
@@ -22,6 +23,5 @@ pub fn check_book(
 ) -> Outcome
     ensures { Checks aut68 book.now budget limit (stores table.old terms.old work.old index.old) (code_of_outcome result) (line_of_outcome result) (steps_of_outcome result) (stores table.new terms.new work.new index.new) }
 {
-    let a = admit(book, budget, limit, table, terms, work, index);
-    outcome_of(a.code, a.line, a.steps)
+    admit(book, budget, limit, table, terms, work, index)
 }

@@ -10,10 +10,10 @@
 mod book;
 
 pub use book::check_book;
-pub use constants::{Cause, Reason};
+pub use constants::{Cause, Reason, UnknownCode};
 pub use desk::{compare_strings, compare_strings_parts_first};
 pub use names::{Part, identifier, identifier_place};
-pub use outcomes::{Answer, AnswerNumbers, Numbers, Outcome, answer_numbers, numbers_of};
+pub use outcomes::{Accepted, Answer, AnswerNumbers, Given, Numbers, Outcome, Refused, Unanswered};
 pub use pairs::Pair;
 pub use printing::print_pages;
 pub use resting::rests_on;

@@ -24,4 +24,4 @@ returns c =
     c.judge-a.ensures
     c.requires
     c.judge-a.auto.w
-    c.answer_numbers.ensures
+    c.from.ensures

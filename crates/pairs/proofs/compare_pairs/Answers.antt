@@ -12,5 +12,5 @@ loop-i-init c = (omega arith, unmarked)
 
 pub loop-i-preserved : goal.loop-i-preserved
 loop-i-preserved c =
-    let e = c.compare_pair-r.ensures in
-    (omega arith, marks c.loop-i.i c.loop-i.work c.compare_pair-r.new.work c.loop-i.sheet no_pair c.compare_pair-r.result (omega arith) (omega arith) c.loop-i.invariant.1 e)
+    let e = c.compare_pair.ensures in
+    (omega arith, marks c.loop-i.i c.loop-i.work c.compare_pair.new.work c.loop-i.sheet no_pair c.compare_pair.result (omega arith) (omega arith) c.loop-i.invariant.1 e)

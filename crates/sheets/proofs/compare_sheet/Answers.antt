@@ -1,18 +1,25 @@
 -- `compare_sheet`: the book admitted, the pairs compared over its lines, the working store cleared (Calling).
-use Rattle.aut68.specs.Stores.{stores}
-use Rattle.sheets.proofs.Calling.{opened_fits, sheet_compared}
+use mathlib.Core.Path.{refl}
+use native.Mathlib.Omega.{arith}
+use Rattle.aut68.specs.Language.{aut68}
+use Rattle.aut68.specs.Procedure.Calls.{decline_code}
+use Rattle.lookup.specs.Answers.{code_nonzero}
+use Rattle.outcomes.specs.AnswerLaws.{passed_on}
+use Rattle.theorems.proofs.Admission.{work_fits}
+use Rattle.sheets.proofs.Calling.{sheet_refused, sheet_declined, sheet_compared}
 use Rattle.sheets.proofs.compare_sheet.Goals as goal
 
+pub returns-in_err-a : goal.returns-in_err-a
+returns-in_err-a c =
+    rw (passed_on c.from_residual.result c.from_residual.ensures.1) (sheet_refused _ _ _ _ c.in_err-a.ensures (code_nonzero _) refl refl refl refl refl)
+
+pub returns-then-sheet-pairs : goal.returns-then-sheet-pairs
+unfolding decline_code
+returns-then-sheet-pairs c = sheet_declined _ _ _ _ c.in_ok-a.ensures refl c.if-sheet-pairs.true refl refl refl refl refl
+
 pub compare_pairs-requires : goal.compare_pairs-requires
-compare_pairs-requires c =
-    let a = c.args in
-    let n = c.open_sheet-o.new in
-    opened_fits a.book.now a.budget a.limit (stores a.table.now a.terms.now a.work.now a.index.now) _ _ c.open_sheet-o.result n.table n.terms n.work n.index c.open_sheet-o.ensures
+compare_pairs-requires c = (λ _. work_fits aut68 _ _ _ _ c.in_ok-a.ensures refl, omega arith, c.if-sheet-pairs.false)
 
 pub returns : goal.returns
 returns c =
-    let a = c.args in
-    let n = c.open_sheet-o.new in
-    sheet_compared a.book.now a.budget a.limit (stores a.table.now a.terms.now a.work.now a.index.now) a.cells.now a.pairs.now a.sheet.now
-    c.open_sheet-o.result n.table n.terms n.work n.index c.compare_pairs.new.work c.close_sheet.new.work c.compare_pairs.new.sheet c.close_sheet.result
-    c.open_sheet-o.ensures c.compare_pairs.ensures c.compare_pairs.auto.work c.close_sheet.ensures
+    sheet_compared _ _ _ _ c.in_ok-a.ensures refl _ _ _ c.if-sheet-pairs.false c.compare_pairs.ensures c.compare_pairs.auto.work c.clear.ensures c.count.ensures

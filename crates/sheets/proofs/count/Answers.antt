@@ -1,6 +1,7 @@
 -- `count`: the two cases of `counted`.
-use mathlib.Core.Path.{◌≡◌, refl}
+use mathlib.Core.Path.{◌≡◌, refl, ◌∙◌}
 use Prim.Native.Nat.{ℕ, ◌≤◌, ◌<◌}
+use native.Mathlib.Omega.{arith}
 use borrow.Author.Tests.{le-leb, lt-leb}
 use Rattle.pairs.specs.Sheet.{counted}
 use Rattle.sheets.proofs.count.Goals as goal
@@ -13,8 +14,8 @@ counted-most : (n : ℕ) → 4294967295 < n → 4294967295 ≡ counted n
 unfolding counted
 counted-most n h = rw (lt-leb n 4294967295 h, counted) refl
 
-pub returns-then-pairs-le4294967295 : goal.returns-then-pairs-le4294967295
-returns-then-pairs-le4294967295 c = counted-all _ c.if-pairs-le4294967295.true
+pub returns-in-Ok : goal.returns-in-Ok
+returns-in-Ok c = c.in-Ok.ensures.1 ∙ counted-all _ (omega (arith, c.in-Ok.ensures.0))
 
-pub returns : goal.returns
-returns c = counted-most _ c.if-pairs-le4294967295.false
+pub returns-in-Err : goal.returns-in-Err
+returns-in-Err c = counted-most _ (omega (arith, c.in-Err.ensures))
