@@ -13,12 +13,10 @@ const CELL_MARKS: usize = 32;
 pub fn is_marked(w: &[Cell], v: usize) -> bool
     ensures { result ≡ marked w.now v }
 {
-    let at = v / CELL_MARKS;
-    if at >= w.len() {
-        return false;
+    match w.get(v / CELL_MARKS) {
+        Some(&cell) => cell >> (v % CELL_MARKS) & 1 == 1,
+        None => false,
     }
-    let bit = v % CELL_MARKS;
-    w[at] >> bit & 1 == 1
 }
 
 // Marks the number v, if the store has a bit for it.
@@ -26,9 +24,7 @@ pub fn mark(w: &mut [Cell], v: usize)
     ensures { MarkPost w.old w.new v }
 {
     let at = v / CELL_MARKS;
-    if at >= w.len() {
-        return;
+    if at < w.len() {
+        w[at] |= 1 << (v % CELL_MARKS);
     }
-    let bit = v % CELL_MARKS;
-    w[at] = w[at] | 1 << bit;
 }
