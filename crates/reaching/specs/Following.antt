@@ -52,7 +52,7 @@ module _ (tb ts w : List ℕ) (v : ℕ) where
   visited_unmarked e = rw (e, visited)
 
   module _ {w' : List ℕ} {k : ℕ} (e : marked w v ≡ true) (a : AddsMarks (row_names tb ts v) w w') (f : k ≡ row_cell tb v at_kind) where
-    visit_marked : {count : ℕ} → count ≡ one_if (eqb k 1) → VisitPost tb ts v w count w'
+    pub visit_marked : {count : ℕ} → count ≡ one_if (eqb k 1) → VisitPost tb ts v w count w'
     visit_marked c =
         record { adds = subst (λ xs. AddsMarks xs w w') (sym (visited_marked e)) a; count_is = c ∙ ap one_if (sym (marked_kind tb w v e f)) }
 

@@ -5,13 +5,15 @@ ghost use Rattle.aut68.specs.Index.{mentioned_as_indicator};
 ghost use Rattle.cells.specs.Numbers.{numbers_in};
 ghost use Rattle.reaching.specs.Adding.{AddsMarks};
 ghost use Rattle.reaching.specs.RowNames.{row_names};
-ghost use Rattle.reaching.specs.Primitives.{is_marked_primitive};
+ghost use Rattle.reaching.specs.Primitives.{is_marked_primitive, one_if};
 ghost use Rattle.reaching.specs.Posts.{VisitPost, ReachedPost, MarkedPost, BeneathPost};
 
 use cells::{field, names_line};
 use constants::{CATEGORY_END, CELL_FACTOR, Cell, INDICATOR, KIND, MIDDLE_START};
-use copies::clear;
 use marks::{is_marked, mark};
+
+// The kind of a `PN` line.
+const PRIMITIVE: usize = 1;
 
 // Marks the line that the cell x names, if it names one.
 fn mark_cell(x: Cell, w: &mut [Cell])
@@ -26,13 +28,8 @@ fn mark_cell(x: Cell, w: &mut [Cell])
 fn mark_cells(terms: &[Cell], from: usize, to: usize, w: &mut [Cell])
     ensures { AddsMarks (numbers_in (slice from to terms.now)) w.old w.new }
 {
-    let mut i = from;
-    while i < to {
-        if i >= terms.len() {
-            return;
-        }
+    for i in from..to.min(terms.len()) {
         mark_cell(terms[i], w);
-        i = i + 1;
     }
 }
 
@@ -59,23 +56,18 @@ fn mark_names(table: &[u32], terms: &[Cell], v: usize, w: &mut [Cell])
 fn is_marked_primitive(table: &[u32], w: &[Cell], v: usize) -> bool
     ensures { result ≡ is_marked_primitive table.now w.now v }
 {
-    if is_marked(w, v) {
-        return field(table, v, KIND) == 1;
-    }
-    false
+    is_marked(w, v) && field(table, v, KIND) == PRIMITIVE
 }
 
-// Marks the lines that line v names, if it is marked itself; 1 if it is a marked `PN` line, else 0.
-fn visit(table: &[u32], terms: &[Cell], v: usize, w: &mut [Cell]) -> usize
-    ensures { VisitPost table.now terms.now v w.old result w.new }
+// Marks the lines that line v names, if it is marked itself. Is it a marked `PN` line?
+fn visit(table: &[u32], terms: &[Cell], v: usize, w: &mut [Cell]) -> bool
+    ensures { VisitPost table.now terms.now v w.old (one_if result) w.new }
 {
-    if is_marked(w, v) {
-        mark_names(table, terms, v, w);
-        if field(table, v, KIND) == 1 {
-            return 1;
-        }
+    if !is_marked(w, v) {
+        return false;
     }
-    0
+    mark_names(table, terms, v, w);
+    field(table, v, KIND) == PRIMITIVE
 }
 
 // Marks the lines reached from `line`, in a store without marks; how many of them are `PN` lines.
@@ -84,10 +76,10 @@ fn mark_reached(table: &[u32], terms: &[Cell], line: usize, w: &mut [Cell]) -> u
 {
     mark(w, line);
     let mut count = 0;
-    let mut v = line;
-    while v > 0 {
-        count = count + visit(table, terms, v, w);
-        v = v - 1;
+    for v in (1..=line).rev() {
+        if visit(table, terms, v, w) {
+            count += 1;
+        }
     }
     count
 }
@@ -98,14 +90,10 @@ fn put_marked(table: &[u32], line: usize, w: &[Cell], answer: &mut [u32])
     ensures { MarkedPost table.now line w.now answer.old answer.new }
 {
     let mut n = 0;
-    let mut v = 0;
-    while v < line {
-        v = v + 1;
-        if is_marked_primitive(table, w, v) {
-            if n < answer.len() {
-                answer[n] = v as u32;
-                n = n + 1;
-            }
+    for v in 1..=line {
+        if is_marked_primitive(table, w, v) && n < answer.len() {
+            answer[n] = v as u32;
+            n += 1;
         }
     }
 }
@@ -126,7 +114,6 @@ pub fn put_beneath(
     if count <= answer.len() {
         put_marked(table, line, w, answer);
     }
-    let n = w.len();
-    clear(w, n);
+    w.fill(0);
     count
 }

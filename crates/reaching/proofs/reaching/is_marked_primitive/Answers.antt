@@ -6,5 +6,5 @@ use Rattle.reaching.proofs.reaching.is_marked_primitive.Goals as goal
 pub returns-then-is_marked : goal.returns-then-is_marked
 returns-then-is_marked c = sym (marked_kind _ _ _ (sym c.is_marked.ensures ∙ c.if-is_marked.true) c.field.ensures.0)
 
-pub returns : goal.returns
-returns c = sym (unmarked_primitive _ _ _ (sym c.is_marked.ensures ∙ c.if-is_marked.false))
+pub returns-else-is_marked : goal.returns-else-is_marked
+returns-else-is_marked c = c.if-is_marked.false ∙ sym (unmarked_primitive _ _ _ (sym c.is_marked.ensures ∙ c.if-is_marked.false))

@@ -1,31 +1,22 @@
 use mathlib.Core.Path.{refl}
-use mathlib.Core.Logic.{inl, inr}
+use mathlib.Core.Logic.{◌⊎◌, inl, inr}
+use Prim.Native.Nat.{ℕ, min, ◌≤◌, ◌<◌}
+use lib.ListN.{length}
+use Rattle.std.proofs.Math.Decide.{dec_lt}
 use native.Mathlib.Omega.{arith}
 use Rattle.reaching.specs.Cellwise.{adds_end, adds_turn}
 use Rattle.reaching.proofs.reaching.mark_cells.Goals as goal
 
+-- the lesser of two is reached
+ends : (m n i : ℕ) → min m n ≤ i → (m ≤ i) ⊎ (n ≤ i)
+ends m n i h = at (dec_lt i m)
+  where
+    at : Dec (i < m) → (m ≤ i) ⊎ (n ≤ i)
+    at (yes k) = inr (omega arith)
+    at (no k) = inl (omega arith)
+
 pub loop-i-init : goal.loop-i-init
 loop-i-init c = (refl, λ w' a. a)
-
-pub shape_of-w-then-i-terms : goal.shape_of-w-then-i-terms
-shape_of-w-then-i-terms c = c.loop-i.invariant.0
-
-pub returns-then-i-terms : goal.returns-then-i-terms
-returns-then-i-terms c =
-    let A = c.args in
-    c.loop-i.invariant.1 _ (adds_end c.loop-i.i A.to A.terms.now (inr (omega arith)))
-
-pub offset_bounds-terms-i : goal.offset_bounds-terms-i
-offset_bounds-terms-i c = omega arith
-
-pub bounds-terms-i : goal.bounds-terms-i
-bounds-terms-i c = omega arith
-
-pub overflow_add-i : goal.overflow_add-i
-overflow_add-i c = omega arith
-
-pub loop-i-smaller : goal.loop-i-smaller
-loop-i-smaller c = omega arith
 
 pub loop-i-preserved : goal.loop-i-preserved
 loop-i-preserved c =
@@ -39,4 +30,4 @@ shape_of-w c = c.loop-i.invariant.0
 pub returns : goal.returns
 returns c =
     let A = c.args in
-    c.loop-i.invariant.1 _ (adds_end c.loop-i.i A.to A.terms.now (inl (omega arith)))
+    c.loop-i.invariant.1 _ (adds_end c.loop-i.i A.to A.terms.now (ends A.to (length A.terms.now) c.loop-i.i (omega arith)))

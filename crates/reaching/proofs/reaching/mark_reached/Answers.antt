@@ -1,28 +1,34 @@
-use mathlib.Core.Path.{◌≡◌, refl, sym, subst, ◌∙◌}
+use mathlib.Core.Path.{◌≡◌, refl, sym, subst, ap, ◌∙◌}
+use mathlib.Core.Bool.{Bool}
+use Prim.Native.Nat.{◌+◌}
 use native.Mathlib.Omega.{arith}
 use Rattle.reaching.specs.Following.{visit_few, follow_begin, follow_turn}
 use Rattle.reaching.specs.Posts.{Followable}
+use Rattle.reaching.specs.Primitives.{one_if}
 use Rattle.reaching.proofs.reaching.mark_reached.Goals as goal
+use Rattle.reaching.proofs.reaching.mark_reached.Goals.{Joined-visit, then-visit, else-visit}
+
+counted : (c : Joined-visit) → c.if-visit.count ≡ c.loop-v.count + one_if c.visit.result
+unfolding one_if
+counted c = elim c.if-visit.branch [
+  | then-visit w ↦ w.count-is ∙ ap (λ (b : Bool). c.loop-v.count + one_if b) (sym w.if-visit.true)
+  | else-visit w ↦ w.count-is ∙ omega arith ∙ ap (λ (b : Bool). c.loop-v.count + one_if b) (sym w.if-visit.false)
+]
 
 pub loop-v-init : goal.loop-v-init
 loop-v-init c = (omega arith, omega arith, refl, λ ls can f. f)
 
 pub overflow_add-count : goal.overflow_add-count
-overflow_add-count c = omega (arith, visit_few c.visit-count.ensures)
-
-pub overflow_sub-v : goal.overflow_sub-v
-overflow_sub-v c = omega arith
-
-pub loop-v-smaller : goal.loop-v-smaller
-loop-v-smaller c = omega arith
+overflow_add-count c = omega arith
 
 pub loop-v-preserved : goal.loop-v-preserved
 loop-v-preserved c =
-    let p = c.visit-count.ensures in (
+    let p = c.visit.ensures in
+    let e = counted c in (
       omega arith,
-      omega (arith, visit_few p),
+      omega (arith, visit_few p, e),
       p.adds.long ∙ c.loop-v.invariant.2,
-      λ ls can f. follow_turn can (omega arith) c.loop-v.invariant.0 c.loop-v.invariant.2 (c.loop-v.invariant.3 ls can f) p,
+      λ ls can f. rw e (follow_turn can (omega arith) c.loop-v.invariant.0 c.loop-v.invariant.2 (c.loop-v.invariant.3 ls can f) p),
     )
 
 pub shape_of-w : goal.shape_of-w

@@ -1,53 +1,45 @@
 use mathlib.Core.Path.{◌≡◌, refl, sym, ◌∙◌}
-use native.Mathlib.Numerals.{add-one}
+use Prim.Native.Nat.{◌+◌, ◌-◌, ◌≤◌}
+use lib.ListN.{length}
+use Rattle.reaching.specs.Primitives.{marked_primitives}
 use native.Mathlib.Omega.{arith}
-use lib.ListN.{length-set}
-use Rattle.reaching.specs.Writing.{writes_begin, writes_room, writes_put, writes_skip, writes_end}
+use Rattle.reaching.specs.Writing.{Writes, writes_begin, writes_room, writes_put, writes_skip, writes_end}
 use Rattle.reaching.proofs.reaching.put_marked.Goals as goal
+use Rattle.reaching.proofs.reaching.put_marked.Goals.{Joined-is_marked_primitive, then-is_marked_primitive+then-n-answer, else-is_marked_primitive, else-is_marked_primitive-via-then-is_marked_primitive+else-n-answer, else-is_marked_primitive-via-else-is_marked_primitive}
+
+-- what a turn leaves
+turn : (c : Joined-is_marked_primitive)
+    → length (marked_primitives c.args.table.now c.args.w.now 0 c.args.line) ≤ length c.args.answer.now
+    → Writes c.args.table.now c.args.w.now c.args.answer.now c.args.line c.loop-v.v c.if-is_marked_primitive.n c.if-is_marked_primitive.answer
+turn c fits =
+    let I = c.loop-v.invariant.2 fits in
+    let e = c.is_marked_primitive.ensures in
+    elim c.if-is_marked_primitive.branch [
+      | then-is_marked_primitive+then-n-answer w ↦
+          rw (w.n-is, w.answer-is) (writes_put _ _ _ _ (omega arith) (omega arith) (sym e ∙ w.if-is_marked_primitive.true) (omega arith) I)
+      | else-is_marked_primitive w ↦
+          elim w.else-is_marked_primitive.branch [
+            | else-is_marked_primitive-via-then-is_marked_primitive+else-n-answer v ↦
+                absurd (omega (arith, writes_room _ _ _ _ (omega arith) (omega arith) (sym e ∙ v.if-is_marked_primitive.true) fits I))
+            | else-is_marked_primitive-via-else-is_marked_primitive v ↦
+                rw (w.n-is, w.answer-is) (writes_skip _ _ _ _ (omega arith) (sym e ∙ v.if-is_marked_primitive.false) I)
+          ]
+    ]
 
 pub loop-v-init : goal.loop-v-init
 loop-v-init c = (omega arith, refl, λ fits. writes_begin _ _ _ _)
 
-pub overflow_add-v : goal.overflow_add-v
-overflow_add-v c = omega arith
-
-pub overflow_cast-answer : goal.overflow_cast-answer
-overflow_cast-answer c = omega arith
-
-pub offset_bounds-answer-n : goal.offset_bounds-answer-n
-offset_bounds-answer-n c = omega arith
-
-pub bounds-answer-n : goal.bounds-answer-n
-bounds-answer-n c = omega arith
-
-pub overflow_add-n : goal.overflow_add-n
-overflow_add-n c = omega arith
-
-pub loop-v-smaller-then-n-answer : goal.loop-v-smaller-then-n-answer
-loop-v-smaller-then-n-answer c = omega arith
-
-pub loop-v-preserved-then-n-answer : goal.loop-v-preserved-then-n-answer
-loop-v-preserved-then-n-answer c =
-    let I = c.loop-v.invariant in
-    let p = sym c.is_marked_primitive.ensures ∙ c.if-is_marked_primitive.true in
-    (omega arith, simp length-set I.1, λ fits. writes_put _ _ _ _ (add-one _) (omega arith) p (omega arith) (I.2 fits))
-
-pub loop-v-smaller-else-n-answer : goal.loop-v-smaller-else-n-answer
-loop-v-smaller-else-n-answer c = omega arith
-
-pub loop-v-preserved-else-n-answer : goal.loop-v-preserved-else-n-answer
-loop-v-preserved-else-n-answer c =
-    let I = c.loop-v.invariant in
-    let p = sym c.is_marked_primitive.ensures ∙ c.if-is_marked_primitive.true in
-    (omega arith, I.1, λ fits. absurd (omega (arith, writes_room _ _ _ _ (add-one _) (omega arith) p fits (I.2 fits))))
-
-pub loop-v-smaller : goal.loop-v-smaller
-loop-v-smaller c = omega arith
-
 pub loop-v-preserved : goal.loop-v-preserved
 loop-v-preserved c =
-    let I = c.loop-v.invariant in
-    (omega arith, I.1, λ fits. writes_skip _ _ _ _ (add-one _) (sym c.is_marked_primitive.ensures ∙ c.if-is_marked_primitive.false) (I.2 fits))
+    let e : c.loop-v.v + 1 - 1 ≡ c.loop-v.v = omega arith in
+    (omega arith, c.if-is_marked_primitive.auto.answer ∙ c.loop-v.auto.answer, λ fits. rw e (turn (goal.at.loop-v-preserved c).Joined-is_marked_primitive fits))
+
+pub returns-after-is_marked_primitive : goal.returns-after-is_marked_primitive
+returns-after-is_marked_primitive c =
+    let e : c.loop-v.v ≡ c.args.line = omega arith in
+    record {
+      written = λ fits. writes_end _ _ _ _ (rw e at (turn (goal.at.returns-after-is_marked_primitive c).Joined-is_marked_primitive fits));
+    }
 
 pub shape_of-answer : goal.shape_of-answer
 shape_of-answer c = c.loop-v.invariant.1
@@ -55,7 +47,7 @@ shape_of-answer c = c.loop-v.invariant.1
 pub returns : goal.returns
 returns c =
     let A = c.args in
-    let e : c.loop-v.v ≡ A.line = omega arith in
+    let e : c.loop-v.v - 1 ≡ A.line = omega arith in
     record {
       written = λ fits. writes_end _ _ _ _ (rw e at (c.loop-v.invariant.2 fits));
     }

@@ -1,16 +1,12 @@
 -- `visit`: by whether the line is marked, and by its kind.
-use mathlib.Core.Path.{sym, ◌∙◌}
-use native.Mathlib.Omega.{arith}
-use Rattle.reaching.specs.Following.{visit_primitive, visit_other, visit_unmarked}
+use mathlib.Core.Path.{refl, sym, ◌∙◌}
+use Rattle.reaching.specs.Following.{visit_marked, visit_unmarked}
+use Rattle.reaching.specs.Primitives.{one_if}
 use Rattle.reaching.proofs.reaching.visit.Goals as goal
 
-pub returns-then-field-eq1 : goal.returns-then-field-eq1
-returns-then-field-eq1 c =
-    visit_primitive _ _ _ _ (sym c.is_marked.ensures ∙ c.if-is_marked.true) c.mark_names.ensures c.field.ensures.0 (omega arith)
+pub returns-then-not-is_marked : goal.returns-then-not-is_marked
+unfolding one_if
+returns-then-not-is_marked c = visit_unmarked _ _ _ _ (sym c.is_marked.ensures ∙ c.if-not-is_marked.true)
 
-pub returns-else-field-eq1 : goal.returns-else-field-eq1
-returns-else-field-eq1 c =
-    visit_other _ _ _ _ (sym c.is_marked.ensures ∙ c.if-is_marked.true) c.mark_names.ensures c.field.ensures.0 (λ q. omega arith)
-
-pub returns-else-is_marked : goal.returns-else-is_marked
-returns-else-is_marked c = visit_unmarked _ _ _ _ (sym c.is_marked.ensures ∙ c.if-is_marked.false)
+pub returns : goal.returns
+returns c = visit_marked _ _ _ _ (sym c.is_marked.ensures ∙ c.if-not-is_marked.false) c.mark_names.ensures c.field.ensures.0 refl
