@@ -57,25 +57,19 @@ pub fn word_end(line: &[u8], kinds: &[u8; 256], at: usize) -> usize
 }
 
 // The four bytes of s from i on, as a number (four_at).
+#[tactic(auto, unfolding(crate::specs::Symbols::four_at))]
 pub fn four(s: &[u8], i: usize) -> usize
     requires { i + 4 ≤ length s.now }
     ensures { (result ≡ four_at s.now i) × (result < 4294967296) }
 {
-    let a = s[i] as usize;
-    let b = s[i + 1] as usize;
-    let c = s[i + 2] as usize;
-    let d = s[i + 3] as usize;
-    a + 256 * b + 65536 * c + 16777216 * d
+    u32::from_le_bytes([s[i], s[i + 1], s[i + 2], s[i + 3]]) as usize
 }
 
 // The byte of s at i; 0 behind its end.
 fn byte_at(s: &[u8], i: usize) -> usize
     ensures { (result ≡ get_or s.now i 0) × (result < 256) }
 {
-    if i < s.len() {
-        return s[i] as usize;
-    }
-    0
+    if i < s.len() { s[i] as usize } else { 0 }
 }
 
 // The same where fewer than four may be left: 0 for those behind the end.
@@ -90,6 +84,7 @@ pub fn four_at(s: &[u8], i: usize) -> usize
 }
 
 // Are the bytes of a and b the same (same_bytes)? Four at once; the last four may overlap those before.
+// Kept: `a == b` takes up to half as long again on words of fewer than 16 bytes, which most names are.
 pub fn same_bytes(a: &[u8], b: &[u8]) -> bool
     ensures { result ≡ same_bytes a.now b.now }
 {
@@ -108,7 +103,7 @@ pub fn same_bytes(a: &[u8], b: &[u8]) -> bool
         if four(a, i) != four(b, i) {
             return false;
         }
-        i = i + 4;
+        i += 4;
     }
     four(a, last) == four(b, last)
 }

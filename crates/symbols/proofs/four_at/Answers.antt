@@ -2,12 +2,6 @@ use native.Mathlib.Omega.{arith}
 use Rattle.symbols.proofs.SameLaws.{four_short}
 use Rattle.symbols.proofs.four_at.Goals as goal
 
-pub four-requires : goal.four-requires
-four-requires c = omega arith
-
-pub returns-then-s-i-ge4 : goal.returns-then-s-i-ge4
-returns-then-s-i-ge4 c = c.four.ensures
-
 pub returns : goal.returns
 returns c =
     let a = c.args in

@@ -9,12 +9,6 @@ returns-then-a-b c = sym (lengths_differ _ _ c.if-a-b.true)
 pub returns-then-a-eq0 : goal.returns-then-a-eq0
 returns-then-a-eq0 c = sym (same_last (same_start c.if-a-b.false) (omega arith))
 
-pub four_at-requires : goal.four_at-requires
-four_at-requires c = omega arith
-
-pub four_at-requires-then-a-lt4 : goal.four_at-requires-then-a-lt4
-four_at-requires-then-a-lt4 c = omega arith
-
 pub returns-then-a-lt4 : goal.returns-then-a-lt4
 returns-then-a-lt4 c =
     same_four_last
@@ -26,27 +20,12 @@ returns-then-a-lt4 c =
     c.four_at.ensures.0
     c.four_at-then-a-lt4.ensures.0
 
-pub overflow_sub-last : goal.overflow_sub-last
-overflow_sub-last c = omega arith
-
 pub loop-i-init : goal.loop-i-init
 loop-i-init c = (same_start c.if-a-b.false, omega arith)
-
-pub four-requires : goal.four-requires
-four-requires c = omega arith
-
-pub four-requires-in-loop-i : goal.four-requires-in-loop-i
-four-requires-in-loop-i c = omega arith
 
 pub returns-then-four : goal.returns-then-four
 returns-then-four c =
     sym (same_four_stop c.loop-i.invariant.0 (λ e. c.if-four.true (c.four.ensures.0 ∙ e ∙ sym c.four-in-loop-i.ensures.0)))
-
-pub overflow_add-i : goal.overflow_add-i
-overflow_add-i c = omega arith
-
-pub loop-i-smaller : goal.loop-i-smaller
-loop-i-smaller c = omega arith
 
 pub loop-i-preserved : goal.loop-i-preserved
 loop-i-preserved c =
@@ -56,12 +35,6 @@ loop-i-preserved c =
     (λ j. omega (arith, c.type_inv.b j))
     (sym c.four.ensures.0 ∙ c.if-four.false ∙ c.four-in-loop-i.ensures.0) in
     (same, omega arith)
-
-pub four-requires-2 : goal.four-requires-2
-four-requires-2 c = omega arith
-
-pub four-requires-3 : goal.four-requires-3
-four-requires-3 c = omega arith
 
 pub returns : goal.returns
 returns c =
