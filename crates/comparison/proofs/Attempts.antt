@@ -1,8 +1,13 @@
 -- Laws: a pair of the second comparison at one depth. Before each step the parts are compared; the sides lie below them, so they are as
 -- they stood.
 use mathlib.Core.Path.{◌≡◌, refl, sym, ap, subst, ◌∙◌}
-use mathlib.Core.Bool.{Bool, true, false}
+use mathlib.Core.Bool.{Bool, true, false, not}
+use denote.Enum.Bare.{sameb, same_true}
+use Rattle.std.proofs.Common.{rules}
+use Rattle.constants.specs.contracts.codes.Reason.{the_type}
 use mathlib.Core.List.{List}
+use Rattle.std.specs.Prelude.{Option, Some, None, Ok, Err}
+use Rattle.std.specs.Prelude as Code
 use Prim.Native.Nat.{ℕ, suc, ◌+◌, ◌*◌, ◌-◌, ◌≤◌}
 use native.Mathlib.Omega.{arith}
 use lib.ListN.{length, take}
@@ -14,7 +19,7 @@ use Rattle.aut68.specs.Lines.{Lines}
 use Rattle.aut68.specs.Procedure.Answer.{Answer, done, stop, code_of, mismatch, too_large}
 use Rattle.aut68.specs.Procedure.Compare.{Next, next, Comparison, compare_parts}
 use Rattle.aut68.specs.Procedure.PartsFirst.{differs, parts_first_at}
-use Rattle.lookup.specs.Answers.{code_injective}
+use Rattle.lookup.specs.Answers.{code_injective, code_nonzero}
 use Rattle.agreement.specs.Sides.{next_same}
 use Rattle.agreement.specs.Turns.{Other, next_other, turn_same, turn_equal, turn_stands, turn_different, turn_spent, turn_large, turn_onward}
 use Rattle.cells.specs.Cells.{Outside}
@@ -22,6 +27,13 @@ use Rattle.cells.specs.Layout.{unit_at, side_unit}
 use Rattle.cells.specs.Results.{Result, passed, refused}
 use Rattle.cells.specs.Stores.{outside_same, outside_then, outside_more}
 use Rattle.heads.specs.Book.{Book}
+use Rattle.constants.specs.Reasons.{refusal_of}
+use Rattle.constants.specs.declared.codes.Reason.{Reason}
+use Rattle.constants.specs.declared.codes.Reason.TheVariants as Reasons
+use Rattle.constants.specs.declared.codes.Reason.TheVariants.{WorkTooSmall, LimitOutOfRange, Malformed, Duplicate, UnknownName, WrongArity}
+use Rattle.constants.specs.declared.codes.Reason.TheVariants.{NotFunction, NotType, Mismatch, OutOfSpace, NotInContext, Unbalanced}
+use Rattle.sides.specs.declared.sides.Progress.{Progress}
+use Rattle.sides.specs.declared.sides.Progress.TheVariants.{Identical, Normal, Stepped}
 use Rattle.sides.specs.Posts.{Pair, Placed, SaysIdentical, Opens, Turned, Turns}
 use Rattle.sides.specs.Posts
 use Rattle.sides.proofs.OpeningLaws.{opened_identical}
@@ -30,8 +42,8 @@ use Rattle.sides.proofs.ProgressLaws.{Below, PutInPlace, Went, Progressed, progr
 use Rattle.comparison.specs.Posts.{ComparesFirst, AttemptsParts}
 use Rattle.comparison.proofs.Depths.{result_is, Opened, placed, pair_frame, deeper_unit, pair_below, pair_kept}
 
-pub parts_first_none : (ls : Lines) (L : ℕ) (e f : Expr) (b : ℕ) → Result (λ _. Unit {0}) 10 b (parts_first_at ls L 0 e f b)
-unfolding parts_first_at code_of
+pub parts_first_none : (ls : Lines) (L : ℕ) (e f : Expr) (b : ℕ) → Result (λ _. Unit {0}) (code_of too_large) b (parts_first_at ls L 0 e f b)
+unfolding parts_first_at
 parts_first_none ls L e f b = refused {r = too_large} refl
 
 -- the second comparison that may go so many levels deeper; it has no other comparison inside
@@ -48,12 +60,38 @@ module _ (ls : Lines) (L d : ℕ) (e f : Expr) (b : ℕ) {code rest : ℕ} where
   stands x q o n (done u b') e₁ (passed z h) = result_is (turn_equal ls L d e f b x q o b' e₁) (passed z tt)
   stands x q o n (stop k b') e₁ (refused z) = result_is (turn_stands ls L d e f b x q o k b' (ne_eqb _ _ λ y. n (z ∙ y)) e₁) (refused z)
 
-  -- 9 is what it says
-  nine : code ≡ 9 → (m : Answer ℕ (Unit {0})) → compare_parts aut68 (parts_first_at ls L d) e f b ≡ m → Result (λ _. Unit {0}) code rest m
+-- 9 is what it says
+module _ (ls : Lines) (L d : ℕ) (e f : Expr) (b : ℕ) {rest : ℕ} where
+  nine : (m : Answer ℕ (Unit {0})) → compare_parts aut68 (parts_first_at ls L d) e f b ≡ m → Result (λ _. Unit {0}) (code_of mismatch) rest m
       → compare_parts aut68 (parts_first_at ls L d) e f b ≡ stop mismatch rest
-  unfolding code_of
-  nine q (done u b') e₁ (passed z h) = absurd (omega arith)
-  nine q (stop k b') e₁ (refused z) = e₁ ∙ ap (λ r. stop r b') (code_injective k mismatch (sym z ∙ q))
+  nine (done u b') e₁ (passed z h) = absurd (code_nonzero mismatch z)
+  nine (stop k b') e₁ (refused z) = e₁ ∙ ap (λ r. stop r b') (code_injective k mismatch (sym z))
+
+-- the only reason with that code
+pub different : (r : Reason) → code_of (refusal_of r) ≡ 9 → r ≡ Mismatch
+unfolding code_of
+different WorkTooSmall q = absurd (omega arith)
+different LimitOutOfRange q = absurd (omega arith)
+different Malformed q = absurd (omega arith)
+different Duplicate q = absurd (omega arith)
+different UnknownName q = absurd (omega arith)
+different WrongArity q = absurd (omega arith)
+different NotFunction q = absurd (omega arith)
+different NotType q = absurd (omega arith)
+different Mismatch q = refl
+different Reasons.TooLarge q = absurd (omega arith)
+different Reasons.OutOfBudget q = absurd (omega arith)
+different OutOfSpace q = absurd (omega arith)
+different NotInContext q = absurd (omega arith)
+different Unbalanced q = absurd (omega arith)
+
+-- where the code's test fails
+pub mismatched : (r : Reason) → false ≡ not (sameb the_type r Mismatch) → r ≡ Mismatch
+mismatched r q = same_true the_type (search rules) _ _ (untrue (sameb the_type r Mismatch) q)
+  where
+    untrue : (t : Bool) → false ≡ not t → t ≡ true
+    untrue true q = refl
+    untrue false q = absurd (cc)
 
 -- ---- the loop
 
@@ -61,6 +99,13 @@ module _ (ls : Lines) (L d : ℕ) (e f : Expr) (b : ℕ) {code rest : ℕ} where
 pub record Passed (deeper : ℕ) (tb ts w : List ℕ) (limit budget l n r m : ℕ) (w' : List ℕ) (n' m' rest : ℕ) : Type 0 where
   pub spends : rest ≤ budget
   pub progressed : Progressed (second limit deeper) (2 * nesting - deeper) tb ts w limit budget l n r m w' n' m' rest
+
+-- the code that a turn ends with, unless a step was taken
+abbrev pub end_code : Code.Result Progress Reason → Option ℕ
+end_code (Ok Identical) = Some 0
+end_code (Ok Normal) = Some (code_of mismatch)
+end_code (Ok (Stepped n m)) = None
+end_code (Err r) = Some (code_of (refusal_of r))
 
 pub passed_none : (deeper : ℕ) {tb ts w : List ℕ} {limit budget l n r m : ℕ} → Passed deeper tb ts w limit budget l n r m w n m budget
 passed_none deeper {limit = limit} = record { spends = omega arith; progressed = progress_none (second limit deeper) }
@@ -142,71 +187,73 @@ module _ {limit deeper l r : ℕ} (O : Opened limit deeper l r) where
             from_now A.spends side_frame λ ls k e f B d p P x y.
             stands ls limit (deeper - 1) e f rest (next ls e f) refl (other ls k e f B P x y) q _ refl (attempted ls k e f B d p P)
 
-        -- after 9, a turn
-        module _ {w₃ : List ℕ} {state n₃ m₃ rest₃ : ℕ} (is9 : code ≡ 9) (T : Turns tb ts w₂ limit rest₂ l n r m w₃ state n₃ m₃ rest₃)
-            (long₃ : length w₃ ≡ length w₂) where
-          differs_so : (ls : Lines) (k : ℕ) (e f : Expr) → Book ls limit tb ts → k + deeper ≤ 2 * nesting → Placed limit (length w₁) l r → Pair ls limit k w₁ l r e f
-              → compare_parts aut68 (parts_first_at ls limit (deeper - 1)) e f rest ≡ stop mismatch rest₂
-          differs_so ls k e f B d p P = nine ls limit (deeper - 1) e f rest is9 _ refl (attempted ls k e f B d p P)
+      -- the parts differ
+      module _ (differ : answer ≡ false) {w₂ : List ℕ} {rest₂ : ℕ} (A : AttemptsParts tb ts w₁ limit rest l r (deeper - 1) w₂ (code_of mismatch) rest₂)
+          (long₂ : length w₂ ≡ length w₁) where
+        differs_so : (ls : Lines) (k : ℕ) (e f : Expr) → Book ls limit tb ts → k + deeper ≤ 2 * nesting → Placed limit (length w₁) l r → Pair ls limit k w₁ l r e f
+            → compare_parts aut68 (parts_first_at ls limit (deeper - 1)) e f rest ≡ stop mismatch rest₂
+        differs_so ls k e f B d p P = nine ls limit (deeper - 1) e f rest _ refl (attempted differ A long₂ ls k e f B d p P)
 
-          turned : (ls : Lines) (k : ℕ) (e f : Expr) → Book ls limit tb ts → k + deeper ≤ 2 * nesting → Placed limit (length w₁) l r → Pair ls limit k w₁ l r e f → n ≡ size e → m ≡ size f
-              → Turned ls limit k w₃ l r e f rest₂ state n₃ m₃ rest₃
-          turned ls k e f B d p P x y =
-              T.means ls k e f B (omega arith) (record { next = p.next; below = p.below; long = omega (arith, p.long) }) (pair_kept O deeper_frame P) x y
+        -- after that, a turn
+        module _ {w₃ : List ℕ} {rest₃ : ℕ} where
+          module _ {t : Code.Result Progress Reason} (T : Turns tb ts w₂ limit rest₂ l n r m w₃ t rest₃) where
+            turned : (ls : Lines) (k : ℕ) (e f : Expr) → Book ls limit tb ts → k + deeper ≤ 2 * nesting → Placed limit (length w₁) l r → Pair ls limit k w₁ l r e f
+                → n ≡ size e → m ≡ size f → Turned ls limit k w₃ l r e f rest₂ t rest₃
+            turned ls k e f B d p P x y =
+                T.means ls k e f B (omega arith) (record { next = p.next; below = p.below; long = omega (arith, p.long) })
+                (pair_kept O (deeper_frame differ A long₂) P) x y
 
-          turn_frame : Below limit l r w₁ w₃
-          turn_frame h t = outside_then (side_frame h t) (outside_more (omega arith) (omega arith) (T.frame h t))
+            turn_frame : Below limit l r w₁ w₃
+            turn_frame h t = outside_then (side_frame differ A long₂ h t) (outside_more (omega arith) (omega arith) (T.frame h t))
 
-          -- no side has a head step: that 9 stands
-          pub pass_different : state ≡ 1 → ComparesFirst tb ts w limit budget a b deeper w₃ code rest₂
-          unfolding code_of
-          pass_different z =
-              from_now A.spends turn_frame λ ls k e f B d p P x y. go ls k e f (differs_so ls k e f B d p P) (turned ls k e f B d p P x y)
+          -- the sides are identical after all, or no side has a head step, or the step is refused
+          pub pass_ended : {t : Code.Result Progress Reason} → Turns tb ts w₂ limit rest₂ l n r m w₃ t rest₃ → {code : ℕ} → end_code t ≡ Some code
+              → ComparesFirst tb ts w limit budget a b deeper w₃ code rest₃
+          pass_ended {t} T {code} z =
+              from_now (omega (arith, A.spends, T.spends)) (turn_frame T) λ ls k e f B d p P x y.
+              go ls k e f (other differ A long₂ ls k e f B P x y) (differs_so ls k e f B d p P) (turned T ls k e f B d p P x y)
             where
-              go : (ls : Lines) (k : ℕ) (e f : Expr) → compare_parts aut68 (parts_first_at ls limit (deeper - 1)) e f rest ≡ stop mismatch rest₂
-                  → Turned ls limit k w₃ l r e f rest₂ state n₃ m₃ rest₃ → Result (λ _. Unit {0}) code rest₂ (parts_first_at ls limit (suc (deeper - 1)) e f rest)
-              go ls k e f c (Posts.identically o u q) = absurd (omega arith)
-              go ls k e f c (Posts.to_parts o u q P) = result_is (turn_different ls limit (deeper - 1) e f rest q rest₂ c) (refused {r = mismatch} is9)
-              go ls k e f c (Posts.onward s g o u q h P x y) = absurd (omega arith)
-              go ls k e f c (Posts.too_far s g o u v q h) = absurd (omega arith)
-              go ls k e f c (Posts.spent s g o u v q) = absurd (omega arith)
+              code_is : {x : Code.Result Progress Reason} {i : ℕ} → t ≡ x → end_code x ≡ Some i → code ≡ i
+              code_is o q = let p : ◌≡◌ {A = Option ℕ} (Some code) (Some _) = sym z ∙ ap end_code o ∙ q in cc
 
-          -- the step is refused
-          pub pass_ended : (state ≡ 1 → ⊥) → (state ≡ 2 → ⊥) → ComparesFirst tb ts w limit budget a b deeper w₃ state rest₃
-          unfolding code_of
-          pass_ended n₁ n₂ =
-              from_now (omega (arith, A.spends, T.spends)) turn_frame λ ls k e f B d p P x y.
-              go ls k e f (other ls k e f B P x y) (differs_so ls k e f B d p P) (turned ls k e f B d p P x y)
-            where
               go : (ls : Lines) (k : ℕ) (e f : Expr) → Other (next ls e f) → compare_parts aut68 (parts_first_at ls limit (deeper - 1)) e f rest ≡ stop mismatch rest₂
-                  → Turned ls limit k w₃ l r e f rest₂ state n₃ m₃ rest₃ → Result (λ _. Unit {0}) state rest₃ (parts_first_at ls limit (suc (deeper - 1)) e f rest)
+                  → Turned ls limit k w₃ l r e f rest₂ t rest₃ → Result (λ _. Unit {0}) code rest₃ (parts_first_at ls limit (suc (deeper - 1)) e f rest)
               go ls k e f i c (Posts.identically o u q) = absurd (subst Other q i)
-              go ls k e f i c (Posts.to_parts o u q P) = absurd (n₁ o)
-              go ls k e f i c (Posts.onward s g o u q h P x y) = absurd (n₂ o)
-              go ls k e f i c (Posts.too_far s g o u v q h) = rw u (result_is (turn_large ls limit (deeper - 1) e f rest s g q rest₂ c v h) (refused o))
-              go ls k e f i c (Posts.spent s g o u v q) = rw u (result_is (turn_spent ls limit (deeper - 1) e f rest s g q rest₂ c v) (refused o))
+              go ls k e f i c (Posts.to_parts o u q P) =
+                  rw u (result_is (turn_different ls limit (deeper - 1) e f rest q rest₂ c) (refused {r = mismatch} (code_is o refl)))
+              go ls k e f i c (Posts.onward s g o u q h P) = let p = sym z ∙ ap end_code o in absurd (cc)
+              go ls k e f i c (Posts.too_far s g o u v q h) =
+                  rw u (result_is (turn_large ls limit (deeper - 1) e f rest s g q rest₂ c v h) (refused (code_is o refl)))
+              go ls k e f i c (Posts.spent s g o u v q) = rw u (result_is (turn_spent ls limit (deeper - 1) e f rest s g q rest₂ c v) (refused (code_is o refl)))
 
           -- it is taken
-          pub pass_next : state ≡ 2 → Passed deeper tb ts w₀ limit budget l n₀ r m₀ w₃ n₃ m₃ rest₃
-          pass_next z = record {
+          pub pass_next : {n₃ m₃ : ℕ} → Turns tb ts w₂ limit rest₂ l n r m w₃ (Ok (Stepped n₃ m₃)) rest₃ → length w₃ ≡ length w₂
+              → Passed deeper tb ts w₀ limit budget l n₀ r m₀ w₃ n₃ m₃ rest₃
+          pass_next {n₃} {m₃} T long₃ = record {
             spends = omega (arith, I.spends, A.spends, T.spends);
             progressed =
-                progress_then (second limit deeper) I.progressed (long₃ ∙ long₂) turn_frame λ ls k e f B h p P x y.
+                progress_then (second limit deeper) I.progressed (long₃ ∙ long₂) (turn_frame T) λ ls k e f B h p P x y.
                 let d : k + deeper ≤ 2 * nesting = omega (arith, O.few) in
-                go ls k e f (differs_so ls k e f B d p P) (turned ls k e f B d p P x y);
+                go ls k e f (differs_so ls k e f B d p P) (turned T ls k e f B d p P x y);
           }
             where
+              left_size : {i j i' j' : ℕ} → ◌≡◌ {A = Code.Result Progress Reason} (Ok (Stepped i j)) (Ok (Stepped i' j')) → i ≡ i'
+              left_size q = cc
+
+              right_size : {i j i' j' : ℕ} → ◌≡◌ {A = Code.Result Progress Reason} (Ok (Stepped i j)) (Ok (Stepped i' j')) → j ≡ j'
+              right_size q = cc
+
               go : (ls : Lines) (k : ℕ) (e f : Expr) → compare_parts aut68 (parts_first_at ls limit (deeper - 1)) e f rest ≡ stop mismatch rest₂
-                  → Turned ls limit k w₃ l r e f rest₂ state n₃ m₃ rest₃ → Went (second limit deeper) ls limit k w₃ l r e f rest n₃ m₃ rest₃
-              go ls k e f c (Posts.identically o u q) = absurd (omega arith)
-              go ls k e f c (Posts.to_parts o u q P) = absurd (omega arith)
-              go ls k e f c (Posts.onward s g o u q h P x y) = record {
+                  → Turned ls limit k w₃ l r e f rest₂ (Ok (Stepped n₃ m₃)) rest₃ → Went (second limit deeper) ls limit k w₃ l r e f rest n₃ m₃ rest₃
+              go ls k e f c (Posts.identically o u q) = absurd (cc)
+              go ls k e f c (Posts.to_parts o u q P) = absurd (cc)
+              go ls k e f c (Posts.onward s g o u q h P) = record {
                 e' = _;
                 f' = _;
                 pair = P;
-                size_left = x;
-                size_right = y;
+                size_left = left_size o;
+                size_right = right_size o;
                 goes = λ _. opens ls e f rest ∙ turn_onward ls limit (deeper - 1) e f rest s g q rest₂ c rest₃ u h ∙ sym (opens ls _ _ rest₃);
               }
-              go ls k e f c (Posts.too_far s g o u v q h) = absurd (omega arith)
-              go ls k e f c (Posts.spent s g o u v q) = absurd (omega arith)
+              go ls k e f c (Posts.too_far s g o u v q h) = absurd (cc)
+              go ls k e f c (Posts.spent s g o u v q) = absurd (cc)

@@ -3,12 +3,13 @@ use mathlib.Core.Path.{◌≡◌, sym, subst}
 use mathlib.Core.Logic.{inl}
 use mathlib.Core.List.{List}
 use Prim.Native.Nat.{ℕ, ◌+◌, ◌*◌, ◌-◌, ◌≤◌, ◌<◌}
+use native.Mathlib.Decide.{dec_lt}
 use native.Mathlib.Omega.{arith}
 use lib.ListN.{length, take}
 use Rattle.aut68.specs.Sizes.{largest_limit, work_units, nesting}
 use Rattle.aut68.specs.Expr.{Expr}
 use Rattle.aut68.specs.Lines.{Lines}
-use Rattle.aut68.specs.Procedure.Answer.{Answer}
+use Rattle.aut68.specs.Procedure.Answer.{Answer, code_of, too_large}
 use Rattle.cells.specs.Cells.{Outside}
 use Rattle.cells.specs.Forests.{size_is_length}
 use Rattle.cells.specs.Layout.{unit_at, side_unit, scratch_unit, unit_next, unit_below, unit_small}
@@ -22,19 +23,20 @@ result_is {code} {rest} q h = subst (Result (λ _. Unit {0}) code rest) (sym q) 
 
 -- ---- no level is left, or there are no such levels or units
 
-module _ {procedure : Levels} {tb ts w : List ℕ} {limit budget a b deeper : ℕ} where
-  pub no_levels : ((ls : Lines) (e f : Expr) → Result (λ _. Unit {0}) 10 budget (procedure ls limit 0 e f budget)) → deeper ≡ 0
-      → ComparesBy procedure tb ts w limit budget a b deeper w 10 budget
-  no_levels none z = record {
-    frame = λ _ _. outside_same;
-    means = λ ls k e f B d d' h P. subst (λ (n : ℕ). Result (λ _. Unit {0}) 10 budget (procedure ls limit n e f budget)) (sym z) (none ls e f);
-  }
-
-  pub many_levels : nesting < deeper → ComparesBy procedure tb ts w limit budget a b deeper w 10 budget
-  many_levels z = record { frame = λ _ _. outside_same; means = λ ls k e f B d d' h P. absurd (omega arith) }
-
-  pub no_units : largest_limit < limit → ComparesBy procedure tb ts w limit budget a b deeper w 10 budget
-  no_units z = record { frame = λ _ _. outside_same; means = λ ls k e f B d d' h P. absurd (omega (arith, B.limit)) }
+pub no_pair : {procedure : Levels} {tb ts w : List ℕ} {limit budget a b deeper : ℕ}
+    → ((ls : Lines) (e f : Expr) → Result (λ _. Unit {0}) (code_of too_large) budget (procedure ls limit 0 e f budget))
+    → (1 ≤ deeper → deeper ≤ nesting → limit ≤ largest_limit → ⊥) → ComparesBy procedure tb ts w limit budget a b deeper w (code_of too_large) budget
+no_pair {procedure} {limit = limit} {budget} {deeper = deeper} none n = record {
+  frame = λ _ _. outside_same;
+  means = λ ls k e f B d d' h P. go ls e f B.limit d' (dec_lt 0 deeper);
+}
+  where
+    go : (ls : Lines) (e f : Expr) → limit ≤ largest_limit → deeper ≤ nesting → Dec (0 < deeper)
+        → Result (λ _. Unit {0}) (code_of too_large) budget (procedure ls limit deeper e f budget)
+    go ls e f s d (yes l) = absurd (n l d s)
+    go ls e f s d (no l) =
+        let z : 0 ≡ deeper = omega arith in
+        subst (λ (i : ℕ). Result (λ _. Unit {0}) (code_of too_large) budget (procedure ls limit i e f budget)) z (none ls e f)
 
 -- ---- a pair that is opened
 

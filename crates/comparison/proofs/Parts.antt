@@ -100,8 +100,7 @@ module _ (w : List ℕ) (n : ℕ) {ls : Lines} {limit k i : ℕ} {e : Expr} (X :
 
 module _ {procedure : Levels} {tb ts w : List ℕ} {limit budget l r deeper count : ℕ} {answer : Bool} (shapes : SaysShapes tb w l r answer count) where
   -- the shapes differ
-  pub shapes_differ : answer ≡ true → ComparesPartsBy procedure tb ts w limit budget l r deeper w 9 budget
-  unfolding code_of
+  pub shapes_differ : answer ≡ true → ComparesPartsBy procedure tb ts w limit budget l r deeper w (code_of mismatch) budget
   shapes_differ z = record {
     frame = λ _ _. outside_same;
     means = λ ls k e f B d d' h P.

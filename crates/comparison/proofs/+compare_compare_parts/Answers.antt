@@ -1,7 +1,9 @@
 use native.Mathlib.Omega.{arith}
-use Prim.Native.Nat.{ℕ, ◌+◌}
-use mathlib.Core.Path.{refl, ◌∙◌}
-use Rattle.comparison.proofs.Depths.{no_levels, many_levels, no_units, Opened, side_small}
+use Prim.Native.Nat.{ℕ, ◌+◌, ◌-◌}
+use mathlib.Core.Path.{◌≡◌, refl}
+use Rattle.std.proofs.lemmas.Result.{err_from_is_err_and}
+use Rattle.lookup.specs.Answers.{code_nonzero}
+use Rattle.comparison.proofs.Depths.{no_pair, Opened, side_small}
 use Rattle.comparison.proofs.Pairs.{compare_at_none, compare_ended, compare_parted}
 use Rattle.comparison.proofs.Parts.{shapes_differ, parts_start, parts_done, parts_stopped, parts_next}
 use Rattle.comparison.proofs.+compare_compare_parts.Goals as goal
@@ -20,65 +22,50 @@ opened t c = record {
 }
 
 pub compare-returns-then-deeper-eq0 : goal.compare-returns-then-deeper-eq0
-compare-returns-then-deeper-eq0 t c = no_levels (λ ls e f. compare_at_none ls _ e f _) (omega (arith, c.if-deeper-eq0.true))
-
-pub compare-returns-then-deeper-gt-NESTING : goal.compare-returns-then-deeper-gt-NESTING
-compare-returns-then-deeper-gt-NESTING t c = many_levels c.if-deeper-gt-NESTING.true
-
-pub compare-returns-then-limit-gt-LARGEST_LIMIT : goal.compare-returns-then-limit-gt-LARGEST_LIMIT
-compare-returns-then-limit-gt-LARGEST_LIMIT t c = no_units c.if-limit-gt-LARGEST_LIMIT.true
+compare-returns-then-deeper-eq0 t c = no_pair (λ ls e f. compare_at_none ls _ e f _) (λ p q r. omega arith)
 
 pub compare-overflow_add-r : goal.compare-overflow_add-r
 compare-overflow_add-r t c = omega (arith, side_small _ c.args.deeper _ (opened t c).small (opened t c).left)
 
-pub compare-overflow_sub-deeper : goal.compare-overflow_sub-deeper
-compare-overflow_sub-deeper t c = omega (arith, c.if-deeper-eq0.false)
+pub compare-returns-in_err-settle : goal.compare-returns-in_err-settle
+compare-returns-in_err-settle t c =
+    let p = err_from_is_err_and c.from_residual.result c.from_residual.ensures.1 in
+    rw (p.1, p.2) (compare_ended (opened t (goal.at.compare-returns-in_err-settle t c).After-side_at-l) c.in_err-settle.ensures (λ q. absurd (cc)))
 
-pub compare-compare_parts-requires : goal.compare-compare_parts-requires
-compare-compare_parts-requires t c =
-    (omega (arith, c.if-deeper-eq0.false, c.decreases), tt)
+pub compare-returns-in-Identical : goal.compare-returns-in-Identical
+compare-returns-in-Identical t c =
+    compare_ended (opened t (goal.at.compare-returns-in-Identical t c).After-side_at-l) (rw c.in-Identical.is at c.in_ok-settle.ensures) (λ q. absurd (cc))
 
-pub compare-shape_of-w-then-s-eq1 : goal.compare-shape_of-w-then-s-eq1
-compare-shape_of-w-then-s-eq1 t c = c.compare_parts.auto.w ∙ c.settle-s.auto.w
+pub compare-returns-in-Normal : goal.compare-returns-in-Normal
+compare-returns-in-Normal t c =
+    compare_parted (opened t (goal.at.compare-returns-in-Normal t c).After-side_at-l) (rw c.in-Normal.is at c.in_ok-settle.ensures) c.compare_parts.ensures
 
-pub compare-returns-then-s-eq1 : goal.compare-returns-then-s-eq1
-compare-returns-then-s-eq1 t c =
-    compare_parted (opened t (goal.at.compare-returns-then-s-eq1 t c).After-side_at-l) c.settle-s.ensures c.if-s-eq1.true c.compare_parts.ensures
-
-pub compare-shape_of-w : goal.compare-shape_of-w
-compare-shape_of-w t c = c.settle-s.auto.w
-
-pub compare-returns : goal.compare-returns
-compare-returns t c = compare_ended (opened t (goal.at.compare-returns t c).After-side_at-l) c.settle-s.ensures c.if-s-eq1.false
-
-pub compare_parts-returns-then-s : goal.compare_parts-returns-then-s
-compare_parts-returns-then-s t c = shapes_differ c.shapes_of-s.ensures c.if-s.true
+pub compare_parts-returns-in_default : goal.compare_parts-returns-in_default
+compare_parts-returns-in_default t c = shapes_differ c.in_default.ensures refl
 
 pub compare_parts-overflow_add-i : goal.compare_parts-overflow_add-i
-compare_parts-overflow_add-i t c = let m = c.shapes_of-s.ensures.match c.if-s.false in omega (arith, m.0)
+compare_parts-overflow_add-i t c = omega (arith, (c.in-Some.ensures.match refl).0)
 
 pub compare_parts-overflow_add-j : goal.compare_parts-overflow_add-j
-compare_parts-overflow_add-j t c = let m = c.shapes_of-s.ensures.match c.if-s.false in omega (arith, m.1)
+compare_parts-overflow_add-j t c = omega (arith, (c.in-Some.ensures.match refl).1)
 
-pub compare_parts-loop-parts-init : goal.compare_parts-loop-parts-init
-compare_parts-loop-parts-init t c = parts_start c.shapes_of-s.ensures c.if-s.false
+pub compare_parts-loop-part-init : goal.compare_parts-loop-part-init
+compare_parts-loop-part-init t c =
+    let all : c.in-Some.parts - 0 ≡ c.in-Some.parts = omega arith in
+    rw all (parts_start c.in-Some.ensures refl)
 
-pub compare_parts-compare-c-requires : goal.compare_parts-compare-c-requires
-compare_parts-compare-c-requires t c = (omega (arith, c.decreases), tt)
+pub compare_parts-returns-in_err-compare : goal.compare_parts-returns-in_err-compare
+compare_parts-returns-in_err-compare t c =
+    let I = c.loop-part.invariant in
+    let p = err_from_is_err_and c.from_residual.result c.from_residual.ensures.1 in
+    rw (p.1, p.2)
+    (parts_stopped I (omega (arith, c.loop-part-test.true)) c.in_err-compare.ensures c.compare.auto.w (λ z. code_nonzero _ z))
 
-pub compare_parts-shape_of-w-then-c-ne0 : goal.compare_parts-shape_of-w-then-c-ne0
-compare_parts-shape_of-w-then-c-ne0 t c = c.compare-c.auto.w ∙ c.loop-parts.invariant.long
-
-pub compare_parts-returns-then-c-ne0 : goal.compare_parts-returns-then-c-ne0
-compare_parts-returns-then-c-ne0 t c =
-    parts_stopped c.loop-parts.invariant c.loop-parts-test.true c.compare-c.ensures c.compare-c.auto.w c.if-c-ne0.true
-
-pub compare_parts-loop-parts-preserved : goal.compare_parts-loop-parts-preserved
-compare_parts-loop-parts-preserved t c =
-    parts_next c.loop-parts.invariant c.loop-parts-test.true c.compare-c.ensures c.compare-c.auto.w c.if-c-ne0.false c.skip-i.ensures c.skip-j.ensures
-
-pub compare_parts-shape_of-w : goal.compare_parts-shape_of-w
-compare_parts-shape_of-w t c = c.loop-parts.invariant.long
+pub compare_parts-loop-part-preserved : goal.compare_parts-loop-part-preserved
+compare_parts-loop-part-preserved t c =
+    let I = c.loop-part.invariant in
+    let left : c.in-Some.parts - (c.loop-part._part + 1) ≡ c.in-Some.parts - c.loop-part._part - 1 = omega arith in
+    rw left (parts_next I (omega (arith, c.loop-part-test.true)) c.in_ok-compare.ensures c.compare.auto.w refl c.skip-i.ensures c.skip-j.ensures)
 
 pub compare_parts-returns : goal.compare_parts-returns
-compare_parts-returns t c = parts_done c.loop-parts.invariant (omega (arith, c.loop-parts-test.false))
+compare_parts-returns t c = parts_done c.loop-part.invariant (omega (arith, c.loop-part-test.false))

@@ -1,5 +1,5 @@
 -- The levels fall: compare 2n, compare_parts 2n + 1 of one level less.
-use Prim.Native.Nat.{◌+◌, ◌*◌}
+use Prim.Native.Nat.{◌+◌, ◌*◌, ◌-◌}
 use Rattle.aut68.specs.Language.{aut68}
 use Rattle.aut68.specs.Procedure.Compare.{compare_at}
 use Rattle.comparison.proofs.Parts.{PartsInvariant}
@@ -11,8 +11,5 @@ decreases-compare l = 2 * l.deeper
 abbrev pub decreases-compare_parts : goal.decreases-compare_parts
 decreases-compare_parts l = 2 * l.deeper + 1
 
-abbrev pub invariant-compare_parts-loop-parts : goal.invariant-compare_parts-loop-parts
-invariant-compare_parts-loop-parts l = PartsInvariant (compare_at aut68) l.table l.terms l.initial.w l.limit l.budget l.l l.r l.deeper l.w l.parts l.i l.j l.rest
-
-abbrev pub decreases-compare_parts-loop-parts : goal.decreases-compare_parts-loop-parts
-decreases-compare_parts-loop-parts l = l.parts
+abbrev pub invariant-compare_parts-loop-part : goal.invariant-compare_parts-loop-part
+invariant-compare_parts-loop-part l = PartsInvariant (compare_at aut68) l.table l.terms l.initial.w l.limit l.initial.budget l.l l.r l.deeper l.w (l.parts - l._part) l.i l.j l.budget

@@ -1,10 +1,14 @@
 use native.Mathlib.Omega.{arith}
-use Prim.Native.Nat.{ℕ, ◌+◌}
-use mathlib.Core.Path.{refl, ◌∙◌}
+use Prim.Native.Nat.{ℕ, ◌+◌, ◌-◌}
+use mathlib.Core.Path.{◌≡◌, refl}
+use Rattle.std.proofs.lemmas.Result.{err_from_is_err_and}
+use Rattle.lookup.specs.Answers.{code_nonzero}
 use Rattle.sides.proofs.ProgressLaws.{put_in_place}
-use Rattle.comparison.proofs.Depths.{no_levels, many_levels, no_units, Opened, side_small}
+use Rattle.comparison.proofs.Depths.{no_pair, Opened, side_small}
 use Rattle.comparison.proofs.Parts.{shapes_differ, parts_start, parts_done, parts_stopped, parts_next}
-use Rattle.comparison.proofs.Attempts.{parts_first_none, passed_none, first_same, pass_same, pass_stands, pass_different, pass_ended, pass_next}
+use Rattle.comparison.proofs.Attempts.{parts_first_none, first_same, pass_same, pass_stands, pass_ended, pass_next, different, mismatched}
+use mathlib.Core.Bool.{true, false}
+use Rattle.constants.specs.declared.codes.Reason.TheVariants.{Mismatch}
 use Rattle.comparison.proofs.parts_first.+attempt_compare_parts_first.Goals as goal
 use Rattle.comparison.proofs.parts_first.+attempt_compare_parts_first.Goals.{compare_parts_first-After-side_at-l}
 
@@ -20,120 +24,86 @@ opened t c = record {
   right = refl;
 }
 
-pub attempt-returns-then-s : goal.attempt-returns-then-s
-attempt-returns-then-s t c = record { spends = omega arith; compares = shapes_differ c.shapes_of-s.ensures c.if-s.true }
+pub attempt-returns-in_default : goal.attempt-returns-in_default
+attempt-returns-in_default t c = record { spends = omega arith; compares = shapes_differ c.in_default.ensures refl }
 
 pub attempt-overflow_add-i : goal.attempt-overflow_add-i
-attempt-overflow_add-i t c = let m = c.shapes_of-s.ensures.match c.if-s.false in omega (arith, m.0)
+attempt-overflow_add-i t c = omega (arith, (c.in-Some.ensures.match refl).0)
 
 pub attempt-overflow_add-j : goal.attempt-overflow_add-j
-attempt-overflow_add-j t c = let m = c.shapes_of-s.ensures.match c.if-s.false in omega (arith, m.1)
+attempt-overflow_add-j t c = omega (arith, (c.in-Some.ensures.match refl).1)
 
-pub attempt-loop-parts-init : goal.attempt-loop-parts-init
-attempt-loop-parts-init t c = (omega arith, parts_start c.shapes_of-s.ensures c.if-s.false)
+pub attempt-loop-part-init : goal.attempt-loop-part-init
+attempt-loop-part-init t c =
+    let all : c.in-Some.parts - 0 ≡ c.in-Some.parts = omega arith in
+    (omega arith, rw all (parts_start c.in-Some.ensures refl))
 
-pub attempt-compare_parts_first-c-requires : goal.attempt-compare_parts_first-c-requires
-attempt-compare_parts_first-c-requires t c = (omega (arith, c.decreases), tt)
+pub attempt-returns-in_err-compare_parts_first : goal.attempt-returns-in_err-compare_parts_first
+attempt-returns-in_err-compare_parts_first t c =
+    let I = c.loop-part.invariant.1 in
+    let p = err_from_is_err_and c.from_residual.result c.from_residual.ensures.1 in
+    rw (p.1, p.2)
+    (record { spends = omega (arith, c.loop-part.invariant.0, c.compare_parts_first.ensures.spends); compares = parts_stopped I (omega (arith, c.loop-part-test.true)) c.in_err-compare_parts_first.ensures.compares c.compare_parts_first.auto.w (λ z. code_nonzero _ z) })
 
-pub attempt-shape_of-w-then-c-ne0 : goal.attempt-shape_of-w-then-c-ne0
-attempt-shape_of-w-then-c-ne0 t c = c.compare_parts_first-c.auto.w ∙ c.loop-parts.invariant.1.long
-
-pub attempt-returns-then-c-ne0 : goal.attempt-returns-then-c-ne0
-attempt-returns-then-c-ne0 t c =
-    record {
-      spends = omega (arith, c.loop-parts.invariant.0, c.compare_parts_first-c.ensures.spends);
-      compares =
-          parts_stopped c.loop-parts.invariant.1 c.loop-parts-test.true c.compare_parts_first-c.ensures.compares
-          c.compare_parts_first-c.auto.w c.if-c-ne0.true;
-    }
-
-pub attempt-loop-parts-preserved : goal.attempt-loop-parts-preserved
-attempt-loop-parts-preserved t c = (
-  omega (arith, c.loop-parts.invariant.0, c.compare_parts_first-c.ensures.spends),
-  parts_next c.loop-parts.invariant.1 c.loop-parts-test.true c.compare_parts_first-c.ensures.compares
-      c.compare_parts_first-c.auto.w c.if-c-ne0.false c.skip-i.ensures c.skip-j.ensures,
-)
-
-pub attempt-shape_of-w : goal.attempt-shape_of-w
-attempt-shape_of-w t c = c.loop-parts.invariant.1.long
+pub attempt-loop-part-preserved : goal.attempt-loop-part-preserved
+attempt-loop-part-preserved t c =
+    let I = c.loop-part.invariant.1 in
+    let left : c.in-Some.parts - (c.loop-part._part + 1) ≡ c.in-Some.parts - c.loop-part._part - 1 = omega arith in
+    (omega (arith, c.loop-part.invariant.0, c.compare_parts_first.ensures.spends), rw left (parts_next I (omega (arith, c.loop-part-test.true)) c.in_ok-compare_parts_first.ensures.compares c.compare_parts_first.auto.w refl c.skip-i.ensures c.skip-j.ensures))
 
 pub attempt-returns : goal.attempt-returns
-attempt-returns t c = record { spends = c.loop-parts.invariant.0; compares = parts_done c.loop-parts.invariant.1 (omega (arith, c.loop-parts-test.false)) }
+attempt-returns t c = record { spends = c.loop-part.invariant.0; compares = parts_done c.loop-part.invariant.1 (omega (arith, c.loop-part-test.false)) }
 
 pub compare_parts_first-returns-then-deeper-eq0 : goal.compare_parts_first-returns-then-deeper-eq0
-compare_parts_first-returns-then-deeper-eq0 t c = record {
-  spends = omega arith;
-  compares = no_levels (λ ls e f. parts_first_none ls _ e f _) (omega (arith, c.if-deeper-eq0.true));
-}
-
-pub compare_parts_first-returns-then-deeper-gt-NESTING : goal.compare_parts_first-returns-then-deeper-gt-NESTING
-compare_parts_first-returns-then-deeper-gt-NESTING t c = record { spends = omega arith; compares = many_levels c.if-deeper-gt-NESTING.true }
-
-pub compare_parts_first-returns-then-limit-gt-LARGEST_LIMIT : goal.compare_parts_first-returns-then-limit-gt-LARGEST_LIMIT
-compare_parts_first-returns-then-limit-gt-LARGEST_LIMIT t c = record { spends = omega arith; compares = no_units c.if-limit-gt-LARGEST_LIMIT.true }
+compare_parts_first-returns-then-deeper-eq0 t c =
+    record { spends = omega arith; compares = no_pair (λ ls e f. parts_first_none ls _ e f _) (λ p q r. omega arith) }
 
 pub compare_parts_first-overflow_add-r : goal.compare_parts_first-overflow_add-r
 compare_parts_first-overflow_add-r t c = omega (arith, side_small _ c.args.deeper _ (opened t c).small (opened t c).left)
 
-pub compare_parts_first-shape_of-w-then-o : goal.compare_parts_first-shape_of-w-then-o
-compare_parts_first-shape_of-w-then-o t c = c.open_pair-o.auto.w
-
-pub compare_parts_first-returns-then-o : goal.compare_parts_first-returns-then-o
-compare_parts_first-returns-then-o t c = first_same (opened t (goal.at.compare_parts_first-returns-then-o t c).After-side_at-l) c.open_pair-o.ensures c.if-o.true
-
-pub compare_parts_first-loop-limit-init : goal.compare_parts_first-loop-limit-init
-compare_parts_first-loop-limit-init t c = passed_none _
-
-pub compare_parts_first-shape_of-w-then-identical : goal.compare_parts_first-shape_of-w-then-identical
-compare_parts_first-shape_of-w-then-identical t c = c.loop-limit.invariant.progressed.long ∙ c.open_pair-o.auto.w
+pub compare_parts_first-returns-in_default : goal.compare_parts_first-returns-in_default
+compare_parts_first-returns-in_default t c = first_same (opened t (goal.at.compare_parts_first-returns-in_default t c).After-side_at-l) c.in_default.ensures refl
 
 pub compare_parts_first-returns-then-identical : goal.compare_parts_first-returns-then-identical
 compare_parts_first-returns-then-identical t c =
-    pass_same (opened t (goal.at.compare_parts_first-returns-then-identical t c).After-side_at-l) (put_in_place c.open_pair-o.ensures c.if-o.false c.open_pair-o.auto.w) c.loop-limit.invariant
+    pass_same (opened t (goal.at.compare_parts_first-returns-then-identical t c).After-side_at-l) (put_in_place c.in-Some.ensures refl c.open_pair.auto.w) c.loop-limit.invariant
     c.identical.ensures c.if-identical.true
 
-pub compare_parts_first-overflow_sub-deeper : goal.compare_parts_first-overflow_sub-deeper
-compare_parts_first-overflow_sub-deeper t c = omega (arith, c.if-deeper-eq0.false)
+pub compare_parts_first-returns-in_default-attempt : goal.compare_parts_first-returns-in_default-attempt
+compare_parts_first-returns-in_default-attempt t c =
+    pass_stands (opened t (goal.at.compare_parts_first-returns-in_default-attempt t c).After-side_at-l) (put_in_place c.in-Some.ensures refl c.open_pair.auto.w) c.loop-limit.invariant
+    c.identical.ensures c.if-identical.false
+    c.in_default-attempt.ensures c.attempt.auto.w (λ q. omega arith)
 
-pub compare_parts_first-attempt-c-requires : goal.compare_parts_first-attempt-c-requires
-compare_parts_first-attempt-c-requires t c =
-    (omega (arith, c.if-deeper-eq0.false, c.decreases), tt)
+pub compare_parts_first-returns-then-ne : goal.compare_parts_first-returns-then-ne
+compare_parts_first-returns-then-ne t c =
+    pass_stands (opened t (goal.at.compare_parts_first-returns-then-ne t c).After-side_at-l) (put_in_place c.in-Some.ensures refl c.open_pair.auto.w) c.loop-limit.invariant
+    c.identical.ensures c.if-identical.false
+    c.in-Err.ensures c.attempt.auto.w
+    λ q. let e : c.in-Err.reason ≡ Mismatch = different _ q in let g : true ≡ false = rw e at c.if-ne.ensures in absurd (cc)
 
-pub compare_parts_first-shape_of-w-then-c-ne-MISMATCH : goal.compare_parts_first-shape_of-w-then-c-ne-MISMATCH
-compare_parts_first-shape_of-w-then-c-ne-MISMATCH t c =
-    c.attempt-c.auto.w ∙ c.loop-limit.invariant.progressed.long ∙ c.open_pair-o.auto.w
+pub compare_parts_first-returns-in_err-turn : goal.compare_parts_first-returns-in_err-turn
+compare_parts_first-returns-in_err-turn t c =
+    let p = err_from_is_err_and c.from_residual.result c.from_residual.ensures.1 in
+    rw (p.1, p.2)
+    (pass_ended (opened t (goal.at.compare_parts_first-returns-in_err-turn t c).After-side_at-l) (put_in_place c.in-Some.ensures refl c.open_pair.auto.w) c.loop-limit.invariant
+    c.identical.ensures c.if-identical.false
+    (rw (mismatched _ c.if-ne.ensures) at c.in-Err.ensures) c.attempt.auto.w c.in_err-turn.ensures refl)
 
-pub compare_parts_first-returns-then-c-ne-MISMATCH : goal.compare_parts_first-returns-then-c-ne-MISMATCH
-compare_parts_first-returns-then-c-ne-MISMATCH t c =
-    pass_stands (opened t (goal.at.compare_parts_first-returns-then-c-ne-MISMATCH t c).After-side_at-l) (put_in_place c.open_pair-o.ensures c.if-o.false c.open_pair-o.auto.w) c.loop-limit.invariant
-    c.identical.ensures c.if-identical.false c.attempt-c.ensures c.attempt-c.auto.w c.if-c-ne-MISMATCH.true
+pub compare_parts_first-returns-in-Identical : goal.compare_parts_first-returns-in-Identical
+compare_parts_first-returns-in-Identical t c =
+    pass_ended (opened t (goal.at.compare_parts_first-returns-in-Identical t c).After-side_at-l) (put_in_place c.in-Some.ensures refl c.open_pair.auto.w) c.loop-limit.invariant
+    c.identical.ensures c.if-identical.false
+    (rw (mismatched _ c.if-ne.ensures) at c.in-Err.ensures) c.attempt.auto.w (rw c.in-Identical.is at c.in_ok-turn.ensures) refl
 
-pub compare_parts_first-shape_of-w-then-t-eq1 : goal.compare_parts_first-shape_of-w-then-t-eq1
-compare_parts_first-shape_of-w-then-t-eq1 t c =
-    c.turn-t.auto.w ∙ c.attempt-c.auto.w ∙ c.loop-limit.invariant.progressed.long ∙ c.open_pair-o.auto.w
-
-pub compare_parts_first-returns-then-t-eq1 : goal.compare_parts_first-returns-then-t-eq1
-compare_parts_first-returns-then-t-eq1 t c =
-    pass_different (opened t (goal.at.compare_parts_first-returns-then-t-eq1 t c).After-side_at-l) (put_in_place c.open_pair-o.ensures c.if-o.false c.open_pair-o.auto.w) c.loop-limit.invariant
-    c.identical.ensures c.if-identical.false c.attempt-c.ensures c.attempt-c.auto.w c.if-c-ne-MISMATCH.false
-    c.turn-t.ensures c.turn-t.auto.w c.if-t-eq1.true
-
-pub compare_parts_first-shape_of-w-then-t-ne2 : goal.compare_parts_first-shape_of-w-then-t-ne2
-compare_parts_first-shape_of-w-then-t-ne2 t c =
-    c.turn-t.auto.w ∙ c.attempt-c.auto.w ∙ c.loop-limit.invariant.progressed.long ∙ c.open_pair-o.auto.w
-
-pub compare_parts_first-returns-then-t-ne2 : goal.compare_parts_first-returns-then-t-ne2
-compare_parts_first-returns-then-t-ne2 t c =
-    pass_ended (opened t (goal.at.compare_parts_first-returns-then-t-ne2 t c).After-side_at-l) (put_in_place c.open_pair-o.ensures c.if-o.false c.open_pair-o.auto.w) c.loop-limit.invariant
-    c.identical.ensures c.if-identical.false c.attempt-c.ensures c.attempt-c.auto.w c.if-c-ne-MISMATCH.false
-    c.turn-t.ensures c.turn-t.auto.w c.if-t-eq1.false c.if-t-ne2.true
-
-pub compare_parts_first-loop-limit-smaller : goal.compare_parts_first-loop-limit-smaller
-compare_parts_first-loop-limit-smaller t c =
-    omega (arith, c.turn-t.ensures.counts c.if-t-ne2.false, c.attempt-c.ensures.spends)
+pub compare_parts_first-returns-in-Normal : goal.compare_parts_first-returns-in-Normal
+compare_parts_first-returns-in-Normal t c =
+    pass_ended (opened t (goal.at.compare_parts_first-returns-in-Normal t c).After-side_at-l) (put_in_place c.in-Some.ensures refl c.open_pair.auto.w) c.loop-limit.invariant
+    c.identical.ensures c.if-identical.false
+    (rw (mismatched _ c.if-ne.ensures) at c.in-Err.ensures) c.attempt.auto.w (rw c.in-Normal.is at c.in_ok-turn.ensures) refl
 
 pub compare_parts_first-loop-limit-preserved : goal.compare_parts_first-loop-limit-preserved
 compare_parts_first-loop-limit-preserved t c =
-    pass_next (opened t (goal.at.compare_parts_first-loop-limit-preserved t c).After-side_at-l) (put_in_place c.open_pair-o.ensures c.if-o.false c.open_pair-o.auto.w) c.loop-limit.invariant
-    c.identical.ensures c.if-identical.false c.attempt-c.ensures c.attempt-c.auto.w c.if-c-ne-MISMATCH.false
-    c.turn-t.ensures c.turn-t.auto.w c.if-t-ne2.false
+    pass_next (opened t (goal.at.compare_parts_first-loop-limit-preserved t c).After-side_at-l) (put_in_place c.in-Some.ensures refl c.open_pair.auto.w) c.loop-limit.invariant
+    c.identical.ensures c.if-identical.false
+    (rw (mismatched _ c.if-ne.ensures) at c.in-Err.ensures) c.attempt.auto.w (rw c.in-Stepped.is at c.in_ok-turn.ensures) c.turn.auto.w

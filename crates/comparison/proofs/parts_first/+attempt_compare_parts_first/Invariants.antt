@@ -1,5 +1,5 @@
 -- The levels fall: compare_parts_first 2n, attempt 2n + 1 of one level less; in the loop the budget falls.
-use Prim.Native.Nat.{◌+◌, ◌*◌, ◌≤◌}
+use Prim.Native.Nat.{◌+◌, ◌*◌, ◌-◌, ◌≤◌}
 use Rattle.aut68.specs.Procedure.PartsFirst.{parts_first_at}
 use Rattle.comparison.proofs.Parts.{PartsInvariant}
 use Rattle.comparison.proofs.Attempts.{Passed}
@@ -11,14 +11,12 @@ decreases-attempt l = 2 * l.deeper + 1
 abbrev pub decreases-compare_parts_first : goal.decreases-compare_parts_first
 decreases-compare_parts_first l = 2 * l.deeper
 
-abbrev pub invariant-attempt-loop-parts : goal.invariant-attempt-loop-parts
-invariant-attempt-loop-parts l = (l.rest ≤ l.budget) × PartsInvariant parts_first_at l.table l.terms l.initial.w l.limit l.budget l.l l.r l.deeper l.w l.parts l.i l.j l.rest
-
-abbrev pub decreases-attempt-loop-parts : goal.decreases-attempt-loop-parts
-decreases-attempt-loop-parts l = l.parts
+abbrev pub invariant-attempt-loop-part : goal.invariant-attempt-loop-part
+invariant-attempt-loop-part l = (l.budget ≤ l.initial.budget)
+    × PartsInvariant parts_first_at l.table l.terms l.initial.w l.limit l.initial.budget l.l l.r l.deeper l.w (l.parts - l._part) l.i l.j l.budget
 
 abbrev pub invariant-compare_parts_first-loop-limit : goal.invariant-compare_parts_first-loop-limit
-invariant-compare_parts_first-loop-limit l = Passed l.deeper l.table l.terms l.initial.w l.limit l.initial.rest l.l l.initial.left l.r l.initial.right l.w l.left l.right l.rest
+invariant-compare_parts_first-loop-limit l = Passed l.deeper l.table l.terms l.initial.w l.limit l.initial.budget l.l l.initial.left l.r l.initial.right l.w l.left l.right l.budget
 
 abbrev pub decreases-compare_parts_first-loop-limit : goal.decreases-compare_parts_first-loop-limit
-decreases-compare_parts_first-loop-limit l = l.rest
+decreases-compare_parts_first-loop-limit l = l.budget
