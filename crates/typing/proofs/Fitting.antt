@@ -65,7 +65,7 @@ module _ {tb ts w w₁ : List ℕ} {limit : ℕ} (level wanted : ℕ) {base coun
       (unit_below limit {j = level_unit level} {k = level_unit (level + 2)} (omega arith)) jy (wanted_numbered B A.is_line A.in_context jy earlier)
       A.base_is A.counted A.few A.known A.lie pf
 
-  pub wanted_too_large : {budget code rest : ℕ} → limit < n → code ≡ 10 → rest ≡ budget → WantedPost tb ts w limit budget level wanted base count starts w₁ code rest
+  pub wanted_too_large : {budget code rest : ℕ} → (limit ≤ largest_limit → limit < n) → code ≡ 10 → rest ≡ budget → WantedPost tb ts w limit budget level wanted base count starts w₁ code rest
   unfolding wanted_fits
   wanted_too_large {budget} g z q = record {
     frame = wanted_frame;
@@ -73,7 +73,7 @@ module _ {tb ts w w₁ : List ℕ} {limit : ℕ} (level wanted : ℕ) {base coun
         let X = wanted_line B A in
         let e = instantiate l.context earlier 0 X.line.category in
         at_line _ budget X.is_line (rw (z, q) (then_refused {R = λ _. Unit {0}} _ (λ x. omega arith)
-        (made_refused e (made_large (wanted_made B room A X.is_line) g) refl refl)));
+        (made_refused e (made_large (wanted_made B room A X.is_line) (g B.limit)) refl refl)));
   }
 
   pub wanted_compared : {w₂ : List ℕ} {budget code rest : ℕ} → n ≤ limit → ComparePost tb ts w₁ limit budget (level + 1) (level + 2) w₂ code rest

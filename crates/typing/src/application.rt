@@ -1,17 +1,20 @@
 // What is found for `<A>B`, from what was found for its parts.
-ghost use Rattle.std.specs.Prelude.{◌+◌, ◌≤◌, ◌<◌, length};
+ghost use Rattle.std.specs.Prelude.{ℕ, ◌+◌, ◌≤◌, ◌<◌, length};
 ghost use Rattle.cells.specs.Layout.{levels};
+ghost use Rattle.constants.specs.Refusals.{code_in};
+ghost use Rattle.levels.specs.Finds.{found_size, found_extent};
 ghost use Rattle.typing.specs.ApplicationPosts.{AppliedPost};
 
 use cells::{level_at, result_at, scratch_at};
 use comparison::compare;
-use constants::{Cell, NESTING};
+use constants::{Cell, NESTING, Reason};
 use copies::load;
-use levels::{Found, made, refused};
+use levels::{Found, made};
+use reduction::Function;
 use terms::substitute;
 
 // The category of `<A>B` at the start of e, B of `extent` cells at index b, from the function that B's category reaches, at this
-// level, and A's category, at the next: their comparison, then the body with A put in; or the refusal of A's.
+// level, and A's category, at the next: their comparison, then the body with A put in.
 pub fn applied(
     table: &[u32],
     terms: &[Cell],
@@ -20,26 +23,19 @@ pub fn applied(
     extent: usize,
     w: &mut [Cell],
     limit: usize,
+    budget: &mut u32,
     level: usize,
-    domain: usize,
-    body: usize,
-    found: Found,
-) -> Found
+    function: Function,
+) -> Result<Found, Reason>
     requires { (level + 1 < levels) × (1 ≤ b) × (b + extent ≤ length e.now) }
-    ensures { AppliedPost table.now terms.now e.now b extent w.old limit level domain body found.code found.size found.budget
-        w.new result.code result.size result.extent result.budget }
+    ensures { (size : ℕ) → AppliedPost table.now terms.now e.now b extent w.old limit level function.domain function.body 0 size budget.old
+        w.new (code_in result) (found_size result) (found_extent result) budget.new }
 {
-    if found.code != 0 {
-        return refused(found.code, found.budget);
-    }
     let a = level_at(limit, level + 1);
-    let c = compare(table, terms, w, limit, found.budget, a, domain, NESTING);
-    if c.code != 0 {
-        return refused(c.code, c.budget);
-    }
+    compare(table, terms, w, limit, budget, a, function.domain, NESTING)?;
     let scratch = scratch_at(limit);
     let to = result_at(limit);
     load(e, 1, b - 1, w, scratch);
-    let n = substitute(table, w, body, scratch, to, limit);
-    made(w, limit, c.budget, level, n, b + extent)
+    let n = substitute(table, w, function.body, scratch, to, limit);
+    made(w, limit, level, n, b + extent)
 }

@@ -1,159 +1,133 @@
 // An argument of a constant: its category against the wanted one.
-ghost use Rattle.std.specs.Prelude.{◌≡◌, ◌+◌, ◌<◌};
+ghost use Rattle.std.specs.Prelude.{ℕ, ◌+◌, ◌<◌};
+ghost use Rattle.aut68.specs.Lines.{row_cell};
+ghost use Rattle.aut68.specs.Sizes.{at_category, at_end};
 ghost use Rattle.cells.specs.Layout.{levels};
+ghost use Rattle.constants.specs.Refusals.{code_in};
+ghost use Rattle.terms.specs.Made.{InstancePost};
 ghost use Rattle.typing.specs.FittingPosts.{WantedPost, StoredFitsPost, ArgumentFitsPost};
 
 use crate::comparisons::compare_units;
 use cells::{field, level_at};
-use constants::{CATEGORY_END, CATEGORY_START, Cell, TOO_LARGE};
+use constants::{CATEGORY_END, CATEGORY_START, Cell, Reason};
 use instances::instantiate;
-use levels::{Argued, Checked, Found, stored};
+use levels::stored;
 use matching::is_instance;
 
-// The wanted category of an argument, that of the context variable on line `wanted` with the arguments before put in, two levels
-// deeper; its comparison with what was found one level deeper.
+// The wanted category of an argument: that of the context variable on a line, with the arguments before put in, `count` of them, which
+// lie from `base` on, each where `starts` says.
+#[derive(Clone, Copy)]
+pub struct Wanted<'a> {
+    pub line: usize,
+    pub base: usize,
+    pub count: usize,
+    pub starts: &'a [Cell; 64],
+}
+
+impl Wanted<'_> {
+    // Is it seen at once that the wanted category is the n cells of f from `at` on?
+    fn seen_at(
+        self,
+        table: &[u32],
+        terms: &[Cell],
+        w: &[Cell],
+        f: &[Cell],
+        at: usize,
+        n: usize,
+    ) -> bool
+        ensures { InstancePost table.now terms.now (row_cell table.now self.entry.line at_category) (row_cell table.now self.entry.line at_end)
+            w.now self.entry.base self.entry.count self.entry.starts.now f.now at n result }
+    {
+        let from = field(table, self.line, CATEGORY_START);
+        let stop = field(table, self.line, CATEGORY_END);
+        is_instance(
+            table,
+            terms,
+            from,
+            stop,
+            w,
+            self.base,
+            self.count,
+            self.starts,
+            f,
+            at,
+            n,
+        )
+    }
+}
+
+// The wanted category of an argument, two levels deeper; its comparison with what was found one level deeper.
 fn compare_wanted(
     table: &[u32],
     terms: &[Cell],
     w: &mut [Cell],
     limit: usize,
-    budget: u32,
+    budget: &mut u32,
     level: usize,
-    wanted: usize,
-    base: usize,
-    count: usize,
-    starts: &[Cell; 64],
-) -> Checked
+    wanted: Wanted,
+) -> Result<(), Reason>
     requires { level + 2 < levels }
-    ensures { WantedPost table.now terms.now w.old limit budget level wanted base count starts.now w.new result.code result.budget }
+    ensures { WantedPost table.now terms.now w.old limit budget.old level
+        wanted.entry.line wanted.entry.base wanted.entry.count wanted.entry.starts.now w.new (code_in result) budget.new }
 {
-    let from = field(table, wanted, CATEGORY_START);
+    let Wanted {
+        line,
+        base,
+        count,
+        starts,
+    } = wanted;
+    let from = field(table, line, CATEGORY_START);
     let to = level_at(limit, level + 2);
-    let n = instantiate(table, terms, from, w, base, count, starts, to, limit);
-    if n > limit {
-        return Checked {
-            code: TOO_LARGE,
-            budget: budget,
-        };
+    let made = instantiate(table, terms, from, w, base, count, starts, to, limit);
+    if made.is_none() {
+        return Err(Reason::TooLarge);
     }
     compare_units(table, terms, w, limit, budget, level + 1, level + 2)
 }
 
-// An argument of a constant whose category is stored on line v: that category and the wanted one, of the context variable on line
-// `wanted` with the arguments before put in, compared.
+// An argument of a constant whose category is stored on line v: that category and the wanted one, compared.
 pub fn stored_fits(
     table: &[u32],
     terms: &[Cell],
     w: &mut [Cell],
     limit: usize,
-    budget: u32,
+    budget: &mut u32,
     level: usize,
     v: usize,
-    wanted: usize,
-    base: usize,
-    count: usize,
-    starts: &[Cell; 64],
-) -> Argued
+    wanted: Wanted,
+) -> Result<(), Reason>
     requires { level + 2 < levels }
-    ensures { StoredFitsPost table.now terms.now w.old limit budget level v wanted base count starts.now w.new result.code result.budget × (result.extent ≡ 1) }
+    ensures { StoredFitsPost table.now terms.now w.old limit budget.old level v
+        wanted.entry.line wanted.entry.base wanted.entry.count wanted.entry.starts.now w.new (code_in result) budget.new }
 {
     let at = field(table, v, CATEGORY_START);
     let end = field(table, v, CATEGORY_END);
-    let from = field(table, wanted, CATEGORY_START);
-    let stop = field(table, wanted, CATEGORY_END);
-    if end >= at {
-        if end - at <= limit {
-            if is_instance(
-                table,
-                terms,
-                from,
-                stop,
-                w,
-                base,
-                count,
-                starts,
-                terms,
-                at,
-                end - at,
-            ) {
-                return Argued {
-                    code: 0,
-                    extent: 1,
-                    budget: budget,
-                };
-            }
-        }
+    if end >= at && end - at <= limit && wanted.seen_at(table, terms, w, terms, at, end - at) {
+        return Ok(());
     }
-    let f = stored(table, terms, w, limit, budget, level + 1, v);
-    if f.code != 0 {
-        return Argued {
-            code: f.code,
-            extent: 1,
-            budget: f.budget,
-        };
-    }
-    let c = compare_wanted(
-        table, terms, w, limit, f.budget, level, wanted, base, count, starts,
-    );
-    Argued {
-        code: c.code,
-        extent: 1,
-        budget: c.budget,
-    }
+    stored(table, terms, w, limit, level + 1, v)?;
+    compare_wanted(table, terms, w, limit, budget, level, wanted)
 }
 
-// An argument of a constant whose category was found at the next level: the wanted category, of the context variable on line
-// `wanted` with the arguments before put in, and their comparison; or the refusal of the found one.
+// An argument of a constant whose category, of `size` cells, was found at the next level: that category and the wanted one, compared.
 pub fn argument_fits(
     table: &[u32],
     terms: &[Cell],
     w: &mut [Cell],
     limit: usize,
-    found: Found,
+    budget: &mut u32,
+    size: usize,
     level: usize,
-    wanted: usize,
-    base: usize,
-    count: usize,
-    starts: &[Cell; 64],
-) -> Argued
+    wanted: Wanted,
+) -> Result<(), Reason>
     requires { level + 2 < levels }
-    ensures { ArgumentFitsPost table.now terms.now w.old limit found.code found.size found.budget level wanted base count starts.now
-        w.new result.code result.budget × (result.extent ≡ found.extent) }
+    ensures { ArgumentFitsPost table.now terms.now w.old limit 0 size budget.old level
+        wanted.entry.line wanted.entry.base wanted.entry.count wanted.entry.starts.now
+        w.new (code_in result) budget.new }
 {
-    if found.code != 0 {
-        return Argued {
-            code: found.code,
-            extent: found.extent,
-            budget: found.budget,
-        };
-    }
-    let from = field(table, wanted, CATEGORY_START);
-    let stop = field(table, wanted, CATEGORY_END);
     let at = level_at(limit, level + 1);
-    if is_instance(
-        table, terms, from, stop, w, base, count, starts, w, at, found.size,
-    ) {
-        return Argued {
-            code: 0,
-            extent: found.extent,
-            budget: found.budget,
-        };
+    if wanted.seen_at(table, terms, w, w, at, size) {
+        return Ok(());
     }
-    let c = compare_wanted(
-        table,
-        terms,
-        w,
-        limit,
-        found.budget,
-        level,
-        wanted,
-        base,
-        count,
-        starts,
-    );
-    Argued {
-        code: c.code,
-        extent: found.extent,
-        budget: c.budget,
-    }
+    compare_wanted(table, terms, w, limit, budget, level, wanted)
 }

@@ -9,5 +9,5 @@ mod arguments;
 mod comparisons;
 
 pub use application::applied;
-pub use arguments::{argument_fits, stored_fits};
+pub use arguments::{Wanted, argument_fits, stored_fits};
 pub use comparisons::compare_units;

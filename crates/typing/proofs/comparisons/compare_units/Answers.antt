@@ -4,4 +4,4 @@ use Rattle.typing.proofs.comparisons.compare_units.Goals as goal
 
 pub returns : goal.returns
 returns c =
-    units_compared c.requires.0 c.requires.1 (λ h. c.level_at-a.ensures h c.requires.0) (λ h. c.level_at-b.ensures h c.requires.1) c.compare-c.ensures
+    units_compared c.requires.0 c.requires.1 (λ h. c.level_at-a.ensures h c.requires.0) (λ h. c.level_at-b.ensures h c.requires.1) c.compare.ensures
