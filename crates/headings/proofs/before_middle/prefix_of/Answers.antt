@@ -1,4 +1,3 @@
-use native.Mathlib.Omega.{arith}
 use Rattle.headings.proofs.HeadLaws.{prefix_empty, prefix_malformed, prefix_named, prefix_none}
 use Rattle.headings.proofs.before_middle.prefix_of.Goals as goal
 
@@ -9,9 +8,6 @@ pub returns-in_err-used : goal.returns-in_err-used
 returns-in_err-used c =
     prefix_none _ c.from_residual.ensures
     (prefix_malformed c.spaces-start.ensures c.kind_at.ensures c.if-kind_at-ne-NAME.false c.in_err-used.ensures)
-
-pub overflow_add-result : goal.overflow_add-result
-overflow_add-result c = omega (arith, c.in_ok-used.ensures.2.within (omega arith))
 
 pub returns : goal.returns
 returns c = prefix_named c.spaces-start.ensures c.kind_at.ensures c.if-kind_at-ne-NAME.false c.in_ok-used.ensures

@@ -12,8 +12,5 @@ returns-then-book-i-lt-STRIDE c = line_ends_later c.loop-i.invariant (omega arit
 pub loop-i-preserved : goal.loop-i-preserved
 loop-i-preserved c = no_end_part c.loop-i.invariant (omega arith) (sym c.if-contains.false ∙ c.contains.ensures.value)
 
-pub loop-i-smaller : goal.loop-i-smaller
-loop-i-smaller c = omega arith
-
 pub returns : goal.returns
 returns c = book_ends_here c.loop-i.invariant (omega arith) (omega arith) c.loop-i.invariant.within
