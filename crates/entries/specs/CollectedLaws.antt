@@ -1,10 +1,12 @@
 -- Laws: lines collected behind others.
 use Rattle.std.specs.Prelude.{◌≡◌, refl, ◌⊎◌, ◌≢◌, Bool, true, false, ℕ, suc, ◌+◌, ◌-◌, ◌/◌, ◌%◌, ◌≤◌, ◌<◌, length, take, drop, set}
-use Rattle.std.proofs.Common.{sym, ap, ◌∙◌, inl, inr, add-zero, arith, length-set, length-append, drop-set-lt, get_or-take, get_or-drop, get_or-set_same, get_or-set_other}
+use Rattle.std.proofs.Common.{sym, ap, ◌∙◌, inl, inr, add-zero, arith, length-take-le, length-set, length-append, drop-set-lt, get_or-take, get_or-drop, get_or-set_same, get_or-set_other}
 use mathlib.Core.List.{List, [], ◌∷◌, ◌++◌, append_assoc, append-nil}
 use Rattle.std.proofs.Math.Decide.{ℕ_discrete}
-use Rattle.std.proofs.Math.ListN.{get_or}
-use Rattle.std.proofs.Math.Seq.{slice, slice_empty, take-set-lt}
+use Rattle.std.proofs.Math.ListN.{get_or, replicate, length-drop, length-replicate, get_or-append, get_or-replicate}
+use Rattle.std.proofs.Math.Seq.{slice, slice_empty, take-set-lt, get_or-append-add}
+use Rattle.std.proofs.lemmas.Slice.{take-put_mid_below}
+use borrow.Rule.Slice.PartMut.{put_mid}
 use Rattle.std.proofs.lemmas.List.{take-set-le}
 use Rattle.aut68.specs.Sizes.{cell_factor}
 use Rattle.aut68.specs.Rules.Names.{Member, here}
@@ -75,6 +77,34 @@ emptied {w' = w'} s h = record {
   spared = s;
   none = λ at. record { same = λ v. rw (slice_none w' at) (λ m. m, λ m. m); slotted = λ k l d. absurd (d (h k l)) };
 }
+
+-- the slots filled at once
+pub emptied_part : (w : List ℕ) (slots : ℕ) {xs : List ℕ} → slots + slot_count ≤ length w → xs ≡ replicate (slots + slot_count - slots) no_line
+    → Emptied w (put_mid slots (slots + slot_count - slots) w xs) slots
+emptied_part w slots {xs} h e = emptied (λ at end l. record { long = long; ahead = below at l; between = ap (drop end) (below slots (omega arith)) }) each
+  where
+    rest : List ℕ
+    rest = drop (slots + slot_count - slots) (drop slots w)
+
+    front : length (take slots w) ≡ slots
+    front = length-take-le slots w (omega arith)
+
+    filled : length xs ≡ slot_count
+    filled = ap length e ∙ length-replicate (slots + slot_count - slots) no_line ∙ omega arith
+
+    long : length (take slots w ++ (xs ++ rest)) ≡ length w
+    long = omega (arith, length-append (take slots w) (xs ++ rest), length-append xs rest, length-drop (slots + slot_count - slots) (drop slots w), length-drop slots w, front, filled)
+
+    below : (n : ℕ) → n ≤ slots → take n (take slots w ++ (xs ++ rest)) ≡ take n w
+    below n l = take-put_mid_below slots (slots + slot_count - slots) w xs n l (omega arith)
+
+    each : (k : ℕ) → k < slot_count → get_or (take slots w ++ (xs ++ rest)) (slots + k) 0 ≡ no_line
+    each k l =
+        ap (λ (n : ℕ). get_or (take slots w ++ (xs ++ rest)) (n + k) 0) (sym front)
+        ∙ get_or-append-add (take slots w) (xs ++ rest) k 0
+        ∙ get_or-append xs rest 0 k (omega (arith, filled))
+        ∙ ap (λ (ys : List ℕ). get_or ys k 0) e
+        ∙ get_or-replicate (slots + slot_count - slots) k no_line 0 (omega arith)
 
 -- ---- lines collected one after the other
 

@@ -14,18 +14,14 @@ use constants::{CELL_FACTOR, Cell};
 const SLOTS: usize = 64;
 
 // No line has this number.
-const NO_LINE: Cell = 4294967295;
+const NO_LINE: Cell = Cell::MAX;
 
 // Nothing is in the slots from `slots` on.
 pub fn empty(w: &mut [Cell], slots: usize)
     requires { slots + slot_count ≤ length w.old }
     ensures { Emptied w.old w.new slots }
 {
-    let mut i = 0;
-    while i < SLOTS {
-        w[slots + i] = NO_LINE;
-        i = i + 1;
-    }
+    w[slots..slots + SLOTS].fill(NO_LINE);
 }
 
 // Puts line v behind the n lines collected from `at` on, unless its slot has it; how many they are then.
@@ -59,13 +55,11 @@ pub fn collect(w: &mut [Cell], from: usize, size: usize, at: usize, n: usize, sl
     ensures { Adds w.old w.new at n slots (numbers_in (slice from (from + size) w.old)) result }
 {
     let mut count = n;
-    let mut i = 0;
-    while i < size {
+    for i in 0..size {
         let x = w[from + i];
         if names_line(x) {
             count = add(w, at, count, x / CELL_FACTOR, slots);
         }
-        i = i + 1;
     }
     count
 }

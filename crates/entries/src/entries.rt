@@ -11,19 +11,10 @@ use sorting::sort;
 pub fn line_names(w: &mut [Cell], limit: usize, size: usize, indicator: usize) -> usize
     ensures { NamesPost limit size indicator w.old w.new result }
 {
-    if limit < SMALLEST_LIMIT {
+    if limit < SMALLEST_LIMIT || limit > LARGEST_LIMIT {
         return 0;
     }
-    if limit > LARGEST_LIMIT {
-        return 0;
-    }
-    if w.len() < WORK_UNITS * limit {
-        return 0;
-    }
-    if size > 2 * limit {
-        return 0;
-    }
-    if indicator >= LINE_LIMIT {
+    if w.len() < WORK_UNITS * limit || size > 2 * limit || indicator >= LINE_LIMIT {
         return 0;
     }
     let at = names_at(limit);
@@ -39,26 +30,13 @@ pub fn line_names(w: &mut [Cell], limit: usize, size: usize, indicator: usize) -
 pub fn put_entry(index: &mut [u32], used: usize, w: &[Cell], at: usize, n: usize)
     ensures { EntryPost index.old used w.now at n index.new }
 {
-    if used >= index.len() {
+    if used >= index.len() || n >= index.len() - used || at > w.len() || n > w.len() - at {
         return;
     }
-    if n >= index.len() - used {
+    let Ok(count) = u32::try_from(n) else {
         return;
-    }
-    if at > w.len() {
-        return;
-    }
-    if n > w.len() - at {
-        return;
-    }
-    if n > 4294967295 {
-        return;
-    }
-    let count = n as u32;
+    };
     index[used] = count;
-    let mut i = 0;
-    while i < n {
-        index[used + 1 + i] = w[at + i];
-        i = i + 1;
-    }
+    let first = used + 1;
+    index[first..first + n].copy_from_slice(&w[at..at + n]);
 }

@@ -8,9 +8,6 @@ pub returns-then-indicator-eq0 : goal.returns-then-indicator-eq0
 unfolding mentioned_as_indicator
 returns-then-indicator-eq0 c = rw c.if-indicator-eq0.true adds_none
 
-pub overflow_cast-indicator : goal.overflow_cast-indicator
-overflow_cast-indicator c = omega arith
-
 pub add-requires : goal.add-requires
 add-requires c = (omega arith, omega arith, λ e. omega arith)
 

@@ -11,21 +11,6 @@ loop-i-init c =
     let p = c.requires in
     (omega arith, p.0, p.1, p.2, (refl, omega arith, adds_start c.args.from))
 
-pub overflow_add-x : goal.overflow_add-x
-overflow_add-x c = omega arith
-
-pub offset_bounds-w-from : goal.offset_bounds-w-from
-offset_bounds-w-from c = omega arith
-
-pub bounds-w-from : goal.bounds-w-from
-bounds-w-from c = omega arith
-
-pub overflow_add-i : goal.overflow_add-i
-overflow_add-i c = omega arith
-
-pub loop-i-smaller : goal.loop-i-smaller
-loop-i-smaller c = omega arith
-
 pub loop-i-preserved : goal.loop-i-preserved
 loop-i-preserved c =
     let I = c.loop-i.invariant in
@@ -49,9 +34,6 @@ loop-i-preserved c =
         )
       ],
     )
-
-pub shape_of-w : goal.shape_of-w
-shape_of-w c = omega arith
 
 pub returns : goal.returns
 returns c =

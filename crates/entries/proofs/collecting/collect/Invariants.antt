@@ -1,6 +1,6 @@
 use mathlib.Core.Path.{◌≡◌}
 use mathlib.Core.List.{List}
-use Prim.Native.Nat.{ℕ, ◌+◌, ◌-◌, ◌≤◌}
+use Prim.Native.Nat.{ℕ, ◌+◌, ◌≤◌}
 use lib.ListN.{length}
 use lib.Seq.{slice}
 use Rattle.cells.specs.Numbers.{numbers_in}
@@ -18,6 +18,3 @@ invariant-loop-i l = (l.i ≤ l.size)
     × (l.from + l.size ≤ l.slots)
     × (l.slots + slot_count ≤ length l.initial.w)
     × Passed l.initial.w l.from l.at l.n l.slots l.w l.count l.i
-
-abbrev pub decreases-loop-i : goal.decreases-loop-i
-decreases-loop-i l = l.size - l.i

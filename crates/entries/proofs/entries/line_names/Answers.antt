@@ -2,7 +2,7 @@ use mathlib.Core.Path.{◌∙◌}
 use native.Mathlib.Omega.{arith}
 use Rattle.cells.specs.Layout.{unit_at}
 use Rattle.entries.specs.NamesLaws.{Placed, first_few, others_few, names_none, names_put}
-use Rattle.entries.proofs.entries.line_names.Goals.{After-level_at-spare}
+use Rattle.entries.proofs.entries.line_names.Goals.{After-level_at-spare, then-limit-lt-SMALLEST_LIMIT-via-then-limit-lt-SMALLEST_LIMIT, then-limit-lt-SMALLEST_LIMIT-via-else-limit-lt-SMALLEST_LIMIT+then-limit-gt-LARGEST_LIMIT, then-w-limit-via-then-w-limit, then-w-limit-via-else-w-limit+then-size-limit, then-w-limit-via-else-w-limit+else-size-limit+then-indicator-ge-LINE_LIMIT}
 use Rattle.entries.proofs.entries.line_names.Goals as goal
 
 placed : (c : After-level_at-spare)
@@ -20,25 +20,17 @@ placed c = record {
 }
 
 pub returns-then-limit-lt-SMALLEST_LIMIT : goal.returns-then-limit-lt-SMALLEST_LIMIT
-returns-then-limit-lt-SMALLEST_LIMIT c = names_none _ _ _ _ λ a b d s i. omega arith
-
-pub returns-then-limit-gt-LARGEST_LIMIT : goal.returns-then-limit-gt-LARGEST_LIMIT
-returns-then-limit-gt-LARGEST_LIMIT c = names_none _ _ _ _ λ a b d s i. omega arith
-
-pub overflow_mul-limit : goal.overflow_mul-limit
-overflow_mul-limit c = omega arith
+returns-then-limit-lt-SMALLEST_LIMIT c = names_none _ _ _ _ λ a b d s i. elim c.then-limit-lt-SMALLEST_LIMIT.branch [
+  | then-limit-lt-SMALLEST_LIMIT-via-then-limit-lt-SMALLEST_LIMIT v ↦ omega arith
+  | then-limit-lt-SMALLEST_LIMIT-via-else-limit-lt-SMALLEST_LIMIT+then-limit-gt-LARGEST_LIMIT v ↦ omega arith
+]
 
 pub returns-then-w-limit : goal.returns-then-w-limit
-returns-then-w-limit c = names_none _ _ _ _ λ a b d s i. omega arith
-
-pub overflow_mul-limit-2 : goal.overflow_mul-limit-2
-overflow_mul-limit-2 c = omega arith
-
-pub returns-then-size-limit : goal.returns-then-size-limit
-returns-then-size-limit c = names_none _ _ _ _ λ a b d s i. omega arith
-
-pub returns-then-indicator-ge-LINE_LIMIT : goal.returns-then-indicator-ge-LINE_LIMIT
-returns-then-indicator-ge-LINE_LIMIT c = names_none _ _ _ _ λ a b d s i. omega arith
+returns-then-w-limit c = names_none _ _ _ _ λ a b d s i. elim c.then-w-limit.branch [
+  | then-w-limit-via-then-w-limit v ↦ omega arith
+  | then-w-limit-via-else-w-limit+then-size-limit v ↦ omega arith
+  | then-w-limit-via-else-w-limit+else-size-limit+then-indicator-ge-LINE_LIMIT v ↦ omega arith
+]
 
 pub empty-requires : goal.empty-requires
 empty-requires c = omega (arith, placed (goal.at.empty-requires c).After-level_at-spare)
