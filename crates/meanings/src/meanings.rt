@@ -12,8 +12,8 @@ use names::part_is;
 use paragraphs::find_plain_first;
 
 // How many bindings stand between a plain name and its own, the innermost of that name (place_from); None: it is not bound.
-pub fn binding(line: &[u8], scope: Scope, word: &[u8]) -> Option<usize>
-    ensures { BindingFound line.now scope (plain word.now) (place_in result) }
+pub fn binding(line: &[u8], scope: &Scope, word: &[u8]) -> Option<usize>
+    ensures { BindingFound line.now scope.now (plain word.now) (place_in result) }
 {
     let bindings = scope.bound;
     if bindings > NESTING {
@@ -54,10 +54,9 @@ pub fn look_up(
 ) -> Sought
     ensures { SoughtFound kinds.now book.now table.now lines indicator w.now title.now word.now result }
 {
-    let v = find_plain_first(book, kinds, table, lines, w, title, word);
-    if v == 0 {
+    let Some(v) = find_plain_first(book, kinds, table, lines, w, title, word) else {
         return Sought::NoLine;
-    }
+    };
     if v >= LINE_LIMIT {
         return Sought::NoLine;
     }
