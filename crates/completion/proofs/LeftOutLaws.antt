@@ -1,5 +1,6 @@
 -- The last variable left out: found along the chain, it decides by one comparison whether all of them can be put in.
-use mathlib.Core.Path.{◌≡◌, refl, sym, ap, ◌∙◌}
+use mathlib.Core.Path.{◌≡◌, sym, ap, ◌∙◌, subst}
+use Rattle.std.specs.Prelude.{None, Some}
 use mathlib.Core.Bool.{Bool, true, false, false≢true}
 use mathlib.Core.List.{List, [], ◌∷◌, ◌++◌}
 use Prim.Native.Nat.{ℕ, zero, suc, ◌+◌, ◌-◌, ◌≤◌, ◌<◌}
@@ -87,25 +88,25 @@ module _ {ls : Lines} {book tb : List ℕ} {lines : ℕ} (k : Known ls book tb l
 
 module _ {tb w : List ℕ} {indicator v own count last : ℕ} {t : Bool} (e : own ≡ row_cell tb v at_indicator) (u : LineUp tb own count last)
     (i : InContext tb w indicator last t) where
-  pub left_out_here : t ≡ true → LastLeftOut tb w indicator v count last
+  pub left_out_here : t ≡ true → LastLeftOut tb w indicator v count (Some last)
   left_out_here r =
       record {
-        none = λ ls book lines k c b l h m z.
+        none = λ ls book lines k c b l h m z. absurd (cc);
+        some = λ ls book lines k c b l h m y z.
             let (s, x) = of_constant_lem k h e in
-            absurd (omega (arith, positive k x u (length l.context - suc count) (omega arith)));
-        some = λ ls book lines k c b l h m z.
-            let (s, x) = of_constant_lem k h e in (
-              omega (arith, u.is, up_within k own s count),
-              can k x u (length l.context - suc count) (omega arith) indicator b (sym (i.is ls book lines k c b (omega arith)) ∙ r),
-            );
+            let n = length l.context - suc count in
+            let p : 0 < last = positive k x u n (omega arith) in
+            let q : last ≡ y = cc in
+            subst (λ y. (1 ≤ y) × (y ≤ lines) × (left_out count l.context (context_at ls indicator) tt ≡ found (context_at ls y))) q
+            (p, omega (arith, u.is, up_within k own s count), can k x u n (omega arith) indicator b (sym (i.is ls book lines k c b p) ∙ r));
       }
 
-  pub left_out_nowhere : t ≡ false → LastLeftOut tb w indicator v count 0
+  pub left_out_nowhere : t ≡ false → LastLeftOut tb w indicator v count None
   left_out_nowhere r =
       record {
         none = λ ls book lines k c b l h m z.
             let (s, x) = of_constant_lem k h e in
             let n = length l.context - suc count in
             cannot k x u n (omega arith) (context_at ls indicator) (sym (i.is ls book lines k c b (positive k x u n (omega arith))) ∙ r);
-        some = λ ls book lines k c b l h m z. absurd (z refl);
+        some = λ ls book lines k c b l h m y z. absurd (cc);
       }

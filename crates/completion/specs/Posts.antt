@@ -1,5 +1,5 @@
 -- What the functions that find arguments left out and put them in leave.
-use Rattle.std.specs.Prelude.{◌≡◌, ◌≢◌, List, [], ◌∷◌, ◌++◌, ℕ, zero, suc, ◌+◌, ◌*◌, ◌≤◌, ◌<◌, length, get_or}
+use Rattle.std.specs.Prelude.{◌≡◌, List, [], ◌∷◌, ◌++◌, ℕ, zero, suc, ◌+◌, ◌*◌, ◌≤◌, ◌<◌, length, get_or, Option, None, Some}
 use Rattle.std.proofs.Math.Seq.{slice}
 use Rattle.aut68.specs.Bytes.{Bytes}
 use Rattle.aut68.specs.Lines.{Line, Lines, row_cell}
@@ -25,15 +25,15 @@ line_up tb c (suc n) = row_cell tb (line_up tb c n) at_indicator
 pub record LineUp (tb : List ℕ) (c n r : ℕ) : Type 0 where
   pub is : r ≡ line_up tb c n
 
--- r is the last variable left out where the constant of line v is written with `count` arguments, fewer than its context has; 0 where
+-- r is the last variable left out where the constant of line v is written with `count` arguments, fewer than its context has; None where
 -- they cannot be put in
-pub record LastLeftOut (tb w : List ℕ) (indicator v count r : ℕ) : Type 0 where
+pub record LastLeftOut (tb w : List ℕ) (indicator v count : ℕ) (r : Option ℕ) : Type 0 where
   pub none : (ls : Lines) (book : Bytes) (lines : ℕ) → Known ls book tb lines → ContextNoted ls indicator w → indicator ≤ lines
-      → (l : Line) → IsLine ls v l → count < length l.context → r ≡ 0
+      → (l : Line) → IsLine ls v l → count < length l.context → r ≡ None
       → left_out count l.context (context_at ls indicator) tt ≡ refused wrong_arity
   pub some : (ls : Lines) (book : Bytes) (lines : ℕ) → Known ls book tb lines → ContextNoted ls indicator w → indicator ≤ lines
-      → (l : Line) → IsLine ls v l → count < length l.context → r ≢ 0
-      → (r ≤ lines) × (left_out count l.context (context_at ls indicator) tt ≡ found (context_at ls r))
+      → (l : Line) → IsLine ls v l → count < length l.context → (last : ℕ) → r ≡ Some last
+      → (1 ≤ last) × (last ≤ lines) × (left_out count l.context (context_at ls indicator) tt ≡ found (context_at ls last))
 
 -- the cells from `from` up to `end` stand n cells up
 pub record ShiftedUp (w w' : List ℕ) (from end n : ℕ) : Type 0 where
