@@ -8,23 +8,33 @@ use lib.ListN.{length, drop}
 use Rattle.aut68.specs.Bytes.{Bytes}
 use Rattle.aut68.specs.Source.{cons, count_srcs}
 use Rattle.aut68.specs.Paragraphs.{State}
-use Rattle.aut68.specs.Procedure.Answer.{and_then, when}
+use Rattle.aut68.specs.Procedure.Answer.{Refusal, and_then, when, code_of}
+use Rattle.lookup.specs.Answers.{code_nonzero}
 use Rattle.aut68.specs.Procedure.Parse.{arguments}
 use Rattle.aut68.specs.Procedure.Resolve.{context_at}
 use Rattle.aut68.specs.Sizes.{nesting}
 use Rattle.symbols.specs.Symbols.{PastSymbol}
 use Rattle.cells.specs.declared.scope.Scope.{Scope}
 use Rattle.meanings.specs.Bindings.{bound_names}
-use Rattle.expressions.specs.declared.parts.Reading.{Reading}
-use Rattle.expressions.specs.Walk.{ReadTo, passed, SameBelow}
+use Rattle.expressions.specs.Walk.{Walked, ReadTo, passed, SameBelow}
 use Rattle.expressions.specs.Posts.{expression_in, go_on, Ready, Refusing, ExpressionRead, Counted, ArgumentsRead}
 use Rattle.expressions.proofs.StoreLaws.{below_same, below_then}
-use Rattle.expressions.proofs.ReadLaws.{then_refused, then_passed, then_done, then_stop, then_give, read_is, comma_read, close_read, neither_read}
+use Rattle.expressions.proofs.ReadLaws.{read_back, then_refused, then_passed, then_done, then_stop, then_give, read_is, comma_read, close_read, neither_read}
 use Rattle.expressions.proofs.WrittenLaws.{no_arguments_written, argument_written}
-use Rattle.expressions.proofs.ExpressionLaws.{ready_on, onward_refused, symbol_read, symbol_missing, symbol_kinds, code_malformed}
+use Rattle.expressions.proofs.ExpressionLaws.{onward_back, ready_on, onward_refused, symbol_read, symbol_missing, symbol_kinds, code_malformed}
+
+-- an argument string that is refused is so where it began
+pub arguments_here : {ks s : Bytes} {scope : Scope} {book tb : List ℕ} {lines indicator : ℕ} {w w' : List ℕ} {r a : Walked} (x : Refusal)
+    → ArgumentsRead ks s scope book tb lines indicator w w' r a → a.code ≡ code_of x → r.at ≤ length s
+    → ArgumentsRead ks s scope book tb lines indicator w w' r (record { code = code_of x; at = r.at; to = r.to; fault = 0; count = 0 })
+arguments_here x h e i =
+    record {
+      onward = onward_back i refl refl h.onward;
+      read = λ st ready n l. rw (sym e) (read_back (λ z. code_nonzero x (sym e ∙ z)) (h.read st ready n l));
+    }
 
 -- `count` arguments were read from r on; what is read of the rest, from `at` on, is read of the whole
-pub record ArgumentsSoFar (ks s : Bytes) (scope : Scope) (book tb : List ℕ) (lines indicator : ℕ) (w₀ w : List ℕ) (r : Reading) (at to fault count : ℕ) : Type 0 where
+pub record ArgumentsSoFar (ks s : Bytes) (scope : Scope) (book tb : List ℕ) (lines indicator : ℕ) (w₀ w : List ℕ) (r : Walked) (at to fault count : ℕ) : Type 0 where
   pub below : SameBelow r.to w₀ w
   pub up : r.to ≤ to
   pub from : r.at ≤ at
@@ -32,11 +42,11 @@ pub record ArgumentsSoFar (ks s : Bytes) (scope : Scope) (book tb : List ℕ) (l
   pub small : to ≤ length w₀ + 1
   pub few : count ≤ at
   pub rest : (st : State) → Ready st ks s book tb lines indicator scope w₀ r.to → (n : ℕ) → length s - r.at < n
-      → (m : ℕ) × (length s - at < m) × ((w' : List ℕ) (r' : Reading) → SameBelow to w w' → to ≤ r'.to
+      → (m : ℕ) × (length s - at < m) × ((w' : List ℕ) (r' : Walked) → SameBelow to w w' → to ≤ r'.to
       → ReadTo s (Counted st s indicator scope w w' to fault count r') r'.code r'.at (arguments (expression_in scope) m (drop at s))
       → ReadTo s (Counted st s indicator scope w₀ w' r.to r.fault 0 r') r'.code r'.at (arguments (expression_in scope) n (drop r.at s)))
 
-pub arguments_start : {ks s : Bytes} {scope : Scope} {book tb : List ℕ} {lines indicator : ℕ} {w : List ℕ} {r : Reading} → r.to ≤ length w + 1 → r.at ≤ length s
+pub arguments_start : {ks s : Bytes} {scope : Scope} {book tb : List ℕ} {lines indicator : ℕ} {w : List ℕ} {r : Walked} → r.to ≤ length w + 1 → r.at ≤ length s
     → ArgumentsSoFar ks s scope book tb lines indicator w w r r.at r.to r.fault 0
 arguments_start {w = w} {r} f i =
     record {
@@ -49,7 +59,7 @@ arguments_start {w = w} {r} f i =
       rest = λ st ready n l. (n, l, λ w' r' b u h. h);
     }
 
-module _ {ks s : Bytes} {scope : Scope} {book tb : List ℕ} {lines indicator : ℕ} {w₀ w wA : List ℕ} {r a : Reading} {at to fault count : ℕ}
+module _ {ks s : Bytes} {scope : Scope} {book tb : List ℕ} {lines indicator : ℕ} {w₀ w wA : List ℕ} {r a : Walked} {at to fault count : ℕ}
     (h : ArgumentsSoFar ks s scope book tb lines indicator w₀ w r at to fault count)
     (A : ExpressionRead (expression_in scope) ks s scope book tb lines indicator w wA (go_on at to fault) a) where
   pub arguments_refused : a.code ≢ 0 → ArgumentsRead ks s scope book tb lines indicator w₀ wA r a
@@ -102,7 +112,7 @@ module _ {ks s : Bytes} {scope : Scope} {book tb : List ℕ} {lines indicator : 
         }
 
     module _ (u : length s < comma) {close : ℕ} (q : PastSymbol ks s a.at 9 close) where
-      pub arguments_unclosed : {r' : Reading} → length s < close → Refusing 3 a.at a.to r' → ArgumentsRead ks s scope book tb lines indicator w₀ wA r r'
+      pub arguments_unclosed : {r' : Walked} → length s < close → Refusing 3 a.at a.to r' → ArgumentsRead ks s scope book tb lines indicator w₀ wA r r'
       unfolding arguments
       arguments_unclosed {r'} v g =
           record {

@@ -1,4 +1,5 @@
 -- The arguments of a name, with those left out: at each end of `completed`.
+use Rattle.std.specs.Prelude.{Option, None, Some}
 use mathlib.Core.Path.{◌≡◌, refl, sym, ◌∙◌, subst}
 use mathlib.Core.Logic.{◌≢◌, inl, inr}
 use mathlib.Core.List.{List, []}
@@ -18,11 +19,10 @@ use Rattle.cells.specs.Stores.{outside_below}
 use Rattle.names.specs.Known.{Known}
 use Rattle.meanings.specs.NotedContext.{ContextNoted}
 use Rattle.meanings.specs.Meanings.{cell_of}
-use Rattle.meanings.specs.declared.meanings.Meaning.{Meaning as NameMeaning}
 use Rattle.meanings.proofs.NotedLaws.{at_length}
 use Rattle.completion.specs.Posts.{variable_cells, LastLeftOut, PutIn}
-use Rattle.expressions.specs.declared.parts.Reading.{Reading}
-use Rattle.expressions.specs.Posts.{Inserted, Filled, put_in, wrong, Completed}
+use Rattle.expressions.specs.Walk.{Walked}
+use Rattle.expressions.specs.Posts.{NameMeaning, Inserted, Filled, put_in, wrong, Completed}
 use Rattle.expressions.proofs.StoreLaws.{below_same}
 
 -- a name that wants arguments is a constant, and its cell has its line
@@ -42,7 +42,7 @@ nothing_inserted : {w : List ℕ} {first end d : ℕ} → Inserted w w first end
 unfolding variable_cells
 nothing_inserted = record { fits = λ r. (refl, inl refl); over = λ r. inl (omega arith) }
 
-module _ {tb : List ℕ} {indicator : ℕ} {w : List ℕ} {first : ℕ} (depth : ℕ) {a : Reading} {m : NameMeaning} where
+module _ {tb : List ℕ} {indicator : ℕ} {w : List ℕ} {first : ℕ} (depth : ℕ) {a : Walked} {m : NameMeaning} where
   -- the arguments as they are
   unchanged : (m.fault ≡ 0 → a.code ≡ 0 → (st : State) (book : Bytes) (lines : ℕ) → Known st.earlier book tb lines → ContextNoted st.earlier indicator w → indicator ≤ lines
       → (x : Meaning) → m.cell ≡ cell_of x → m.wanted ≡ length (wanted st (context_at st.earlier indicator) x)
@@ -70,7 +70,7 @@ module _ {tb : List ℕ} {indicator : ℕ} {w : List ℕ} {first : ℕ} (depth :
   pub completed_written : a.count ≡ m.wanted → Completed tb indicator w w first depth a m a
   completed_written e = unchanged (λ f z st book lines k noted i x c n. all_written_lem (wanted st (context_at st.earlier indicator) x) (context_at st.earlier indicator) (e ∙ n))
 
-  module _ (r : Reading) (code : r.code ≡ a.code) (at : r.at ≡ a.at) (f₀ : m.fault ≡ 0) where
+  module _ (r : Walked) (code : r.code ≡ a.code) (at : r.at ≡ a.at) (f₀ : m.fault ≡ 0) where
     -- 6 as the fault
     miscounted : r.to ≡ a.to → r.fault ≡ 6
         → ((st : State) (book : Bytes) (lines : ℕ) → Known st.earlier book tb lines → ContextNoted st.earlier indicator w → indicator ≤ lines
@@ -93,8 +93,8 @@ module _ {tb : List ℕ} {indicator : ℕ} {w : List ℕ} {first : ℕ} (depth :
         miscounted to fault (λ st book lines k noted i x c n.
         refused_with fault (too_many (wanted st (context_at st.earlier indicator) x) (context_at st.earlier indicator) a.count (omega arith)))
 
-    module _ (l : a.count < m.wanted) {v last : ℕ} (ev : v ≡ m.cell / cell_factor) (h : LastLeftOut tb w indicator v a.count last) where
-      pub completed_cannot : r.to ≡ a.to → r.fault ≡ 6 → last ≡ 0 → Completed tb indicator w w first depth a m r
+    module _ (l : a.count < m.wanted) {v : ℕ} (ev : v ≡ m.cell / cell_factor) {o : Option ℕ} (h : LastLeftOut tb w indicator v a.count o) where
+      pub completed_cannot : r.to ≡ a.to → r.fault ≡ 6 → o ≡ None → Completed tb indicator w w first depth a m r
       completed_cannot to fault z =
           miscounted to fault (λ st book lines k noted i x c n.
           of_constant_lem st (context_at st.earlier indicator) x c (omega arith)
@@ -102,20 +102,20 @@ module _ {tb : List ℕ} {indicator : ℕ} {w : List ℕ} {first : ℕ} (depth :
           (λ b is q. refused_with fault (h.none st.earlier book lines k noted i b (subst (λ u. IsLine st.earlier u b) (sym ev) is) q z)))
 
       -- what was found is put in
-      inserted : {w' : List ℕ} → r.fault ≡ a.fault → last ≢ 0
-          → ((st : State) (book : Bytes) (lines : ℕ) → Known st.earlier book tb lines → last ≤ lines → first ≤ a.to → Inserted w w' first a.to r.to (nesting - 1 - depth) (context_at st.earlier last))
+      inserted : {w' : List ℕ} {last : ℕ} → r.fault ≡ a.fault → o ≡ Some last
+          → ((st : State) (book : Bytes) (lines : ℕ) → Known st.earlier book tb lines → 1 ≤ last → last ≤ lines → first ≤ a.to → Inserted w w' first a.to r.to (nesting - 1 - depth) (context_at st.earlier last))
           → first ≤ a.to → (st : State) (book : Bytes) (lines : ℕ) → Known st.earlier book tb lines → ContextNoted st.earlier indicator w → indicator ≤ lines
           → (x : Meaning) → m.cell ≡ cell_of x → m.wanted ≡ length (wanted st (context_at st.earlier indicator) x)
           → Filled w w' first a.to r.to (nesting - 1 - depth) a.fault r.fault (left_out a.count (wanted st (context_at st.earlier indicator) x) (context_at st.earlier indicator) tt)
-      inserted {w'} fault n ins u st book lines k noted i x c e =
+      inserted {w'} {last} fault n ins u st book lines k noted i x c e =
           of_constant_lem st (context_at st.earlier indicator) x c (omega arith)
           (λ of. Filled w w' first a.to r.to (nesting - 1 - depth) a.fault r.fault (left_out a.count of (context_at st.earlier indicator) tt))
           (λ b is q.
-          let (y, p) = h.some st.earlier book lines k noted i b (subst (λ z. IsLine st.earlier z b) (sym ev) is) q n in
-          subst (λ us. Filled w w' first a.to r.to (nesting - 1 - depth) a.fault r.fault us) (sym p) (put_in fault (ins st book lines k y u)))
+          let (x₀, y, p) = h.some st.earlier book lines k noted i b (subst (λ z. IsLine st.earlier z b) (sym ev) is) q last n in
+          subst (λ us. Filled w w' first a.to r.to (nesting - 1 - depth) a.fault r.fault us) (sym p) (put_in fault (ins st book lines k x₀ y u)))
 
-      pub completed_too_deep : r.to ≡ length w + 1 → r.fault ≡ a.fault → last ≢ 0 → nesting ≤ depth + 1 → Completed tb indicator w w first depth a m r
-      completed_too_deep to fault n deep =
+      pub completed_too_deep : {last : ℕ} → r.to ≡ length w + 1 → r.fault ≡ a.fault → o ≡ Some last → nesting ≤ depth + 1 → Completed tb indicator w w first depth a m r
+      completed_too_deep {last} to fault n deep =
           record {
             below = below_same first w;
             up = λ s. omega (arith, to);
@@ -125,13 +125,13 @@ module _ {tb : List ℕ} {indicator : ℕ} {w : List ℕ} {first : ℕ} (depth :
             kept = λ n. absurd (n f₀);
             filled = λ z f l s.
                 inserted fault n
-                (λ st book lines k y u.
-                record { fits = λ x. absurd (omega (arith, to)); over = λ x. inr (omega (arith, at_length k last (omega arith) y), omega arith) }) l;
+                (λ st book lines k p y u.
+                record { fits = λ x. absurd (omega (arith, to)); over = λ x. inr (omega (arith, at_length k last p y), omega arith) }) l;
           }
 
-      pub completed_put_in : {w' : List ℕ} {end : ℕ} → PutIn tb w w' first a.to last end → r.to ≡ end → r.fault ≡ a.fault → last ≢ 0
+      pub completed_put_in : {w' : List ℕ} {last end : ℕ} → PutIn tb w w' first a.to last end → r.to ≡ end → r.fault ≡ a.fault → o ≡ Some last
           → depth + 1 < nesting → Completed tb indicator w w' first depth a m r
-      completed_put_in {w'} put to fault n shallow =
+      completed_put_in {w'} {last} put to fault n shallow =
           let P : PutIn tb w w' first a.to last r.to = subst (λ e. PutIn tb w w' first a.to last e) (sym to) put in
           record {
             below = record { long = P.kept.long; is = outside_below {n = first} (omega arith) P.kept };
@@ -142,6 +142,6 @@ module _ {tb : List ℕ} {indicator : ℕ} {w : List ℕ} {first : ℕ} (depth :
             kept = λ n. absurd (n f₀);
             filled = λ z f l s.
                 inserted fault n
-                (λ st book lines k y u.
-                record { fits = λ x. (P.put st.earlier book lines k (omega arith) y u x, inr (omega arith)); over = λ x. inl (P.over st.earlier book lines k (omega arith) y u x) }) l;
+                (λ st book lines k p y u.
+                record { fits = λ x. (P.put st.earlier book lines k p y u x, inr (omega arith)); over = λ x. inl (P.over st.earlier book lines k p y u x) }) l;
           }

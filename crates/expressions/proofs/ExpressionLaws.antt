@@ -1,4 +1,5 @@
 -- What each function of the walk leaves, from what its callees leave.
+use Rattle.std.specs.Prelude.{Result, Ok, Err}
 use mathlib.Core.Path.{◌≡◌, refl, sym, ap, ◌∙◌, subst}
 use mathlib.Core.Logic.{◌≢◌}
 use mathlib.Core.Bool.{Bool, true, false}
@@ -13,10 +14,11 @@ use Rattle.aut68.specs.Bytes.{Bytes, name_byte}
 use Rattle.aut68.specs.Source.{Src}
 use Rattle.aut68.specs.Expr.{Expr, cells, levels}
 use Rattle.aut68.specs.Paragraphs.{State}
-use Rattle.aut68.specs.Procedure.Answer.{done, stop, code_of, malformed, too_large}
+use Rattle.aut68.specs.Procedure.Answer.{Refusal, done, stop, code_of, malformed, too_large}
 use Rattle.aut68.specs.Procedure.Parse.{Read, spaces, symbol, an_expression}
 use Rattle.aut68.specs.Procedure.Resolve.{Naming, resolve, context_at}
 use Rattle.aut68.specs.Sizes.{nesting}
+use Rattle.lookup.specs.Answers.{code_nonzero}
 use Rattle.kinds.specs.Kinds.{KindsTable, kind_of, place_or0, opens_kind}
 use Rattle.symbols.specs.Symbols.{first_kind, PastSpaces, KindAt, PastSymbol}
 use Rattle.cells.specs.declared.scope.Scope.{Scope}
@@ -27,11 +29,13 @@ use Rattle.notes.specs.NoteLaws.{state_noted_same}
 use Rattle.meanings.specs.Bindings.{bound_names}
 use Rattle.meanings.specs.NotedContext.{context_noted_same}
 use Rattle.meanings.proofs.BindingLaws.{nested_names, bound_names_lem}
+use Rattle.constants.specs.declared.codes.Reason.{Reason}
+use Rattle.constants.specs.Reasons.{refusal_of}
 use Rattle.expressions.specs.declared.parts.Reading.{Reading}
-use Rattle.expressions.specs.Walk.{ReadTo, SameBelow, Written}
-use Rattle.expressions.specs.Posts.{expression_in, named_in, application_in, abstraction_in, Sized, Ready, Refusing, Onward, ExpressionRead}
+use Rattle.expressions.specs.Walk.{Walked, walked, ReadTo, SameBelow, Written}
+use Rattle.expressions.specs.Posts.{expression_in, named_in, application_in, abstraction_in, go_on, Sized, Ready, Refusing, Onward, ExpressionRead}
 use Rattle.expressions.proofs.StoreLaws.{below_same}
-use Rattle.expressions.proofs.ReadLaws.{read_is, read_stop, choose_application, choose_abstraction, choose_named, too_deep_lem, opens_nothing}
+use Rattle.expressions.proofs.ReadLaws.{read_back, read_is, read_stop, choose_application, choose_abstraction, choose_named, too_deep_lem, opens_nothing}
 
 -- ---- names are looked up further on, where nothing is written below
 
@@ -98,7 +102,7 @@ bindable : {st : State} {ks s book tb : List ℕ} {lines indicator : ℕ} {scope
     → Ready st ks s book tb lines indicator scope w to → scope.depth < nesting → start + len ≤ length s → Bindable scope start len
 bindable h l e = record { shallow = l; few = omega (arith, h.sized.few); start_fits = omega (arith, h.short); len_fits = omega (arith, h.short) }
 
-module _ {ks s book tb : List ℕ} {lines indicator : ℕ} {next : Scope} {w w' : List ℕ} {r r' : Reading}
+module _ {ks s book tb : List ℕ} {lines indicator : ℕ} {next : Scope} {w w' : List ℕ} {r r' : Walked}
     (h : ExpressionRead (an_expression aut68 (nesting - next.depth) inner) ks s next book tb lines indicator w w' r r') where
   -- the part one level deeper than d, under the names that are bound there
   deeper_read : (d : ℕ) → next.depth ≡ d + 1 → (st : State) → Ready st ks s book tb lines indicator next w r.to → (bs : List Bytes) → bound_names s next ≡ bs
@@ -157,17 +161,41 @@ code_too_large = refl
 
 -- ---- refusals
 
-pub onward_refused : {s : Bytes} {w w' : List ℕ} {r r' : Reading} {code at to : ℕ} → SameBelow r.to w w' → Refusing code at to r'
+pub onward_refused : {s : Bytes} {w w' : List ℕ} {r r' : Walked} {code at to : ℕ} → SameBelow r.to w w' → Refusing code at to r'
     → r.to ≤ to → to ≤ length w + 1 → r.at ≤ at → at ≤ length s → Onward s w w' r r'
 onward_refused b h u f l m =
     record { below = b; up = omega (arith, h.to_is); from = omega (arith, h.at_is); inside = omega (arith, h.at_is); small = omega (arith, h.to_is) }
+
+pub stopped : (code at to : ℕ) → Refusing code at to (record { code = code; at = at; to = to; fault = 0; count = 0 })
+stopped code at to = record { code_is = refl; at_is = refl; to_is = refl }
+
+-- a walk that is refused is so where it began
+pub onward_back : {s : Bytes} {w w' : List ℕ} {r a b : Walked} → r.at ≤ length s → b.at ≡ r.at → b.to ≡ r.to → Onward s w w' r a → Onward s w w' r b
+onward_back i e f h =
+    record { below = h.below; up = omega arith; from = omega arith; inside = omega arith; small = omega (arith, h.up, h.small) }
+
+pub refused_here : {m : Read Src} {ks s : Bytes} {scope : Scope} {book tb : List ℕ} {lines indicator : ℕ} {w w' : List ℕ} {r a : Walked} (x : Refusal)
+    → ExpressionRead m ks s scope book tb lines indicator w w' r a → a.code ≡ code_of x → r.at ≤ length s
+    → ExpressionRead m ks s scope book tb lines indicator w w' r (record { code = code_of x; at = r.at; to = r.to; fault = 0; count = 0 })
+refused_here x h e i =
+    record {
+      onward = onward_back i refl refl h.onward;
+      read = λ st ready. rw (sym e) (read_back (λ z. code_nonzero x (sym e ∙ z)) (h.read st ready));
+    }
+
+-- what comes of the last step of a walk, as of the whole walk
+pub walked_here : {m : Read Src} {ks s : Bytes} {scope : Scope} {book tb : List ℕ} {lines indicator : ℕ} {w w' : List ℕ} {from to fault : ℕ} (at to' : ℕ) (o : Result Reading Reason)
+    → ExpressionRead m ks s scope book tb lines indicator w w' (go_on from to fault) (walked at to' o) → from ≤ length s
+    → ExpressionRead m ks s scope book tb lines indicator w w' (go_on from to fault) (walked from to o)
+walked_here at to' (Ok a) h i = h
+walked_here at to' (Err e) h i = refused_here (refusal_of e) h refl i
 
 -- ---- the choice of an expression
 
 kind_ahead : {ks s : Bytes} {from at k : ℕ} → PastSpaces s from at → KindAt ks s at k → KindsTable ks → k ≡ first_kind (spaces (drop from s))
 kind_ahead p q t = q.kind t ∙ ap first_kind p.rest
 
-module _ {ks s book tb : List ℕ} {lines indicator : ℕ} {scope : Scope} {w : List ℕ} {r r' : Reading} {at k : ℕ}
+module _ {ks s book tb : List ℕ} {lines indicator : ℕ} {scope : Scope} {w : List ℕ} {r r' : Walked} {at k : ℕ}
     (p : PastSpaces s r.at at) (q : KindAt ks s at k) (small : r.to ≤ length w + 1) (inside : r.at ≤ length s) where
   module _ (deep : nesting ≤ scope.depth) where
     pub expression_too_deep : {t : Bool} → t ≡ opens_kind k → t ≡ true → Refusing 10 at r.to r'

@@ -1,4 +1,6 @@
 -- A name with its arguments, if any.
+use Rattle.std.specs.Prelude.{Result, Ok, Err}
+use Rattle.std.specs.Result.{result_err}
 use mathlib.Core.Path.{◌≡◌, refl, sym, ap, ap₂, ◌∙◌, subst}
 use mathlib.Core.Logic.{◌≢◌}
 use mathlib.Core.List.{List}
@@ -16,18 +18,17 @@ use Rattle.aut68.specs.Procedure.Parse.{named, an_expression, arguments}
 use Rattle.aut68.specs.Procedure.Resolve.{context_at, resolves, meaning}
 use Rattle.aut68.specs.Sizes.{nesting}
 use Rattle.symbols.specs.Symbols.{PastSymbol, used_by, UsedAt}
-use Rattle.symbols.specs.declared.UsedName.{UsedName}
 use Rattle.symbols.proofs.UsedLaws.{used_plain, used_inside, used_by_lem}
 use Rattle.cells.specs.declared.scope.Scope.{Scope}
 use Rattle.cells.specs.Posts.{Nested}
 use Rattle.meanings.specs.Bindings.{bound_names}
 use Rattle.meanings.specs.Posts.{BindingFound}
 use Rattle.meanings.specs.Meanings.{Meant, MeaningFound}
-use Rattle.meanings.specs.declared.meanings.Meaning.{Meaning}
 use Rattle.meanings.proofs.BindingLaws.{nested_names, bound_none, bound_inside}
-use Rattle.expressions.specs.declared.parts.Reading.{Reading}
-use Rattle.expressions.specs.Walk.{ReadTo, passed, SameBelow, CellPut, Written}
-use Rattle.expressions.specs.Posts.{part_in, named_in, go_on, Ready, Refusing, WrittenOne, ExpressionRead, ArgumentsRead, used_of, NameSought, Completed}
+use Rattle.constants.specs.declared.codes.Reason.{Reason}
+use Rattle.constants.specs.Refusals.{code_in}
+use Rattle.expressions.specs.Walk.{fault_in, Walked, ReadTo, passed, SameBelow, CellPut, Written}
+use Rattle.expressions.specs.Posts.{UsedPlace, NameMeaning, part_in, named_in, go_on, Ready, Refusing, WrittenOne, ExpressionRead, ArgumentsRead, used_of, NameSought, Completed}
 use Rattle.expressions.proofs.StoreLaws.{below_same, below_then, below_put, put_next}
 use Rattle.expressions.proofs.ReadLaws.{then_done, then_stop, then_give_on, then_map, read_is, no_arguments, some_arguments}
 use Rattle.expressions.proofs.WrittenLaws.{no_arguments_written, name_written}
@@ -35,11 +36,11 @@ use Rattle.expressions.proofs.ExpressionLaws.{ready_on, ready_inner, sized_neste
 
 -- ---- what a name means
 
-module _ {ks s : Bytes} {b : ℕ} {book tb : List ℕ} {lines indicator : ℕ} {w : List ℕ} {fault : ℕ} {u : UsedName} where
+module _ {ks s : Bytes} {b : ℕ} {book tb : List ℕ} {lines indicator : ℕ} {w : List ℕ} {fault : ℕ} {u : UsedPlace} where
   pub sought_after_fault : {cell wanted : ℕ} → fault ≢ 0 → NameSought ks s b book tb lines indicator w fault u (record { fault = fault; cell = cell; wanted = wanted })
   sought_after_fault n = record { kept = λ n. refl; meant = λ z. absurd (n z) }
 
-  pub sought_meaning : {title word : List ℕ} {m : Meaning} → fault ≡ 0 → title ≡ slice u.title (u.title + u.size) s → word ≡ slice u.start (u.start + u.len) s
+  pub sought_meaning : {title word : List ℕ} {m : NameMeaning} → fault ≡ 0 → title ≡ slice u.title (u.title + u.size) s → word ≡ slice u.start (u.start + u.len) s
       → MeaningFound b ks book tb lines indicator w title word m.fault m.cell m.wanted → NameSought ks s b book tb lines indicator w fault u m
   sought_meaning {title} {word} {m} z et ew h =
       record {
@@ -50,9 +51,14 @@ module _ {ks s : Bytes} {b : ℕ} {book tb : List ℕ} {lines indicator : ℕ} {
             (h.is st t k g context i s scope (subst (λ x. BindingFound s scope x b) (sym e) f) d (omega (arith, ap length ew, length-slice u.start (u.start + u.len) s q)));
       }
 
+-- its fault
+pub fault_err : {A : Type 0} (m : Result A Reason) → fault_in (result_err m) ≡ code_in m
+fault_err (Ok a) = refl
+fault_err (Err r) = refl
+
 -- ---- its binding, asked for only where there is one
 
-module _ {s : Bytes} {scope : Scope} {b : ℕ} (u : UsedName) where
+module _ {s : Bytes} {scope : Scope} {b : ℕ} (u : UsedPlace) where
   pub binding_of : {r : ℕ} {word : Bytes} → b ≡ r → word ≡ slice u.start (u.start + u.len) s → u.size ≡ 0 → BindingFound s scope (plain word) r → BindingFound s scope (used_of s u) b
   binding_of {r} {word} e q z h =
       subst (λ n. BindingFound s scope (used_of s u) n) (sym e)
@@ -67,7 +73,7 @@ module _ {s : Bytes} {scope : Scope} {b : ℕ} (u : UsedName) where
   binding_none e z = subst (λ n. BindingFound s scope (used_of s u) n) (sym e) (bound_none (omega arith))
 
 -- the argument string one level deeper, with the names that are bound around it
-level_arguments : {ks s book tb : List ℕ} {lines indicator : ℕ} {scope next : Scope} {w w' : List ℕ} {r r' : Reading} → Nested scope next → scope.depth < nesting
+level_arguments : {ks s book tb : List ℕ} {lines indicator : ℕ} {scope next : Scope} {w w' : List ℕ} {r r' : Walked} → Nested scope next → scope.depth < nesting
     → ArgumentsRead ks s next book tb lines indicator w w' r r' → (st : State) → Ready st ks s book tb lines indicator scope w r.to → (n : ℕ) → length s - r.at < n
     → ReadTo s (λ xs. (r'.count ≡ count_srcs xs)
     × Written cellss levelss (resolves st (context_at st.earlier indicator) (bound_names s scope)) w w' r.to r'.to (nesting - 1 - scope.depth) r.fault r'.fault xs)
@@ -83,7 +89,7 @@ level_arguments {s = s} {indicator = indicator} {scope} {next} {w} {w'} {r} {r'}
     )))
 
 -- what is written of the arguments, those left out among them, is written of the name with its arguments
-name_read_lem : {ks s book tb : List ℕ} {lines indicator : ℕ} {scope : Scope} {w w₁ wA w' : List ℕ} {to fault b first : ℕ} {u : UsedName} {m : Meaning} {a r' : Reading}
+name_read_lem : {ks s book tb : List ℕ} {lines indicator : ℕ} {scope : Scope} {w w₁ wA w' : List ℕ} {to fault b first : ℕ} {u : UsedPlace} {m : NameMeaning} {a r' : Walked}
     → scope.depth < nesting → to ≤ length w + 1 → u.len ≢ 0 → u.start + u.len ≤ length s → u.title + u.size ≤ length s → BindingFound s scope (used_of s u) b
     → NameSought ks s b book tb lines indicator w fault u m → CellPut w w₁ to m.cell first → SameBelow first w₁ wA → first ≤ a.to → a.to ≤ length wA + 1
     → Completed tb indicator wA w' first scope.depth a m r' → (st : State) → Ready st ks s book tb lines indicator scope w to → (xs : Srcs) → a.code ≡ 0 → a.count ≡ count_srcs xs
@@ -95,9 +101,9 @@ name_read_lem {scope = scope} {to = to} l small e within titled found sought put
     (ready_on {to' = to} (below_then (below_put put) (put_next put small).0 below) (omega arith) ready).context ready.earlier found
     (omega (arith, ready.sized.few)) (omega arith) within titled below xs h z up few count X)
 
-module _ {ks s book tb : List ℕ} {lines indicator : ℕ} {scope : Scope} {w : List ℕ} {r : Reading} {u : UsedName}
+module _ {ks s book tb : List ℕ} {lines indicator : ℕ} {scope : Scope} {w : List ℕ} {r : Walked} {u : UsedPlace}
     (small : r.to ≤ length w + 1) (inside : r.at ≤ length s) (l : scope.depth < nesting) (n : UsedAt ks s r.at u.title u.size u.start u.len) where
-  pub named_unnamed : {r' : Reading} → u.len ≡ 0 → Refusing 3 r.at r.to r'
+  pub named_unnamed : {r' : Walked} → u.len ≡ 0 → Refusing 3 r.at r.to r'
       → ExpressionRead (named_in scope) ks s scope book tb lines indicator w w r r'
   unfolding named
   named_unnamed e h =
@@ -106,10 +112,10 @@ module _ {ks s book tb : List ℕ} {lines indicator : ℕ} {scope : Scope} {w : 
         read = λ st ready. then_stop _ (n.missing ready.table inside e).1 (h.code_is ∙ sym code_malformed);
       }
 
-  module _ (e : u.len ≢ 0) {b : ℕ} (found : BindingFound s scope (used_of s u) b) {w₁ : List ℕ} {m : Meaning}
+  module _ (e : u.len ≢ 0) {b : ℕ} (found : BindingFound s scope (used_of s u) b) {w₁ : List ℕ} {m : NameMeaning}
       (sought : NameSought ks s b book tb lines indicator w r.fault u m) {first : ℕ} (put : CellPut w w₁ r.to m.cell first)
       {o : ℕ} (p : PastSymbol ks s (u.start + u.len) 8 o) where
-    pub named_alone : {w' : List ℕ} {r' : Reading} → length s < o → Completed tb indicator w₁ w' first scope.depth (go_on (u.start + u.len) first m.fault) m r'
+    pub named_alone : {w' : List ℕ} {r' : Walked} → length s < o → Completed tb indicator w₁ w' first scope.depth (go_on (u.start + u.len) first m.fault) m r'
         → ExpressionRead (named_in scope) ks s scope book tb lines indicator w w' r r'
     unfolding named count_srcs
     named_alone {w'} {r'} i h =
@@ -133,7 +139,7 @@ module _ {ks s book tb : List ℕ} {lines indicator : ℕ} {scope : Scope} {w : 
               (no_arguments_written st (context_at st.earlier indicator) (bound_names s scope) w₁ first (nesting - 1 - scope.depth) m.fault))));
         }
 
-    pub named_read : {wA w' : List ℕ} {next : Scope} {a r' : Reading} → o ≤ length s → Nested scope next
+    pub named_read : {wA w' : List ℕ} {next : Scope} {a r' : Walked} → o ≤ length s → Nested scope next
         → ArgumentsRead ks s next book tb lines indicator w₁ wA (go_on o first m.fault) a → Completed tb indicator wA w' first scope.depth a m r'
         → ExpressionRead (named_in scope) ks s scope book tb lines indicator w w' r r'
     unfolding named

@@ -18,8 +18,7 @@ use Rattle.symbols.specs.Symbols.{PastSymbol, NameAt}
 use Rattle.cells.specs.declared.scope.Scope.{Scope}
 use Rattle.cells.specs.Posts.{Nested, Bound}
 use Rattle.meanings.specs.Bindings.{bound_names}
-use Rattle.expressions.specs.declared.parts.Reading.{Reading}
-use Rattle.expressions.specs.Walk.{CellPut}
+use Rattle.expressions.specs.Walk.{Walked, CellPut}
 use Rattle.expressions.specs.Posts.{application_in, abstraction_in, go_on, Ready, Refusing, Onward, ExpressionRead}
 use Rattle.expressions.proofs.StoreLaws.{below_same, below_then, below_put, put_next}
 use Rattle.expressions.proofs.ReadLaws.{then_refused, then_passed, then_done, then_stop, then_give}
@@ -27,7 +26,7 @@ use Rattle.expressions.proofs.WrittenLaws.{application_written, abstraction_writ
 use Rattle.expressions.proofs.ExpressionLaws.{ready_on, level_read, body_read, whole_written, onward_refused, symbol_read, symbol_missing, symbol_kinds, code_malformed}
 
 -- the steps of a walk, one after the other
-pub onward_then : {s : Bytes} {w w₁ w₂ : List ℕ} {r r₁ r₂ r₃ : Reading} → Onward s w w₁ r r₁ → r₁.at ≤ r₂.at → r.to ≤ r₂.to → Onward s w₁ w₂ r₂ r₃ → Onward s w w₂ r r₃
+pub onward_then : {s : Bytes} {w w₁ w₂ : List ℕ} {r r₁ r₂ r₃ : Walked} → Onward s w w₁ r r₁ → r₁.at ≤ r₂.at → r.to ≤ r₂.to → Onward s w₁ w₂ r₂ r₃ → Onward s w w₂ r r₃
 onward_then h l m k =
     record {
       below = below_then h.below m k.below;
@@ -37,7 +36,7 @@ onward_then h l m k =
       small = omega (arith, k.small, h.below.long);
     }
 
-pub onward_put : {s : Bytes} {w w₁ w₂ : List ℕ} {r r₂ r₃ : Reading} {x next : ℕ} → CellPut w w₁ r.to x next → r.at ≤ r₂.at → r.to ≤ r₂.to → Onward s w₁ w₂ r₂ r₃ → Onward s w w₂ r r₃
+pub onward_put : {s : Bytes} {w w₁ w₂ : List ℕ} {r r₂ r₃ : Walked} {x next : ℕ} → CellPut w w₁ r.to x next → r.at ≤ r₂.at → r.to ≤ r₂.to → Onward s w₁ w₂ r₂ r₃ → Onward s w w₂ r r₃
 onward_put put l m k =
     record {
       below = below_then (below_put put) m k.below;
@@ -52,14 +51,14 @@ module _ {st : State} {ks s book tb : List ℕ} {lines indicator : ℕ} {scope :
   ready_first : Ready st ks s book tb lines indicator scope w to → Ready st ks s book tb lines indicator scope w₁ next
   ready_first h = ready_on (below_put put) (put_next put small).0 h
 
-  ready_second : {wA : List ℕ} {o fault : ℕ} {a : Reading} → Onward s w₁ wA (go_on o next fault) a
+  ready_second : {wA : List ℕ} {o fault : ℕ} {a : Walked} → Onward s w₁ wA (go_on o next fault) a
       → Ready st ks s book tb lines indicator scope w to → Ready st ks s book tb lines indicator scope wA a.to
   ready_second A h = ready_on A.below A.up (ready_first h)
 
-module _ {ks s book tb : List ℕ} {lines indicator : ℕ} {scope : Scope} {w : List ℕ} {r : Reading} {o : ℕ}
+module _ {ks s book tb : List ℕ} {lines indicator : ℕ} {scope : Scope} {w : List ℕ} {r : Walked} {o : ℕ}
     (small : r.to ≤ length w + 1) (inside : r.at ≤ length s) (l : scope.depth < nesting) where
   module _ (p : PastSymbol ks s r.at 2 o) where
-    pub application_unopened : {r' : Reading} → length s < o → Refusing 3 r.at r.to r'
+    pub application_unopened : {r' : Walked} → length s < o → Refusing 3 r.at r.to r'
         → ExpressionRead (application_in scope) ks s scope book tb lines indicator w w r r'
     unfolding application
     application_unopened m h =
@@ -68,7 +67,7 @@ module _ {ks s book tb : List ℕ} {lines indicator : ℕ} {scope : Scope} {w : 
           read = λ st ready. then_stop _ (symbol_missing 60 p symbol_kinds.0 (omega arith) m ready.table) (h.code_is ∙ sym code_malformed);
         }
 
-    module _ (i : o ≤ length s) {w₁ wA : List ℕ} {next : Scope} {a : Reading} {first : ℕ} (put : CellPut w w₁ r.to 4 first) (b : Nested scope next)
+    module _ (i : o ≤ length s) {w₁ wA : List ℕ} {next : Scope} {a : Walked} {first : ℕ} (put : CellPut w w₁ r.to 4 first) (b : Nested scope next)
         (A : ExpressionRead (an_expression aut68 (nesting - next.depth) inner) ks s next book tb lines indicator w₁ wA (go_on o first r.fault) a) where
       pub application_first_refused : a.code ≢ 0 → ExpressionRead (application_in scope) ks s scope book tb lines indicator w wA r a
       unfolding application
@@ -80,7 +79,7 @@ module _ {ks s book tb : List ℕ} {lines indicator : ℕ} {scope : Scope} {w : 
           }
 
       module _ (z : a.code ≡ 0) {close : ℕ} (q : PastSymbol ks s a.at 10 close) where
-        pub application_unclosed : {r' : Reading} → length s < close → Refusing 3 a.at r.to r'
+        pub application_unclosed : {r' : Walked} → length s < close → Refusing 3 a.at r.to r'
             → ExpressionRead (application_in scope) ks s scope book tb lines indicator w wA r r'
         unfolding application
         application_unclosed m h =
@@ -94,7 +93,7 @@ module _ {ks s book tb : List ℕ} {lines indicator : ℕ} {scope : Scope} {w : 
                   then_stop _ (symbol_missing 62 q symbol_kinds.5 (omega arith) m ready.table) (h.code_is ∙ sym code_malformed)));
             }
 
-        pub application_read : {wB : List ℕ} {r' : Reading} → close ≤ length s
+        pub application_read : {wB : List ℕ} {r' : Walked} → close ≤ length s
             → ExpressionRead (an_expression aut68 (nesting - next.depth) inner) ks s next book tb lines indicator wA wB (go_on close a.to a.fault) r'
             → ExpressionRead (application_in scope) ks s scope book tb lines indicator w wB r r'
         unfolding application
@@ -113,7 +112,7 @@ module _ {ks s book tb : List ℕ} {lines indicator : ℕ} {scope : Scope} {w : 
             }
 
   module _ (p : PastSymbol ks s r.at 3 o) where
-    pub abstraction_unopened : {r' : Reading} → length s < o → Refusing 3 r.at r.to r'
+    pub abstraction_unopened : {r' : Walked} → length s < o → Refusing 3 r.at r.to r'
         → ExpressionRead (abstraction_in scope) ks s scope book tb lines indicator w w r r'
     unfolding abstraction
     abstraction_unopened m h =
@@ -123,7 +122,7 @@ module _ {ks s book tb : List ℕ} {lines indicator : ℕ} {scope : Scope} {w : 
         }
 
     module _ (i : o ≤ length s) {start len : ℕ} (n : NameAt ks s o start len) where
-      pub abstraction_unnamed : {r' : Reading} → len ≡ 0 → Refusing 3 o r.to r'
+      pub abstraction_unnamed : {r' : Walked} → len ≡ 0 → Refusing 3 o r.to r'
           → ExpressionRead (abstraction_in scope) ks s scope book tb lines indicator w w r r'
       unfolding abstraction
       abstraction_unnamed e h =
@@ -135,7 +134,7 @@ module _ {ks s book tb : List ℕ} {lines indicator : ℕ} {scope : Scope} {w : 
           }
 
       module _ (e : len ≢ 0) {comma : ℕ} (k : PastSymbol ks s (start + len) 7 comma) where
-        pub abstraction_no_comma : {r' : Reading} → length s < comma → Refusing 3 o r.to r'
+        pub abstraction_no_comma : {r' : Walked} → length s < comma → Refusing 3 o r.to r'
             → ExpressionRead (abstraction_in scope) ks s scope book tb lines indicator w w r r'
         unfolding abstraction
         abstraction_no_comma m h =
@@ -147,7 +146,7 @@ module _ {ks s book tb : List ℕ} {lines indicator : ℕ} {scope : Scope} {w : 
                   (then_stop _ (symbol_missing 44 k symbol_kinds.2 (omega arith) m ready.table) (h.code_is ∙ sym code_malformed)));
             }
 
-        module _ (j : comma ≤ length s) {w₁ wA : List ℕ} {level : Scope} {a : Reading} {first : ℕ} (put : CellPut w w₁ r.to 5 first) (b : Nested scope level)
+        module _ (j : comma ≤ length s) {w₁ wA : List ℕ} {level : Scope} {a : Walked} {first : ℕ} (put : CellPut w w₁ r.to 5 first) (b : Nested scope level)
             (A : ExpressionRead (an_expression aut68 (nesting - level.depth) inner) ks s level book tb lines indicator w₁ wA (go_on comma first r.fault) a) where
           pub abstraction_first_refused : a.code ≢ 0 → ExpressionRead (abstraction_in scope) ks s scope book tb lines indicator w wA r a
           unfolding abstraction
@@ -162,7 +161,7 @@ module _ {ks s book tb : List ℕ} {lines indicator : ℕ} {scope : Scope} {w : 
               }
 
           module _ (z : a.code ≡ 0) {close : ℕ} (q : PastSymbol ks s a.at 11 close) where
-            pub abstraction_unclosed : {r' : Reading} → length s < close → Refusing 3 a.at r.to r'
+            pub abstraction_unclosed : {r' : Walked} → length s < close → Refusing 3 a.at r.to r'
                 → ExpressionRead (abstraction_in scope) ks s scope book tb lines indicator w wA r r'
             unfolding abstraction
             abstraction_unclosed m h =
@@ -178,7 +177,7 @@ module _ {ks s book tb : List ℕ} {lines indicator : ℕ} {scope : Scope} {w : 
                       then_stop _ (symbol_missing 93 q symbol_kinds.6 (omega arith) m ready.table) (h.code_is ∙ sym code_malformed)))));
                 }
 
-            pub abstraction_read : {wB : List ℕ} {next : Scope} {r' : Reading} → close ≤ length s → Bound scope start len next
+            pub abstraction_read : {wB : List ℕ} {next : Scope} {r' : Walked} → close ≤ length s → Bound scope start len next
                 → ExpressionRead (an_expression aut68 (nesting - next.depth) inner) ks s next book tb lines indicator wA wB (go_on close a.to a.fault) r'
                 → ExpressionRead (abstraction_in scope) ks s scope book tb lines indicator w wB r r'
             unfolding abstraction

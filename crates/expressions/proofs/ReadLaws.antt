@@ -1,4 +1,4 @@
--- Reading one thing after the other.
+-- Walked one thing after the other.
 use mathlib.Core.Path.{◌≡◌, refl, sym, ap, ◌∙◌, subst}
 use mathlib.Core.Logic.{◌≢◌}
 use mathlib.Core.Bool.{true, false}
@@ -66,6 +66,11 @@ read_is {s = s} {R = R} {code = code} {at = at} e h = subst (λ x. ReadTo s R co
 
 pub read_stop : {A : Type 0} {s : Bytes} {R : A → Type 0} {code at : ℕ} {m : Answer Bytes A} {r : Refusal} {rest : Bytes} → m ≡ stop r rest → code ≡ code_of r → ReadTo s R code at m
 read_stop e h = read_is e (refused h)
+
+-- a refusal, wherever it is
+pub read_back : {A : Type 0} {s : Bytes} {R Q : A → Type 0} {code at at' : ℕ} {m : Answer Bytes A} → code ≢ 0 → ReadTo s R code at m → ReadTo s Q code at' m
+read_back n (passed e p h) = absurd (n e)
+read_back n (refused e) = refused e
 
 -- ---- the first byte
 

@@ -19,18 +19,15 @@ use Rattle.lookup.specs.Completing.{left_out_sound, no_context_lem}
 use Rattle.lookup.specs.Answers.{code_nonzero}
 use Rattle.cells.specs.declared.scope.Scope.{Scope}
 use Rattle.names.specs.Known.{Known}
-use Rattle.symbols.specs.declared.UsedName.{UsedName}
 use Rattle.kinds.specs.Kinds.{KindsTable}
 use Rattle.notes.specs.Note.{StateNoted}
 use Rattle.meanings.specs.Bindings.{bound_names}
 use Rattle.meanings.specs.NotedContext.{ContextNoted}
 use Rattle.meanings.specs.Posts.{BindingFound}
 use Rattle.meanings.specs.Meanings.{cell_of, Meant, means, means_nothing}
-use Rattle.meanings.specs.declared.meanings.Meaning.{Meaning as NameMeaning}
 use Rattle.completion.specs.Posts.{variable_cells}
-use Rattle.expressions.specs.declared.parts.Reading.{Reading}
-use Rattle.expressions.specs.Posts.{used_of, NameSought, Inserted, Filled, put_in, wrong, Completed}
-use Rattle.expressions.specs.Walk.{SameBelow, CellPut, Laid, Faulted, whole, faulty, Written}
+use Rattle.expressions.specs.Posts.{UsedPlace, NameMeaning, used_of, NameSought, Inserted, Filled, put_in, wrong, Completed}
+use Rattle.expressions.specs.Walk.{Walked, SameBelow, CellPut, Laid, Faulted, whole, faulty, Written}
 use Rattle.expressions.proofs.StoreLaws.{below_then}
 use Rattle.expressions.proofs.LaidLaws.{nothing_laid, laid_append, laid_cell, laid_in_front}
 
@@ -183,10 +180,10 @@ module _ (st : State) (context : List ℕ) (bs : List Bytes) where
     name_found (means {m} z c q) h = filled_found m z c (λ us e es f. built m xs us es e f) (h m z c q)
 
 -- the name, its arguments xs and what was left out of them
-pub name_written : (st : State) {ks s : Bytes} {b : ℕ} {scope : Scope} {book tb : List ℕ} {lines indicator : ℕ} {w w₁ wA w' : List ℕ} {to first fault : ℕ} {u : UsedName} {m : NameMeaning}
+pub name_written : (st : State) {ks s : Bytes} {b : ℕ} {scope : Scope} {book tb : List ℕ} {lines indicator : ℕ} {w w₁ wA w' : List ℕ} {to first fault : ℕ} {u : UsedPlace} {m : NameMeaning}
     → NameSought ks s b book tb lines indicator w fault u m → CellPut w w₁ to m.cell first → KindsTable ks → Known st.earlier book tb lines → StateNoted st book tb lines w
     → ContextNoted st.earlier indicator w → ContextNoted st.earlier indicator wA → indicator ≤ lines → BindingFound s scope (used_of s u) b
-    → scope.bound ≤ nesting → 1 ≤ u.len → u.start + u.len ≤ length s → u.title + u.size ≤ length s → SameBelow first w₁ wA → {a r : Reading} (xs : Srcs)
+    → scope.bound ≤ nesting → 1 ≤ u.len → u.start + u.len ≤ length s → u.title + u.size ≤ length s → SameBelow first w₁ wA → {a r : Walked} (xs : Srcs)
     → Completed tb indicator wA w' first scope.depth a m r → a.code ≡ 0 → first ≤ a.to → a.to ≤ length wA + 1 → a.count ≡ count_srcs xs
     → Written cellss levelss (resolves st (context_at st.earlier indicator) (bound_names s scope)) w₁ wA first a.to (nesting - 1 - scope.depth) m.fault a.fault xs
     → Written cells levels (resolve st (context_at st.earlier indicator) (bound_names s scope)) w w' to r.to (suc (nesting - 1 - scope.depth)) fault r.fault

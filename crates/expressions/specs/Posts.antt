@@ -1,5 +1,5 @@
 -- What the functions that read an expression leave.
-use Rattle.std.specs.Prelude.{◌≡◌, ◌≢◌, ◌⊎◌, List, [], ◌++◌, ℕ, ◌+◌, ◌-◌, ◌*◌, ◌/◌, ◌≤◌, ◌<◌, length, drop}
+use Rattle.std.specs.Prelude.{◌≡◌, ◌≢◌, ◌⊎◌, List, [], ◌++◌, ℕ, ◌+◌, ◌-◌, ◌*◌, ◌/◌, ◌≤◌, ◌<◌, length, drop, Result}
 use Rattle.std.proofs.Math.Seq.{slice}
 use Rattle.aut68.specs.Language.{aut68}
 use Rattle.aut68.specs.Rules.Grammar.{inner}
@@ -11,21 +11,22 @@ use Rattle.aut68.specs.Procedure.Parse.{Read, an_expression, named, application,
 use Rattle.aut68.specs.Procedure.Answer.{Answer, wrong_arity}
 use Rattle.aut68.specs.Procedure.Resolve.{found, refused, Meaning, wanted, left_out, resolve, resolves, meaning, context_at}
 use Rattle.aut68.specs.Sizes.{nesting}
+use Rattle.constants.specs.declared.codes.Reason.{Reason}
+use Rattle.constants.specs.Refusals.{code_in}
 use Rattle.cells.specs.Layout.{line_unit, reader_units}
 use Rattle.kinds.specs.Kinds.{KindsTable}
 use Rattle.cells.specs.declared.scope.Scope.{Scope}
 use Rattle.names.specs.Known.{Known}
-use Rattle.symbols.specs.Symbols.{used_in}
+use Rattle.symbols.specs.Symbols.{used_in, title_in, size_in}
 use Rattle.symbols.specs.declared.UsedName.{UsedName}
 use Rattle.notes.specs.Note.{note_end, StateNoted}
 use Rattle.meanings.specs.Bindings.{bound_names}
 use Rattle.meanings.specs.NotedContext.{ContextNoted}
 use Rattle.meanings.specs.Posts.{BindingFound}
-use Rattle.meanings.specs.Meanings.{cell_of, Meant}
-use Rattle.meanings.specs.declared.meanings.Meaning.{Meaning as NameMeaning}
+use Rattle.meanings.specs.Meanings.{cell_of, cell_in, wanted_in, Meant}
+use Rattle.meanings.specs.declared.meanings.Meaning.{Meaning as Told}
 use Rattle.completion.specs.Posts.{variable_cells}
-use Rattle.expressions.specs.declared.parts.Reading.{Reading}
-use Rattle.expressions.specs.Walk.{ReadTo, SameBelow, Written}
+use Rattle.expressions.specs.Walk.{Walked, ReadTo, SameBelow, Written}
 
 -- the readers of an expression in a scope, of a part of one, and of the three forms
 module _ (scope : Scope) where
@@ -45,7 +46,7 @@ module _ (scope : Scope) where
   abstraction_in = abstraction aut68 part_in part_in
 
 -- a walk that goes on at byte `at` and cell `to`, with the first fault of a name so far
-abbrev pub go_on : ℕ → ℕ → ℕ → Reading
+abbrev pub go_on : ℕ → ℕ → ℕ → Walked
 go_on at to fault = record { code = 0; at = at; to = to; fault = fault; count = 0 }
 
 -- a scope of at most so many nesting levels, of which no more bind a name
@@ -69,14 +70,14 @@ pub record Ready (st : State) (ks s book tb : List ℕ) (lines indicator : ℕ) 
   pub sized : Sized scope
 
 -- the walk ends at byte `at`, cell `to`, with a refusal of the form
-pub record Refusing (code at to : ℕ) (r : Reading) : Type 0 where
+pub record Refusing (code at to : ℕ) (r : Walked) : Type 0 where
   pub code_is : r.code ≡ code
   pub at_is : r.at ≡ at
   pub to_is : r.to ≡ to
 
 -- Whatever was read: nothing is written below the first cell, the walk goes on from there, inside the line, and its next cell is at
 -- most one past the store's end.
-pub record Onward (s : Bytes) (w w' : List ℕ) (r r' : Reading) : Type 0 where
+pub record Onward (s : Bytes) (w w' : List ℕ) (r r' : Walked) : Type 0 where
   pub below : SameBelow r.to w w'
   pub up : r.to ≤ r'.to
   pub from : r.at ≤ r'.at
@@ -92,29 +93,48 @@ module _ (st : State) (s : Bytes) (indicator : ℕ) (scope : Scope) (w w' : List
   WrittenAll = Written cellss levelss (resolves st (context_at st.earlier indicator) (bound_names s scope)) w w' to end (nesting - scope.depth) fault fault'
 
 -- the reader m read an expression from r on, and came to r'
-pub record ExpressionRead (m : Read Src) (ks s : Bytes) (scope : Scope) (book tb : List ℕ) (lines indicator : ℕ) (w w' : List ℕ) (r r' : Reading) : Type 0 where
+pub record ExpressionRead (m : Read Src) (ks s : Bytes) (scope : Scope) (book tb : List ℕ) (lines indicator : ℕ) (w w' : List ℕ) (r r' : Walked) : Type 0 where
   pub onward : Onward s w w' r r'
   pub read : (st : State) → Ready st ks s book tb lines indicator scope w r.to
       → ReadTo s (WrittenOne st s indicator scope w w' r.to r'.to r.fault r'.fault) r'.code r'.at (m (drop r.at s))
 
 -- the arguments xs, counted from `count` on, with their cells
-pub record Counted (st : State) (s : Bytes) (indicator : ℕ) (scope : Scope) (w w' : List ℕ) (to fault count : ℕ) (r' : Reading) (xs : Srcs) : Type 0 where
+pub record Counted (st : State) (s : Bytes) (indicator : ℕ) (scope : Scope) (w w' : List ℕ) (to fault count : ℕ) (r' : Walked) (xs : Srcs) : Type 0 where
   pub number : r'.count ≡ count + count_srcs xs
   pub written : WrittenAll st s indicator scope w w' to r'.to fault r'.fault xs
 
 -- the argument string behind `(` was read from r on, up to its `)`; n bounds how many arguments there can be
-pub record ArgumentsRead (ks s : Bytes) (scope : Scope) (book tb : List ℕ) (lines indicator : ℕ) (w w' : List ℕ) (r r' : Reading) : Type 0 where
+pub record ArgumentsRead (ks s : Bytes) (scope : Scope) (book tb : List ℕ) (lines indicator : ℕ) (w w' : List ℕ) (r r' : Walked) : Type 0 where
   pub onward : Onward s w w' r r'
   pub read : (st : State) → Ready st ks s book tb lines indicator scope w r.to → (n : ℕ) → length s - r.at < n
       → ReadTo s (Counted st s indicator scope w w' r.to r.fault 0 r') r'.code r'.at
       (arguments (expression_in scope) n (drop r.at s))
 
+-- where a used name is, in numbers: the paragraph's name ahead of the point, of size 0 if there is no point, and the name
+pub record UsedPlace : Type 0 where
+  pub title : ℕ
+  pub size : ℕ
+  pub start : ℕ
+  pub len : ℕ
+
+abbrev pub place_of : UsedName → UsedPlace
+place_of u = record { title = title_in u.paragraph; size = size_in u.paragraph; start = u.name.start; len = u.name.len }
+
 -- the used name at the place u of s
-abbrev pub used_of : Bytes → UsedName → Used
+abbrev pub used_of : Bytes → UsedPlace → Used
 used_of s u = used_in s u.title u.size u.start u.len
 
+-- what a name means, in numbers: the code of its refusal, or 0; its cell, and how many arguments it takes
+pub record NameMeaning : Type 0 where
+  pub fault : ℕ
+  pub cell : ℕ
+  pub wanted : ℕ
+
+abbrev pub meaning_in : Result Told Reason → NameMeaning
+meaning_in m = record { fault = code_in m; cell = cell_in m; wanted = wanted_in m }
+
 -- what a name means, wherever b is its binding; the fault from before, if there was one
-pub record NameSought (ks s : Bytes) (b : ℕ) (book tb : List ℕ) (lines indicator : ℕ) (w : List ℕ) (fault : ℕ) (u : UsedName) (m : NameMeaning) : Type 0 where
+pub record NameSought (ks s : Bytes) (b : ℕ) (book tb : List ℕ) (lines indicator : ℕ) (w : List ℕ) (fault : ℕ) (u : UsedPlace) (m : NameMeaning) : Type 0 where
   pub kept : fault ≢ 0 → m.fault ≡ fault
   pub meant : fault ≡ 0 → 1 ≤ u.len → u.start + u.len ≤ length s → u.title + u.size ≤ length s
       → (st : State) → KindsTable ks → Known st.earlier book tb lines → StateNoted st book tb lines w → ContextNoted st.earlier indicator w → indicator ≤ lines
@@ -134,7 +154,7 @@ pub data Filled (w w' : List ℕ) (first end end' d fault fault' : ℕ) : Answer
   wrong : fault' ≡ 6 → Filled w w' first end end' d fault fault' (refused wrong_arity)
 
 -- r is the argument string a of a name that means m, its cells from `first` on, with what was left out
-pub record Completed (tb : List ℕ) (indicator : ℕ) (w w' : List ℕ) (first depth : ℕ) (a : Reading) (m : NameMeaning) (r : Reading) : Type 0 where
+pub record Completed (tb : List ℕ) (indicator : ℕ) (w w' : List ℕ) (first depth : ℕ) (a : Walked) (m : NameMeaning) (r : Walked) : Type 0 where
   pub below : SameBelow first w w'
   pub up : a.to ≤ length w + 1 → a.to ≤ r.to
   pub small : a.to ≤ length w + 1 → r.to ≤ length w + 1

@@ -1,9 +1,34 @@
 -- What a walk over a line says of the procedure's answers: reading works through bytes, names are looked up from left to right.
-use Rattle.std.specs.Prelude.{◌≡◌, ◌≢◌, ◌⊎◌, List, ℕ, ◌+◌, ◌≤◌, ◌<◌, length, drop, take, set}
+use Rattle.std.specs.Prelude.{◌≡◌, ◌≢◌, ◌⊎◌, List, ℕ, ◌+◌, ◌≤◌, ◌<◌, length, drop, take, set, Option, None, Some, Result, Ok, Err}
 use Rattle.std.proofs.Math.Seq.{slice}
 use Rattle.aut68.specs.Bytes.{Bytes}
 use Rattle.aut68.specs.Procedure.Answer.{Answer, done, stop, Refusal, code_of}
 use Rattle.aut68.specs.Procedure.Resolve.{Naming, found}
+use Rattle.constants.specs.declared.codes.Reason.{Reason}
+use Rattle.constants.specs.Reasons.{refusal_of}
+use Rattle.expressions.specs.declared.parts.Reading.{Reading}
+
+-- How far a walk came, in numbers. code: 0, or that of the refusal of the form that ended it. at, to: the next byte and the next cell.
+-- fault: the code of the first refusal of a name, or 0. count: the arguments read, for an argument string.
+pub record Walked : Type 0 where
+  pub code : ℕ
+  pub at : ℕ
+  pub to : ℕ
+  pub fault : ℕ
+  pub count : ℕ
+
+abbrev pub fault_in : Option Reason → ℕ
+fault_in None = 0
+fault_in (Some r) = code_of (refusal_of r)
+
+-- what was read, in numbers
+abbrev pub read_to : Reading → Walked
+read_to r = record { code = 0; at = r.at; to = r.to; fault = fault_in r.fault; count = r.count }
+
+-- the same of a walk from byte `at` and cell `to`, which stays there where it is refused
+abbrev pub walked : ℕ → ℕ → Result Reading Reason → Walked
+walked at to (Ok r) = read_to r
+walked at to (Err e) = record { code = code_of (refusal_of e); at = at; to = to; fault = 0; count = 0 }
 
 -- Code 0 where the procedure reads a value, of which R holds, and goes on at place `at` of s; else the code of its refusal.
 pub data ReadTo {A : Type 0} (s : Bytes) (R : A → Type 0) (code at : ℕ) : Answer Bytes A → Type 0 where

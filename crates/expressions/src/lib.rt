@@ -7,5 +7,5 @@
 mod parts;
 mod walk;
 
-pub use parts::{Reading, put, refused};
+pub use parts::{Reading, put, title, word};
 pub use walk::expression;

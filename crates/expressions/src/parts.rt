@@ -1,54 +1,41 @@
 // The parts of a walk over an expression that call no other: how far it came, a cell written, a name looked up, its arguments
 // completed.
-ghost use Rattle.std.specs.Prelude.{◌≡◌, ◌+◌, ◌≤◌, ◌<◌, length};
+ghost use Rattle.std.specs.Prelude.{◌≡◌, ◌≢◌, ◌+◌, ◌≤◌, ◌<◌, length, IfSome};
+ghost use Rattle.std.proofs.Math.Seq.{slice};
 ghost use Rattle.aut68.specs.Sizes.{nesting};
 ghost use Rattle.kinds.specs.Kinds.{opens_kind};
-ghost use Rattle.expressions.specs.Walk.{CellPut};
-ghost use Rattle.expressions.specs.Posts.{Refusing, NameSought, Completed};
+ghost use Rattle.symbols.specs.Symbols.{title_in, size_in};
+ghost use Rattle.meanings.specs.Bindings.{place_in};
+ghost use Rattle.meanings.specs.Meanings.{cell_in};
+ghost use Rattle.meanings.specs.Posts.{BindingFound};
+ghost use Rattle.expressions.specs.Walk.{CellPut, fault_in, read_to};
+ghost use Rattle.expressions.specs.Posts.{NameSought, Completed, place_of, used_of, meaning_in};
 
+use cells::Scope;
 use completion::{last_left_out, put_in};
-use constants::{CELL_FACTOR, Cell, NESTING};
-use meanings::{Meaning, meaning_of};
-use symbols::UsedName;
+use constants::{CELL_FACTOR, Cell, NESTING, Reason};
+use meanings::{Meaning, binding, meaning_of};
+use symbols::{Name, UsedName};
 
-// How far a walk came. code: 0, or the refusal of the form (3 or 10), which ends the walk. at: the next byte. to: the next
-// cell; one past the store's end, and staying there, where the store had no room or something was put in too deep. fault: the
-// first refusal of a name (5, 6 or 14), or 0; it says something only if code is 0. count: the arguments read, for an argument string.
+// How far a walk came. at: the next byte. to: the next cell; one past the store's end, and staying there, where the store had no room
+// or something was put in too deep. fault: the first refusal of a name. count: the arguments read, for an argument string.
 #[derive(Clone, Copy)]
 pub struct Reading {
-    pub code: u32,
     pub at: usize,
     pub to: usize,
-    pub fault: u32,
+    pub fault: Option<Reason>,
     pub count: usize,
 }
 
-pub fn refused(code: u32, at: usize, to: usize) -> Reading
-    ensures { Refusing code at to result }
-{
-    Reading {
-        code: code,
-        at: at,
-        to: to,
-        fault: 0,
-        count: 0,
-    }
-}
-
-// Does a byte of this kind open an expression (opens_expression): NAME, LESS, BRACKET?
+// Does a byte of this kind open an expression (opens_expression)?
 pub fn opens(k: u8) -> bool
     ensures { result ≡ opens_kind k }
 {
-    if k == 0 {
-        return false;
-    }
-    if k > 3 {
-        return false;
-    }
-    true
+    matches!(k, kinds::NAME | kinds::LESS | kinds::BRACKET)
 }
 
 // Writes the cell x at index `to`, and gives the next index; one past the store's end where there is no room.
+// Kept: the walk hands this index on at each cell, so an Option would be taken apart at each of them.
 pub fn put(w: &mut [Cell], to: usize, x: Cell) -> usize
     ensures { CellPut w.old w.new to x result }
 {
@@ -57,6 +44,37 @@ pub fn put(w: &mut [Cell], to: usize, x: Cell) -> usize
         return to + 1;
     }
     w.len() + 1
+}
+
+// The bytes of a name.
+pub fn word(line: &[u8], n: Name) -> &[u8]
+    requires { n.start + n.len ≤ length line.now }
+    ensures { result.now ≡ slice n.start (n.start + n.len) line.now }
+{
+    &line[n.start..n.start + n.len]
+}
+
+// Those of the paragraph's name ahead of the point; none if there is no point.
+pub fn title(line: &[u8], u: UsedName) -> &[u8]
+    requires { title_in u.paragraph + size_in u.paragraph ≤ length line.now }
+    ensures { result.now ≡ slice (title_in u.paragraph) (title_in u.paragraph + size_in u.paragraph) line.now }
+{
+    match u.paragraph {
+        Some(p) => word(line, p),
+        None => &line[..0],
+    }
+}
+
+// The binding of the used name u. A name behind a point has none.
+pub fn bound(line: &[u8], scope: &Scope, u: UsedName) -> Option<usize>
+    requires within { u.name.start + u.name.len ≤ length line.now }
+    requires titled { IfSome u.paragraph (λ p. p.len ≢ 0) }
+    ensures { BindingFound line.now scope.now (used_of line.now (place_of u)) (place_in result) }
+{
+    match u.paragraph {
+        Some(_) => None,
+        None => binding(line, scope, word(line, u.name)),
+    }
 }
 
 // The meaning of the used name u whose binding is b, by what w notes of lines, paragraphs and the context. It is not looked up where a
@@ -69,24 +87,16 @@ pub fn name_meaning(
     lines: usize,
     indicator: usize,
     w: &[Cell],
-    fault: u32,
-    b: usize,
+    fault: Option<Reason>,
+    b: Option<usize>,
     u: UsedName,
-) -> Meaning
-    requires { (u.start + u.len ≤ length line.now) × (u.title + u.size ≤ length line.now) }
-    ensures { NameSought kinds.now line.now b book.now table.now lines indicator w.now fault u result }
+) -> Result<Meaning, Reason>
+    requires { (u.name.start + u.name.len ≤ length line.now) × (title_in u.paragraph + size_in u.paragraph ≤ length line.now) }
+    ensures { NameSought kinds.now line.now (place_in b) book.now table.now lines indicator w.now (fault_in fault) (place_of u) (meaning_in result) }
 {
-    if fault != 0 {
-        return Meaning {
-            fault: fault,
-            cell: 0,
-            wanted: 0,
-        };
+    if let Some(reason) = fault {
+        return Err(reason);
     }
-    let title = u.title;
-    let point = title + u.size;
-    let start = u.start;
-    let end = start + u.len;
     meaning_of(
         b,
         book,
@@ -95,26 +105,23 @@ pub fn name_meaning(
         lines,
         indicator,
         w,
-        &line[title..point],
-        &line[start..end],
+        title(line, u),
+        word(line, u.name),
     )
 }
 
-// The arguments a with this fault and this next cell.
-fn with(a: Reading, to: usize, fault: u32) -> Reading
-    ensures { (result.code ≡ a.code) × (result.at ≡ a.at) × (result.to ≡ to) × (result.fault ≡ fault) }
+// The cell of a name that means m; 0 where it means nothing.
+pub fn cell_of(m: Result<Meaning, Reason>) -> Cell
+    ensures { result ≡ cell_in m }
 {
-    Reading {
-        code: a.code,
-        at: a.at,
-        to: to,
-        fault: fault,
-        count: 0,
+    match m {
+        Ok(m) => m.cell,
+        Err(_) => 0,
     }
 }
 
-// The arguments a of a name that means m, at nesting depth `depth`, their cells from `first` on: those left out put in front, with 6
-// as the fault where that cannot be (left_out). A wrong count stands at its name, so it goes before a fault in the arguments.
+// The arguments a of a name that means m, at nesting depth `depth`, their cells from `first` on: those left out put in front, with a
+// wrong count as the fault where that cannot be (left_out). It stands at its name, so it goes before a fault in the arguments.
 pub fn completed(
     table: &[u32],
     indicator: usize,
@@ -122,32 +129,34 @@ pub fn completed(
     first: usize,
     depth: usize,
     a: Reading,
-    m: Meaning,
+    m: Result<Meaning, Reason>,
 ) -> Reading
     requires { depth < nesting }
-    ensures { Completed table.now indicator w.old w.new first depth a m result }
+    ensures { Completed table.now indicator w.old w.new first depth (read_to a) (meaning_in m) (read_to result) }
 {
-    if a.code != 0 {
+    let Ok(m) = m else {
+        return a;
+    };
+    if a.count == m.wanted {
         return a;
     }
-    if m.fault != 0 {
-        return a;
-    }
-    let count = a.count;
-    if count == m.wanted {
-        return a;
-    }
-    if count > m.wanted {
-        return with(a, a.to, constants::WRONG_ARITY);
+    let miscounted = Reading {
+        fault: Some(Reason::WrongArity),
+        ..a
+    };
+    if a.count > m.wanted {
+        return miscounted;
     }
     let v = (m.cell / CELL_FACTOR) as usize;
-    let last = last_left_out(table, w, indicator, v, count);
-    if last == 0 {
-        return with(a, a.to, constants::WRONG_ARITY);
-    }
+    let Some(last) = last_left_out(table, w, indicator, v, a.count) else {
+        return miscounted;
+    };
     if depth + 1 >= NESTING {
-        return with(a, w.len() + 1, a.fault);
+        return Reading {
+            to: w.len() + 1,
+            ..a
+        };
     }
     let to = put_in(table, w, first, a.to, last);
-    with(a, to, a.fault)
+    Reading { to, ..a }
 }

@@ -1,12 +1,13 @@
 use mathlib.Core.Path.{sym}
+use native.Mathlib.Omega.{arith}
 use Rattle.expressions.proofs.ReadLaws.{opens_low, opens_high, opens_between}
 use Rattle.expressions.proofs.parts.opens.Goals as goal
 
-pub returns-then-k-eq0 : goal.returns-then-k-eq0
-returns-then-k-eq0 c = sym (opens_low _ c.if-k-eq0.true)
+pub returns-in-1 : goal.returns-in-1
+returns-in-1 c = sym (opens_between _ (λ z. omega arith) (omega arith))
 
-pub returns-then-k-gt3 : goal.returns-then-k-gt3
-returns-then-k-gt3 c = sym (opens_high _ c.if-k-gt3.true)
+pub returns-in_default : goal.returns-in_default
+returns-in_default c = sym (opens_low _ (omega arith))
 
-pub returns : goal.returns
-returns c = sym (opens_between _ c.if-k-eq0.false c.if-k-gt3.false)
+pub returns-in_default-2 : goal.returns-in_default-2
+returns-in_default-2 c = sym (opens_high _ (omega arith))

@@ -1,183 +1,214 @@
-use mathlib.Core.Path.{◌∙◌}
-use Rattle.symbols.proofs.SymbolLaws.{part}
+use mathlib.Core.Path.{refl, sym, ◌∙◌}
+use Rattle.std.proofs.lemmas.Result.{err_from_is_err_and}
+use Rattle.expressions.proofs.CompletedLaws.{completed_refused}
+use Rattle.lookup.specs.Answers.{code_nonzero}
 use Rattle.expressions.proofs.StoreLaws.{below_put, put_next}
-use Prim.Native.Nat.{◌+◌}
 use native.Mathlib.Omega.{arith}
-use Rattle.expressions.proofs.ExpressionLaws.{expression_too_deep, expression_malformed, expression_application, expression_abstraction, expression_named}
+use Rattle.expressions.proofs.ExpressionLaws.{stopped, refused_here, walked_here, code_malformed, code_too_large, expression_too_deep, expression_malformed, expression_application, expression_abstraction, expression_named}
 use Rattle.expressions.proofs.PairLaws.{application_unopened, application_first_refused, application_unclosed, application_read}
 use Rattle.expressions.proofs.PairLaws.{abstraction_unopened, abstraction_unnamed, abstraction_no_comma, abstraction_first_refused, abstraction_unclosed, abstraction_read}
-use Rattle.expressions.proofs.NamedLaws.{binding_of, binding_pointed, binding_none, named_unnamed, named_alone, named_read}
-use Rattle.expressions.proofs.ArgumentLaws.{arguments_start, arguments_refused, arguments_more, arguments_unclosed, arguments_closed}
+use Rattle.expressions.proofs.NamedLaws.{fault_err, named_unnamed, named_alone, named_read}
+use Rattle.expressions.proofs.ArgumentLaws.{arguments_here, arguments_start, arguments_refused, arguments_more, arguments_unclosed, arguments_closed}
 use Rattle.expressions.proofs.walk.+abstraction_application_arguments_expression_named.Goals as goal
-use Rattle.expressions.proofs.walk.+abstraction_application_arguments_expression_named.Goals.{named-then-scope-gt0+then-n-eq0, named-then-scope-gt0+else-n-eq0, named-else-scope-gt0}
 
-pub abstraction-returns-then-open-line : goal.abstraction-returns-then-open-line
-abstraction-returns-then-open-line t c =
-    abstraction_unopened c.requires.0 c.requires.1 c.requires.2 c.symbol-open.ensures c.if-open-line.true
-    c.refused.ensures
+pub abstraction-returns-in_default : goal.abstraction-returns-in_default
+abstraction-returns-in_default t c =
+    refused_here _
+    (abstraction_unopened c.requires.0 c.requires.1 c.requires.2 c.in_default.ensures.past (omega arith) (stopped _ _ _))
+    (sym code_malformed) c.requires.1
 
-pub abstraction-returns-then-len-eq0 : goal.abstraction-returns-then-len-eq0
-abstraction-returns-then-len-eq0 t c =
-    abstraction_unnamed c.requires.0 c.requires.1 c.requires.2 c.symbol-open.ensures c.if-open-line.false
-    c.name_at-x.ensures c.if-len-eq0.true c.refused-then-len-eq0.ensures
+pub abstraction-returns-in_default-name_at : goal.abstraction-returns-in_default-name_at
+abstraction-returns-in_default-name_at t c =
+    refused_here _
+    (abstraction_unnamed c.requires.0 c.requires.1 c.requires.2 c.in-Some.ensures.past c.in-Some.ensures.inside
+    c.in_default-name_at.ensures.1 refl (stopped _ _ _))
+    (sym code_malformed) c.requires.1
 
-pub abstraction-overflow_add-start : goal.abstraction-overflow_add-start
-abstraction-overflow_add-start t c = omega (arith, c.name_at-x.ensures.within c.if-open-line.false)
+pub abstraction-overflow_add-x : goal.abstraction-overflow_add-x
+abstraction-overflow_add-x t c = omega (arith, c.in-Some-name_at.ensures.1.within c.in-Some.ensures.inside)
 
-pub abstraction-returns-then-comma-line : goal.abstraction-returns-then-comma-line
-abstraction-returns-then-comma-line t c =
-    abstraction_no_comma c.requires.0 c.requires.1 c.requires.2 c.symbol-open.ensures c.if-open-line.false
-    c.name_at-x.ensures c.if-len-eq0.false c.symbol-comma.ensures c.if-comma-line.true
-    c.refused-then-comma-line.ensures
+pub abstraction-returns-in_default-symbol : goal.abstraction-returns-in_default-symbol
+abstraction-returns-in_default-symbol t c =
+    refused_here _
+    (abstraction_no_comma c.requires.0 c.requires.1 c.requires.2 c.in-Some.ensures.past c.in-Some.ensures.inside
+    c.in-Some-name_at.ensures.1 c.in-Some-name_at.ensures.0 c.in_default-symbol.ensures.past (omega arith) (stopped _ _ _))
+    (sym code_malformed) c.requires.1
 
-pub abstraction-expression-a-requires : goal.abstraction-expression-a-requires
-abstraction-expression-a-requires t c =
-    let inside = c.name_at-x.ensures.within c.if-open-line.false in
+pub abstraction-expression-requires : goal.abstraction-expression-requires
+abstraction-expression-requires t c =
+    let inside = c.in-Some-name_at.ensures.1.within c.in-Some.ensures.inside in
     let put = c.put-cell.ensures in
     omega (
       arith,
       c.requires,
       put_next put c.requires.0,
       (below_put put).long,
-      c.if-comma-line,
+      c.in-Some-symbol.ensures.inside,
       c.nest-level.ensures.deeper c.requires.2,
-      c.symbol-comma.ensures.from inside,
-      c.name_at-x.ensures.from,
-      c.symbol-open.ensures.from c.requires.1,
+      c.in-Some-symbol.ensures.past.from inside,
+      c.in-Some-name_at.ensures.1.from,
+      c.in-Some.ensures.past.from c.requires.1,
     )
 
-pub abstraction-returns-then-a-ne0 : goal.abstraction-returns-then-a-ne0
-abstraction-returns-then-a-ne0 t c =
-    abstraction_first_refused c.requires.0 c.requires.1 c.requires.2 c.symbol-open.ensures c.if-open-line.false
-    c.name_at-x.ensures c.if-len-eq0.false c.symbol-comma.ensures c.if-comma-line.false c.put-cell.ensures
-    c.nest-level.ensures c.expression-a.ensures c.if-a-ne0.true
+pub abstraction-returns-in_err-a : goal.abstraction-returns-in_err-a
+abstraction-returns-in_err-a t c =
+    let p = err_from_is_err_and c.from_residual.result c.from_residual.ensures.1 in
+    rw (p.1, p.2)
+    (refused_here _
+    (abstraction_first_refused c.requires.0 c.requires.1 c.requires.2 c.in-Some.ensures.past c.in-Some.ensures.inside
+    c.in-Some-name_at.ensures.1 c.in-Some-name_at.ensures.0 c.in-Some-symbol.ensures.past c.in-Some-symbol.ensures.inside c.put-cell.ensures
+    c.nest-level.ensures c.in_err-a.ensures (code_nonzero _))
+    refl c.requires.1)
 
-pub abstraction-returns-then-close-line : goal.abstraction-returns-then-close-line
-abstraction-returns-then-close-line t c =
-    abstraction_unclosed c.requires.0 c.requires.1 c.requires.2 c.symbol-open.ensures c.if-open-line.false
-    c.name_at-x.ensures c.if-len-eq0.false c.symbol-comma.ensures c.if-comma-line.false c.put-cell.ensures
-    c.nest-level.ensures c.expression-a.ensures c.if-a-ne0.false c.symbol-close.ensures
-    c.if-close-line.true c.refused-then-close-line.ensures
+pub abstraction-returns-in_default-symbol-2 : goal.abstraction-returns-in_default-symbol-2
+abstraction-returns-in_default-symbol-2 t c =
+    refused_here _
+    (abstraction_unclosed c.requires.0 c.requires.1 c.requires.2 c.in-Some.ensures.past c.in-Some.ensures.inside
+    c.in-Some-name_at.ensures.1 c.in-Some-name_at.ensures.0 c.in-Some-symbol.ensures.past c.in-Some-symbol.ensures.inside c.put-cell.ensures
+    c.nest-level.ensures c.in_ok-a.ensures refl c.in_default-symbol-2.ensures.past
+    (omega arith) (stopped _ _ _))
+    (sym code_malformed) c.requires.1
 
-pub abstraction-expression-requires : goal.abstraction-expression-requires
-abstraction-expression-requires t c =
+pub abstraction-expression-requires-2 : goal.abstraction-expression-requires-2
+abstraction-expression-requires-2 t c =
     omega (
       arith,
       c.requires,
-      c.if-close-line,
+      c.in-Some-symbol-2.ensures.inside,
       c.bind-inner.ensures.deeper c.requires.2,
-      c.symbol-close.ensures.from c.expression-a.ensures.onward.inside,
-      c.expression-a.ensures.onward,
+      c.in-Some-symbol-2.ensures.past.from c.in_ok-a.ensures.onward.inside,
+      c.in_ok-a.ensures.onward,
     )
 
 pub abstraction-shape_of-w : goal.abstraction-shape_of-w
 abstraction-shape_of-w t c =
-    c.expression.ensures.onward.below.long
-    ∙ c.expression-a.ensures.onward.below.long
+    c.expression-2.ensures.onward.below.long
+    ∙ c.in_ok-a.ensures.onward.below.long
     ∙ (below_put c.put-cell.ensures).long
 
 pub abstraction-returns : goal.abstraction-returns
 abstraction-returns t c =
-    abstraction_read c.requires.0 c.requires.1 c.requires.2 c.symbol-open.ensures c.if-open-line.false
-    c.name_at-x.ensures c.if-len-eq0.false c.symbol-comma.ensures c.if-comma-line.false c.put-cell.ensures
-    c.nest-level.ensures c.expression-a.ensures c.if-a-ne0.false c.symbol-close.ensures c.if-close-line.false
-    c.bind-inner.ensures c.expression.ensures
+    walked_here _ _ c.expression-2.result
+    (abstraction_read c.requires.0 c.requires.1 c.requires.2 c.in-Some.ensures.past c.in-Some.ensures.inside
+    c.in-Some-name_at.ensures.1 c.in-Some-name_at.ensures.0 c.in-Some-symbol.ensures.past c.in-Some-symbol.ensures.inside c.put-cell.ensures
+    c.nest-level.ensures c.in_ok-a.ensures refl c.in-Some-symbol-2.ensures.past c.in-Some-symbol-2.ensures.inside
+    c.bind-inner.ensures c.expression-2.ensures)
+    c.requires.1
 
-pub application-returns-then-open-line : goal.application-returns-then-open-line
-application-returns-then-open-line t c =
-    application_unopened c.requires.0 c.requires.1 c.requires.2 c.symbol-open.ensures c.if-open-line.true
-    c.refused.ensures
+pub application-returns-in_default : goal.application-returns-in_default
+application-returns-in_default t c =
+    refused_here _
+    (application_unopened c.requires.0 c.requires.1 c.requires.2 c.in_default.ensures.past (omega arith) (stopped _ _ _))
+    (sym code_malformed) c.requires.1
 
-pub application-expression-a-requires : goal.application-expression-a-requires
-application-expression-a-requires t c =
+pub application-expression-requires : goal.application-expression-requires
+application-expression-requires t c =
     let put = c.put-cell.ensures in
     omega (
       arith,
       c.requires,
       put_next put c.requires.0,
       (below_put put).long,
-      c.if-open-line,
+      c.in-Some.ensures.inside,
       c.nest-inner.ensures.deeper c.requires.2,
-      c.symbol-open.ensures.from c.requires.1,
+      c.in-Some.ensures.past.from c.requires.1,
     )
 
-pub application-returns-then-a-ne0 : goal.application-returns-then-a-ne0
-application-returns-then-a-ne0 t c =
-    application_first_refused c.requires.0 c.requires.1 c.requires.2 c.symbol-open.ensures c.if-open-line.false
-    c.put-cell.ensures c.nest-inner.ensures c.expression-a.ensures c.if-a-ne0.true
+pub application-returns-in_err-a : goal.application-returns-in_err-a
+application-returns-in_err-a t c =
+    let p = err_from_is_err_and c.from_residual.result c.from_residual.ensures.1 in
+    rw (p.1, p.2)
+    (refused_here _
+    (application_first_refused c.requires.0 c.requires.1 c.requires.2 c.in-Some.ensures.past c.in-Some.ensures.inside
+    c.put-cell.ensures c.nest-inner.ensures c.in_err-a.ensures (code_nonzero _))
+    refl c.requires.1)
 
-pub application-returns-then-close-line : goal.application-returns-then-close-line
-application-returns-then-close-line t c =
-    application_unclosed c.requires.0 c.requires.1 c.requires.2 c.symbol-open.ensures c.if-open-line.false
-    c.put-cell.ensures c.nest-inner.ensures c.expression-a.ensures c.if-a-ne0.false
-    c.symbol-close.ensures c.if-close-line.true c.refused-then-close-line.ensures
+pub application-returns-in_default-symbol : goal.application-returns-in_default-symbol
+application-returns-in_default-symbol t c =
+    refused_here _
+    (application_unclosed c.requires.0 c.requires.1 c.requires.2 c.in-Some.ensures.past c.in-Some.ensures.inside
+    c.put-cell.ensures c.nest-inner.ensures c.in_ok-a.ensures refl
+    c.in_default-symbol.ensures.past (omega arith) (stopped _ _ _))
+    (sym code_malformed) c.requires.1
 
-pub application-expression-requires : goal.application-expression-requires
-application-expression-requires t c =
+pub application-expression-requires-2 : goal.application-expression-requires-2
+application-expression-requires-2 t c =
     omega (
       arith,
       c.requires,
-      c.if-close-line,
+      c.in-Some-symbol.ensures.inside,
       c.nest-inner.ensures.deeper c.requires.2,
-      c.symbol-close.ensures.from c.expression-a.ensures.onward.inside,
-      c.expression-a.ensures.onward,
+      c.in-Some-symbol.ensures.past.from c.in_ok-a.ensures.onward.inside,
+      c.in_ok-a.ensures.onward,
     )
 
 pub application-shape_of-w : goal.application-shape_of-w
 application-shape_of-w t c =
-    c.expression.ensures.onward.below.long
-    ∙ c.expression-a.ensures.onward.below.long
+    c.expression-2.ensures.onward.below.long
+    ∙ c.in_ok-a.ensures.onward.below.long
     ∙ (below_put c.put-cell.ensures).long
 
 pub application-returns : goal.application-returns
 application-returns t c =
-    application_read c.requires.0 c.requires.1 c.requires.2 c.symbol-open.ensures c.if-open-line.false c.put-cell.ensures
-    c.nest-inner.ensures c.expression-a.ensures c.if-a-ne0.false c.symbol-close.ensures c.if-close-line.false
-    c.expression.ensures
+    walked_here _ _ c.expression-2.result
+    (application_read c.requires.0 c.requires.1 c.requires.2 c.in-Some.ensures.past c.in-Some.ensures.inside c.put-cell.ensures
+    c.nest-inner.ensures c.in_ok-a.ensures refl c.in-Some-symbol.ensures.past c.in-Some-symbol.ensures.inside
+    c.expression-2.ensures)
+    c.requires.1
 
-pub arguments-loop-inner-init : goal.arguments-loop-inner-init
-arguments-loop-inner-init t c =
+pub arguments-loop-a-init : goal.arguments-loop-a-init
+arguments-loop-a-init t c =
     arguments_start c.requires.0 c.requires.1
 
-pub arguments-expression-a-requires : goal.arguments-expression-a-requires
-arguments-expression-a-requires t c = omega (arith, c.requires, c.loop-inner.invariant)
+pub arguments-expression-requires : goal.arguments-expression-requires
+arguments-expression-requires t c = omega (arith, c.requires, c.loop-a.invariant)
 
-pub arguments-returns-then-a-ne0 : goal.arguments-returns-then-a-ne0
-arguments-returns-then-a-ne0 t c =
-    arguments_refused c.loop-inner.invariant c.expression-a.ensures c.if-a-ne0.true
+pub arguments-returns-in_err-a : goal.arguments-returns-in_err-a
+arguments-returns-in_err-a t c =
+    let p = err_from_is_err_and c.from_residual.result c.from_residual.ensures.1 in
+    rw (p.1, p.2)
+    (arguments_here _
+    (arguments_refused c.loop-a.invariant c.in_err-a.ensures (code_nonzero _))
+    refl c.requires.1)
 
 pub arguments-overflow_add-count : goal.arguments-overflow_add-count
 arguments-overflow_add-count t c =
-    omega (arith, c.loop-inner.invariant)
+    omega (arith, c.loop-a.invariant)
 
-pub arguments-returns-then-close-line : goal.arguments-returns-then-close-line
-arguments-returns-then-close-line t c =
-    arguments_unclosed c.loop-inner.invariant c.expression-a.ensures c.if-a-ne0.false c.symbol-comma.ensures
-    c.if-comma-line.true c.symbol-close.ensures c.if-close-line.true c.refused.ensures
+pub arguments-returns-in_default-symbol : goal.arguments-returns-in_default-symbol
+arguments-returns-in_default-symbol t c =
+    arguments_here _
+    (arguments_unclosed c.loop-a.invariant c.in_ok-a.ensures refl c.in_default.ensures.past
+    (omega arith) c.in_default-symbol.ensures.past (omega arith) (stopped _ _ _))
+    (sym code_malformed) c.requires.1
 
-pub arguments-returns-then-comma-line : goal.arguments-returns-then-comma-line
-arguments-returns-then-comma-line t c =
-    arguments_closed c.loop-inner.invariant c.expression-a.ensures c.if-a-ne0.false c.symbol-comma.ensures
-    c.if-comma-line.true c.symbol-close.ensures c.if-close-line.false
+pub arguments-returns-in_default : goal.arguments-returns-in_default
+arguments-returns-in_default t c =
+    arguments_closed c.loop-a.invariant c.in_ok-a.ensures refl c.in_default.ensures.past
+    (omega arith) c.in-Some-symbol.ensures.past c.in-Some-symbol.ensures.inside
 
-pub arguments-loop-inner-smaller : goal.arguments-loop-inner-smaller
-arguments-loop-inner-smaller t c =
-    omega (arith, c.if-comma-line, c.symbol-comma.ensures.from c.expression-a.ensures.onward.inside, c.expression-a.ensures.onward.from)
+pub arguments-loop-a-smaller : goal.arguments-loop-a-smaller
+arguments-loop-a-smaller t c =
+    omega (arith, c.in-Some.ensures.inside, c.in-Some.ensures.past.from c.in_ok-a.ensures.onward.inside, c.in_ok-a.ensures.onward.from)
 
-pub arguments-loop-inner-preserved : goal.arguments-loop-inner-preserved
-arguments-loop-inner-preserved t c =
-    arguments_more c.loop-inner.invariant c.expression-a.ensures c.if-a-ne0.false c.symbol-comma.ensures
-    c.if-comma-line.false
+pub arguments-loop-a-preserved : goal.arguments-loop-a-preserved
+arguments-loop-a-preserved t c =
+    arguments_more c.loop-a.invariant c.in_ok-a.ensures refl c.in-Some.ensures.past
+    c.in-Some.ensures.inside
 
 pub expression-returns-then-opens : goal.expression-returns-then-opens
 expression-returns-then-opens t c =
-    expression_too_deep c.spaces-at.ensures c.kind_at-k.ensures c.requires.0 c.requires.1
-    (omega (arith, c.if-scope-ge-NESTING)) c.opens.ensures c.if-opens.true c.refused.ensures
+    refused_here _
+    (expression_too_deep c.spaces-at.ensures c.kind_at-k.ensures c.requires.0 c.requires.1
+    (omega (arith, c.if-scope-ge-NESTING)) c.opens.ensures c.if-opens.true (stopped _ _ _))
+    (sym code_too_large) c.requires.1
 
 pub expression-returns-then-scope-ge-NESTING : goal.expression-returns-then-scope-ge-NESTING
 expression-returns-then-scope-ge-NESTING t c =
-    expression_malformed c.spaces-at.ensures c.kind_at-k.ensures c.requires.0 c.requires.1
-    (omega (arith, c.if-scope-ge-NESTING)) c.opens.ensures c.if-opens.false c.refused-then-scope-ge-NESTING.ensures
+    refused_here _
+    (expression_malformed c.spaces-at.ensures c.kind_at-k.ensures c.requires.0 c.requires.1
+    (omega (arith, c.if-scope-ge-NESTING)) c.opens.ensures c.if-opens.false (stopped _ _ _))
+    (sym code_malformed) c.requires.1
 
 pub expression-application-requires : goal.expression-application-requires
 expression-application-requires t c = omega (arith, c.requires, c.if-scope-ge-NESTING)
@@ -203,63 +234,33 @@ expression-returns-in_default t c =
     expression_named c.spaces-at.ensures c.kind_at-k.ensures c.requires.0 c.requires.1 c.if-scope-ge-NESTING.false
     c.in_default.in_default-own.rest.0.1 c.in_default.in_default-own.rest.1 c.named.ensures
 
-pub named-returns-then-len-eq0 : goal.named-returns-then-len-eq0
-named-returns-then-len-eq0 t c =
-    named_unnamed c.requires.0 c.requires.1 c.requires.2 c.used_plain_first-n.ensures c.if-len-eq0.true
-    c.refused.ensures
-
 pub named-overflow_add-next : goal.named-overflow_add-next
 named-overflow_add-next t c =
-    omega (arith, c.used_plain_first-n.ensures.within c.requires.1)
-
-pub named-slice_bounds-binding-count : goal.named-slice_bounds-binding-count
-named-slice_bounds-binding-count t c = omega arith
-
-pub named-slice_bounds-binding-start : goal.named-slice_bounds-binding-start
-named-slice_bounds-binding-start t c = omega arith
-
-pub named-slice_bounds-binding-end : goal.named-slice_bounds-binding-end
-named-slice_bounds-binding-end t c = omega (arith, (c.used_plain_first-n.ensures.within c.requires.1))
+    omega (arith, c.in-Some.ensures.2.within c.requires.1)
 
 pub named-name_meaning-m-requires : goal.named-name_meaning-m-requires
 named-name_meaning-m-requires t c =
-    omega (arith, c.used_plain_first-n.ensures.within c.requires.1, c.used_plain_first-n.ensures.titled c.requires.1)
+    omega (arith, c.in-Some.ensures.2.within c.requires.1, c.in-Some.ensures.2.titled c.requires.1)
 
 pub named-completed-requires : goal.named-completed-requires
 named-completed-requires t c =
     c.requires.2
 
-pub named-shape_of-w-then-open-line : goal.named-shape_of-w-then-open-line
-named-shape_of-w-then-open-line t c =
+pub named-shape_of-w-in_default-symbol : goal.named-shape_of-w-in_default-symbol
+named-shape_of-w-in_default-symbol t c =
     c.completed.ensures.below.long ∙ (below_put c.put-cell.ensures).long
 
-pub named-returns-then-open-line : goal.named-returns-then-open-line
-named-returns-then-open-line t c =
-    let n = c.used_plain_first-n.result in
-    elim c.if-scope-gt0.branch [
-      | named-then-scope-gt0+then-n-eq0 w ↦
-          named_alone c.requires.0 c.requires.1 c.requires.2 c.used_plain_first-n.ensures c.if-len-eq0.false
-          (binding_of n w.b-is (part _ n.start (n.start + n.len) (omega arith)) w.if-n-eq0.true w.binding-b.ensures)
-          c.name_meaning-m.ensures c.put-cell.ensures c.symbol-open.ensures c.if-open-line.true c.completed.ensures
-      | named-then-scope-gt0+else-n-eq0 w ↦
-          named_alone c.requires.0 c.requires.1 c.requires.2 c.used_plain_first-n.ensures c.if-len-eq0.false (binding_pointed n w.b-is w.if-n-eq0.false)
-          c.name_meaning-m.ensures c.put-cell.ensures c.symbol-open.ensures c.if-open-line.true c.completed.ensures
-      | named-else-scope-gt0 w ↦
-          named_alone c.requires.0 c.requires.1 c.requires.2 c.used_plain_first-n.ensures c.if-len-eq0.false (binding_none n w.b-is w.if-scope-gt0.false)
-          c.name_meaning-m.ensures c.put-cell.ensures c.symbol-open.ensures c.if-open-line.true c.completed.ensures
-    ]
-
-pub named-arguments-a-requires : goal.named-arguments-a-requires
-named-arguments-a-requires t c =
+pub named-arguments-requires : goal.named-arguments-requires
+named-arguments-requires t c =
     omega (
       arith,
       c.requires,
       put_next c.put-cell.ensures c.requires.0,
       (below_put c.put-cell.ensures).long,
-      c.if-open-line,
+      c.in-Some-symbol.ensures.inside,
       c.nest-inner.ensures.deeper c.requires.2,
-      c.symbol-open.ensures.from (c.used_plain_first-n.ensures.within c.requires.1),
-      c.used_plain_first-n.ensures.from,
+      c.in-Some-symbol.ensures.past.from (c.in-Some.ensures.2.within c.requires.1),
+      c.in-Some.ensures.2.from,
     )
 
 pub named-completed-requires-2 : goal.named-completed-requires-2
@@ -268,20 +269,32 @@ named-completed-requires-2 t c =
 
 pub named-shape_of-w : goal.named-shape_of-w
 named-shape_of-w t c =
-    c.completed-2.ensures.below.long ∙ c.arguments-a.ensures.onward.below.long ∙ (below_put c.put-cell.ensures).long
+    c.completed-2.ensures.below.long ∙ c.arguments.ensures.onward.below.long ∙ (below_put c.put-cell.ensures).long
+
+pub named-returns-in_default-symbol : goal.named-returns-in_default-symbol
+named-returns-in_default-symbol t c =
+    named_alone c.requires.0 c.requires.1 c.requires.2 c.in-Some.ensures.2 c.in-Some.ensures.0 c.bound-b.ensures
+    c.name_meaning-m.ensures (rw c.cell_of.ensures at c.put-cell.ensures) c.in_default-symbol.ensures.past (omega arith)
+    (rw (c.err-found.ensures.value, fault_err c.name_meaning-m.result) at c.completed.ensures)
 
 pub named-returns : goal.named-returns
 named-returns t c =
-    let n = c.used_plain_first-n.result in
-    elim c.if-scope-gt0.branch [
-      | named-then-scope-gt0+then-n-eq0 w ↦
-          named_read c.requires.0 c.requires.1 c.requires.2 c.used_plain_first-n.ensures c.if-len-eq0.false
-          (binding_of n w.b-is (part _ n.start (n.start + n.len) (omega arith)) w.if-n-eq0.true w.binding-b.ensures)
-          c.name_meaning-m.ensures c.put-cell.ensures c.symbol-open.ensures c.if-open-line.false c.nest-inner.ensures c.arguments-a.ensures c.completed-2.ensures
-      | named-then-scope-gt0+else-n-eq0 w ↦
-          named_read c.requires.0 c.requires.1 c.requires.2 c.used_plain_first-n.ensures c.if-len-eq0.false (binding_pointed n w.b-is w.if-n-eq0.false)
-          c.name_meaning-m.ensures c.put-cell.ensures c.symbol-open.ensures c.if-open-line.false c.nest-inner.ensures c.arguments-a.ensures c.completed-2.ensures
-      | named-else-scope-gt0 w ↦
-          named_read c.requires.0 c.requires.1 c.requires.2 c.used_plain_first-n.ensures c.if-len-eq0.false (binding_none n w.b-is w.if-scope-gt0.false)
-          c.name_meaning-m.ensures c.put-cell.ensures c.symbol-open.ensures c.if-open-line.false c.nest-inner.ensures c.arguments-a.ensures c.completed-2.ensures
-    ]
+    named_read c.requires.0 c.requires.1 c.requires.2 c.in-Some.ensures.2 c.in-Some.ensures.0 c.bound-b.ensures
+    c.name_meaning-m.ensures (rw c.cell_of.ensures at c.put-cell.ensures) c.in-Some-symbol.ensures.past c.in-Some-symbol.ensures.inside c.nest-inner.ensures
+    (rw (c.err-found.ensures.value, fault_err c.name_meaning-m.result) at c.in_ok-a.ensures) c.completed-2.ensures
+
+pub named-returns-in_default : goal.named-returns-in_default
+named-returns-in_default t c =
+    refused_here _
+    (named_unnamed c.requires.0 c.requires.1 c.requires.2 c.in_default.ensures refl (stopped _ _ _))
+    (sym code_malformed) c.requires.1
+
+pub named-returns-in_err-a : goal.named-returns-in_err-a
+named-returns-in_err-a t c =
+    let p = err_from_is_err_and c.from_residual.result c.from_residual.ensures.1 in
+    rw (p.1, p.2)
+    (refused_here _
+    (named_read c.requires.0 c.requires.1 c.requires.2 c.in-Some.ensures.2 c.in-Some.ensures.0 c.bound-b.ensures
+    c.name_meaning-m.ensures (rw c.cell_of.ensures at c.put-cell.ensures) c.in-Some-symbol.ensures.past c.in-Some-symbol.ensures.inside c.nest-inner.ensures
+    (rw (c.err-found.ensures.value, fault_err c.name_meaning-m.result) at c.in_err-a.ensures) (completed_refused _ (code_nonzero _)))
+    refl c.requires.1)

@@ -1,6 +1,7 @@
 use Rattle.aut68.specs.Sizes.{nesting}
 use Prim.Native.Nat.{◌+◌, ◌*◌, ◌-◌}
 use lib.ListN.{length}
+use Rattle.expressions.specs.Walk.{fault_in}
 use Rattle.expressions.specs.Posts.{go_on}
 use Rattle.expressions.proofs.ArgumentLaws.{ArgumentsSoFar}
 use Rattle.expressions.proofs.walk.+abstraction_application_arguments_expression_named.Given as goal
@@ -20,8 +21,8 @@ decreases-expression l = 3 * (nesting + 1 - l.scope.depth)
 abbrev pub decreases-named : goal.decreases-named
 decreases-named l = 3 * (nesting + 1 - l.scope.depth) - 1
 
-abbrev pub invariant-arguments-loop-inner : goal.invariant-arguments-loop-inner
-invariant-arguments-loop-inner l = ArgumentsSoFar l.kinds l.line l.inner l.book l.table l.lines l.indicator l.initial.w l.w (go_on l.from l.to l.fault) l.at l.cell l.found l.count
+abbrev pub invariant-arguments-loop-a : goal.invariant-arguments-loop-a
+invariant-arguments-loop-a l = ArgumentsSoFar l.kinds l.line l.inner l.book l.table l.lines l.indicator l.initial.w l.w (go_on l.from l.to (fault_in l.fn.fault)) l.at l.cell (fault_in l.found) l.count
 
-abbrev pub decreases-arguments-loop-inner : goal.decreases-arguments-loop-inner
-decreases-arguments-loop-inner l = length l.line - l.at
+abbrev pub decreases-arguments-loop-a : goal.decreases-arguments-loop-a
+decreases-arguments-loop-a l = length l.line - l.at
