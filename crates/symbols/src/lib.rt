@@ -91,7 +91,7 @@ pub fn same_bytes(a: &[u8], b: &[u8]) -> bool
     if a.len() != b.len() {
         return false;
     }
-    if a.len() == 0 {
+    if a.is_empty() {
         return true;
     }
     if a.len() < 4 {

@@ -1,3 +1,6 @@
+use mathlib.Core.Path.{◌≡◌}
+use lib.ListN.{length}
+use borrow.Author.Tests.{eqb-true}
 use mathlib.Core.Path.{sym, ◌∙◌}
 use native.Mathlib.Omega.{arith}
 use Rattle.symbols.proofs.SameLaws.{same_start, same_four_more, same_four_stop, same_four_last, same_last, lengths_differ}
@@ -6,8 +9,10 @@ use Rattle.symbols.proofs.same_bytes.Goals as goal
 pub returns-then-a-b : goal.returns-then-a-b
 returns-then-a-b c = sym (lengths_differ _ _ c.if-a-b.true)
 
-pub returns-then-a-eq0 : goal.returns-then-a-eq0
-returns-then-a-eq0 c = sym (same_last (same_start c.if-a-b.false) (omega arith))
+pub returns-then-is_empty : goal.returns-then-is_empty
+returns-then-is_empty c =
+    let none : length c.args.a.now ≡ 0 = eqb-true _ 0 (sym c.is_empty.ensures ∙ c.if-is_empty.true) in
+    sym (same_last (same_start c.if-a-b.false) (omega arith))
 
 pub returns-then-a-lt4 : goal.returns-then-a-lt4
 returns-then-a-lt4 c =
