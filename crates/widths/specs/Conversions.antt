@@ -12,6 +12,9 @@ use borrow.Author.Tests.{leb-true, le-leb, le-ltb, lt-ltb}
 use Rattle.aut68.specs.Widths.{fits_width, conversion, declined, written, Converts}
 use Rattle.aut68.specs.Procedure.Calls.{Decline, store_too_small, cell_too_large, decline_code}
 use Rattle.aut68.specs.Procedure.Run.{over}
+use Rattle.constants.specs.declared.codes.Cause.TheVariants.{StoreTooSmall}
+use Rattle.outcomes.specs.declared.answers.Unanswered.{Unanswered}
+use Rattle.outcomes.specs.declared.answers.Unanswered.TheVariants.{Declined}
 
 -- ---- a loop that copies
 
@@ -57,6 +60,10 @@ module _ {source old : List ℕ} {i : ℕ} {new : List ℕ} (w : Copying source 
 -- the most cells that a target with so many takes: an answer tells its length in 32 bits
 abbrev pub most_cells : ℕ → ℕ
 most_cells room = min room 4294967295
+
+-- the answer where there is no room
+abbrev pub IsTooSmall : Unanswered → Type 0
+IsTooSmall u = u ≡ Declined StoreTooSmall 0
 
 module _ (values : ℕ) (source old : List ℕ) where
   too_small : most_cells (length old) < length source → conversion values source old ≡ some store_too_small

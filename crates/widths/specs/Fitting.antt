@@ -1,6 +1,7 @@
 -- Laws: when cells fit a width.
 use Rattle.std.specs.Prelude.{◌≡◌, Bool, true, false, ltb, length, get_or}
-use Rattle.std.proofs.Math.Path.{refl, ap₂}
+use Rattle.std.proofs.Math.Path.{refl, ap, ap₂}
+use Rattle.std.specs.List.{list_all}
 use Rattle.std.proofs.Math.Bool.{◌&&◌}
 use mathlib.Core.List.{List, [], ◌∷◌}
 use Prim.Native.Nat.{ℕ, zero, suc, ◌<◌, ◌≤◌}
@@ -10,6 +11,11 @@ use Rattle.aut68.specs.Widths.{fits_width}
 use Rattle.lookup.specs.Tests.{and_true}
 
 module _ (values : ℕ) where
+  pub fits_all : (s : List ℕ) → fits_width values s ≡ list_all (λ (x : ℕ). ltb x values) s
+  unfolding fits_width
+  fits_all [] = refl
+  fits_all (x ∷ s) = ap (◌&&◌ (ltb x values)) (fits_all s)
+
   pub fits_each : (s : List ℕ) → ((i : ℕ) → i < length s → get_or s i 0 < values) → fits_width values s ≡ true
   unfolding fits_width
   fits_each [] h = refl

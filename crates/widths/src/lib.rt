@@ -1,41 +1,38 @@
 // Shelves put into cells of another width; aut68's Widths has what the calls promise (`Converts`).
 #![tactic(auto)]
 
-ghost use Rattle.std.specs.Prelude.{◌≡◌, true, ◌≤◌, length};
+ghost use Rattle.std.specs.Prelude.{◌≡◌, true, ◌≤◌, ◌<◌, ltb, length, MatchResult};
+ghost use Rattle.std.specs.List.{list_all};
 ghost use Rattle.aut68.specs.Procedure.Run.{over};
 ghost use Rattle.aut68.specs.Sizes.{cell_values, narrow_values};
 ghost use Rattle.aut68.specs.Widths.{fits_width, Converts};
 ghost use Rattle.outcomes.specs.Answers.{code_of_answer, line_of_answer, steps_of_answer, length_of_answer};
-ghost use Rattle.widths.specs.Conversions.{most_cells};
+ghost use Rattle.widths.specs.Conversions.{most_cells, IsTooSmall};
 
 use constants::{Cause, Cell, NARROW_VALUES, NarrowCell};
-use outcomes::Answer;
+use outcomes::{Answer, Given, Unanswered};
 
 // An answer tells its length in 32 bits.
-const LARGEST_LENGTH: usize = 4294967295;
+const LARGEST_LENGTH: usize = u32::MAX as usize;
 
-// The most cells that a target with so many takes.
-fn most_cells(room: usize) -> usize
-    ensures { result ≡ most_cells room }
+// The length of an answer of so many cells, where a target has room for them.
+fn answer_length(cells: usize, room: usize) -> Result<u32, Unanswered>
+    ensures { MatchResult result (λ length. (length ≡ cells) × (cells ≤ most_cells room)) (λ u. (most_cells room < cells) × IsTooSmall u) }
 {
-    if room < LARGEST_LENGTH {
-        return room;
+    if cells > room.min(LARGEST_LENGTH) {
+        return Err(Unanswered::Declined {
+            cause: Cause::StoreTooSmall,
+            steps: 0,
+        });
     }
-    LARGEST_LENGTH
+    Ok(cells as u32)
 }
 
 // Is each cell below NARROW_VALUES?
 fn fits_narrow(source: &[Cell]) -> bool
-    ensures { result ≡ fits_width narrow_values source.now }
+    ensures { result ≡ list_all (λ x. ltb x narrow_values) source.now }
 {
-    let mut i = 0;
-    while i < source.len() {
-        if source[i] >= NARROW_VALUES {
-            return false;
-        }
-        i = i + 1;
-    }
-    true
+    source.iter().all(|cell| *cell < NARROW_VALUES)
 }
 
 // Copies the source over the first cells of the target.
@@ -43,10 +40,8 @@ fn widen_cells(source: &[NarrowCell], target: &mut [Cell])
     requires { length source.now ≤ length target.old }
     ensures { target.new ≡ over source.now target.old }
 {
-    let mut i = 0;
-    while i < source.len() {
-        target[i] = source[i] as Cell;
-        i = i + 1;
+    for i in 0..source.len() {
+        target[i] = Cell::from(source[i]);
     }
 }
 
@@ -55,10 +50,8 @@ fn narrow_cells(source: &[Cell], target: &mut [NarrowCell])
     requires { (length source.now ≤ length target.old) × (fits_width narrow_values source.now ≡ true) }
     ensures { target.new ≡ over source.now target.old }
 {
-    let mut i = 0;
-    while i < source.len() {
+    for i in 0..source.len() {
         target[i] = source[i] as NarrowCell;
-        i = i + 1;
     }
 }
 
@@ -66,42 +59,22 @@ fn narrow_cells(source: &[Cell], target: &mut [NarrowCell])
 pub fn widen(source: &[NarrowCell], target: &mut [Cell]) -> Answer
     ensures { Converts cell_values source.now target.old (code_of_answer result) (line_of_answer result) (steps_of_answer result) (length_of_answer result) target.new }
 {
-    let cells = source.len();
-    if cells > most_cells(target.len()) {
-        return Answer::Declined {
-            cause: Cause::StoreTooSmall,
-            steps: 0,
-        };
-    }
+    let length = answer_length(source.len(), target.len())?;
     widen_cells(source, target);
-    let length = cells as u32;
-    Answer::Given {
-        steps: 0,
-        length: length,
-    }
+    Ok(Given { steps: 0, length })
 }
 
 // Puts the cells of a shelf into narrower ones, the first of the target; none, if a cell does not fit.
 pub fn narrow(source: &[Cell], target: &mut [NarrowCell]) -> Answer
     ensures { Converts narrow_values source.now target.old (code_of_answer result) (line_of_answer result) (steps_of_answer result) (length_of_answer result) target.new }
 {
-    let cells = source.len();
-    if cells > most_cells(target.len()) {
-        return Answer::Declined {
-            cause: Cause::StoreTooSmall,
+    let length = answer_length(source.len(), target.len())?;
+    if !fits_narrow(source) {
+        return Err(Unanswered::Declined {
+            cause: Cause::CellTooLarge,
             steps: 0,
-        };
+        });
     }
-    if fits_narrow(source) {
-        narrow_cells(source, target);
-        let length = cells as u32;
-        return Answer::Given {
-            steps: 0,
-            length: length,
-        };
-    }
-    Answer::Declined {
-        cause: Cause::CellTooLarge,
-        steps: 0,
-    }
+    narrow_cells(source, target);
+    Ok(Given { steps: 0, length })
 }

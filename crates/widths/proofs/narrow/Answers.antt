@@ -1,19 +1,35 @@
 -- `narrow`: the target is too short, or the source is put into it, or a cell is too large.
+use mathlib.Core.Path.{◌≡◌, sym, ◌∙◌}
 use native.Mathlib.Omega.{arith}
+use Rattle.std.proofs.Common.{rules}
+use Rattle.std.specs.Prelude.{Err}
+use Rattle.constants.specs.declared.codes.Cause.TheVariants.{StoreTooSmall}
+use Rattle.outcomes.specs.declared.answers.Unanswered.TheVariants.{Declined}
+use Rattle.aut68.specs.Sizes.{narrow_values}
+use Rattle.widths.specs.Fitting.{fits_all}
 use Rattle.widths.specs.Conversions.{converts_too_small, converts_too_large, converts_written}
 use Rattle.widths.proofs.narrow.Goals as goal
 
-pub returns-then-cells-most_cells : goal.returns-then-cells-most_cells
-returns-then-cells-most_cells c = converts_too_small _ _ _ (omega arith)
+pub returns-in_err-length : goal.returns-in_err-length
+returns-in_err-length c =
+    let h = c.in_err-length.ensures in
+    let e : c.from_residual.result ≡ Err (Declined StoreTooSmall 0) = search rules in
+    rw e (converts_too_small _ _ _ h.0)
+
+pub returns-then-not-fits_narrow : goal.returns-then-not-fits_narrow
+returns-then-not-fits_narrow c =
+    let h = c.in_ok-length.ensures in
+    let q = fits_all narrow_values c.args.source.now ∙ sym c.fits_narrow.ensures in
+    converts_too_large _ _ _ h.1 (cc)
 
 pub narrow_cells-requires : goal.narrow_cells-requires
-narrow_cells-requires c = (omega arith, cc)
-
-pub overflow_cast-length : goal.overflow_cast-length
-overflow_cast-length c = omega arith
-
-pub returns-then-fits_narrow : goal.returns-then-fits_narrow
-returns-then-fits_narrow c = converts_written _ _ _ (omega arith) (cc) (cc)
+narrow_cells-requires c =
+    let h = c.in_ok-length.ensures in
+    let q = fits_all narrow_values c.args.source.now ∙ sym c.fits_narrow.ensures in
+    (omega arith, cc)
 
 pub returns : goal.returns
-returns c = converts_too_large _ _ _ (omega arith) (cc)
+returns c =
+    let h = c.in_ok-length.ensures in
+    let q = fits_all narrow_values c.args.source.now ∙ sym c.fits_narrow.ensures in
+    rw h.0 (converts_written _ _ _ h.1 (cc) (cc))

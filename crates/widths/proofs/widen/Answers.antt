@@ -1,25 +1,29 @@
 -- `widen`: the target is too short, or the source is put into it; each of its cells fits.
+use mathlib.Core.Path.{◌≡◌}
 use native.Mathlib.Omega.{arith}
+use Rattle.std.proofs.Common.{rules}
+use Rattle.std.specs.Prelude.{Err}
 use Rattle.aut68.specs.Sizes.{cell_values}
+use Rattle.constants.specs.declared.codes.Cause.TheVariants.{StoreTooSmall}
+use Rattle.outcomes.specs.declared.answers.Unanswered.TheVariants.{Declined}
 use Rattle.widths.specs.Fitting.{fits_each}
 use Rattle.widths.specs.Conversions.{converts_too_small, converts_written}
 use Rattle.widths.proofs.widen.Goals as goal
 
-pub returns-then-cells-most_cells : goal.returns-then-cells-most_cells
-returns-then-cells-most_cells c = converts_too_small _ _ _ (omega arith)
-
-pub widen_cells-requires : goal.widen_cells-requires
-widen_cells-requires c = omega arith
-
-pub overflow_cast-length : goal.overflow_cast-length
-overflow_cast-length c = omega arith
+pub returns-in_err-length : goal.returns-in_err-length
+returns-in_err-length c =
+    let h = c.in_err-length.ensures in
+    let e : c.from_residual.result ≡ Err (Declined StoreTooSmall 0) = search rules in
+    rw e (converts_too_small _ _ _ h.0)
 
 pub returns : goal.returns
 returns c =
-    converts_written
+    let h = c.in_ok-length.ensures in
+    rw h.0
+    (converts_written
     _
     _
     _
-    (omega arith)
+    h.1
     (fits_each cell_values _ λ i h. omega (arith, c.type_inv.source i))
-    c.widen_cells.ensures
+    c.widen_cells.ensures)
