@@ -14,14 +14,14 @@ use Rattle.aut68.specs.Lines.{Lines}
 use Rattle.aut68.specs.Procedure.Category.{made, to_function}
 use Rattle.aut68.specs.Rules.Resolved.{Scoped}
 use Rattle.cells.specs.Layout.{levels, unit_at, level_unit, unit_below}
-use Rattle.cells.specs.Forests.{size_is_length, at_inside}
+use Rattle.cells.specs.Forests.{size_is_length}
 use Rattle.cells.specs.Posts.{Skipped, Bound}
 use Rattle.cells.specs.Results.{Result, then_refused, then_passed}
 use Rattle.cells.specs.declared.scope.Scope.{Scope}
 use Rattle.heads.specs.Book.{Book, known_wf}
 use Rattle.levels.specs.FoundPosts.{Finds, Passes, FunctionKnown, FoundTypePost}
 use Rattle.levels.specs.Spots.{frames, function_kept}
-use Rattle.levels.specs.Parts.{application_argument, abstraction_domain, abstraction_front}
+use Rattle.levels.specs.Parts.{application_argument, abstraction_front}
 use Rattle.levels.specs.BinderPosts.{FunctionOfPost, OverBindingPost}
 use Rattle.typing.specs.ApplicationPosts.{AppliedPost}
 use Rattle.categories.specs.AnyDepth.{category68}
@@ -117,25 +117,13 @@ module _ {tb ts e : List ℕ} {scope : Scope} {w : List ℕ} {limit budget level
     };
   }
 
-  -- the domain has no more cells than there are
-  pub abstraction_past : {code n whole rest : ℕ} → code₂ ≡ 0 → length e - 1 < extent → whole ≡ 0 → AbstractionPost tb ts e scope w limit budget level w₁ code n whole rest
-  abstraction_past z h s = record {
-    frame = C.frame;
-    within = omega arith;
-    means = λ p t. record { finds = λ B room E. absurd (past p t B room E); spans = λ B room E. absurd (past p t B room E) };
-  }
-    where
-      past : {ls : Lines} {sc : List Expr} (p t : Expr) → Book ls limit tb ts → work_units * limit ≤ length w → Expression ls ts e scope limit level sc (abs p t) → ⊥
-      past p t B room E = omega (arith, domain_extent p t B room E z, at_inside p (abstraction_domain p t E.at), size_is_length p)
-
-  pub abstraction_made : {i start : ℕ} {inner : Scope} {w₂ w₃ : List ℕ} {found₂ size₂ extent₂ rest₃ code n whole rest : ℕ} → 1 ≤ length e → code₂ ≡ 0 → extent ≤ length e - 1
-      → i ≡ extent + 1 → start ≡ length ts - length e + 1 → Bound scope start extent inner
+  pub abstraction_made : {i start : ℕ} {inner : Scope} {w₂ w₃ : List ℕ} {found₂ size₂ extent₂ rest₃ code n whole rest : ℕ} → 1 ≤ length e → code₂ ≡ 0 → i ≡ extent + 1 → start ≡ length ts - length e + 1 → Bound scope start extent inner
       → CategoryPost tb ts (part e i) inner w₁ limit rest₂ level w₂ found₂ size₂ extent₂ rest₃
       → OverBindingPost e i w₂ limit level found₂ size₂ extent₂ rest₃ w₃ code n whole rest → AbstractionPost tb ts e scope w limit budget level w₃ code n whole rest
   unfolding Scoped Expr.size
-  abstraction_made {i} {start} {inner} {w₂} {w₃} {found₂} {size₂} {extent₂} {rest₃} {code} {n} {whole} {rest} m z h q s Y D O = record {
+  abstraction_made {i} {start} {inner} {w₂} {w₃} {found₂} {size₂} {extent₂} {rest₃} {code} {n} {whole} {rest} m z q s Y D O = record {
     frame = λ small. frames (omega arith) (frames (omega arith) (C.frame small) (D.frame small)) (O.frame small);
-    within = omega (arith, O.spans.within, D.within, part_length e i);
+    within = omega (arith, O.spans.within, D.within, part_length e i, C.within, part_length e 1);
     means = λ p t. record {
       finds = λ {ls} {sc} B room E.
           rw (abstraction_clause ls limit sc budget p t)

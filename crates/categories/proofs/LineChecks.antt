@@ -42,11 +42,8 @@ use Rattle.categories.proofs.KindLaws.{finds_known}
 -- ---- an expression of the line itself
 
 -- no binding is around it
-pub record NoBindings (scope : Scope) : Type 0 where
-  pub none : scope.bound ≡ 0
-  pub flat : scope.depth ≡ 0
-  pub starts_are : scope.starts ≡ replicate nesting 0
-  pub lens_are : scope.lens ≡ replicate nesting 0
+abbrev pub NoBindings : Scope → Type 0
+NoBindings scope = (scope.bound ≡ 0) × (scope.depth ≡ 0) × (scope.starts ≡ replicate nesting 0) × (scope.lens ≡ replicate nesting 0)
 
 no_domain : {ts : List ℕ} {limit : ℕ} {scope : Scope} {p : Expr} {i : ℕ} → DomainAt p [] i → DomainCells ts limit scope (0 - suc i) p
 no_domain d = elim d [ ]
@@ -54,11 +51,11 @@ no_domain d = elim d [ ]
 scope_none : {ts : List ℕ} {limit : ℕ} {scope : Scope} → length ts < 4294967296 → NoBindings scope → ScopeHolds ts limit scope []
 scope_none h n = record {
   short = h;
-  counted = n.none;
-  deep = n.flat;
+  counted = n.0;
+  deep = n.1;
   few = omega arith;
-  starts_long = ap length n.starts_are;
-  lens_long = ap length n.lens_are;
+  starts_long = ap length n.2;
+  lens_long = ap length n.3;
   domain = λ d. no_domain d;
 }
 

@@ -12,19 +12,20 @@
 
 ghost use Rattle.std.specs.Prelude.{◌≡◌, ℕ, ◌≤◌, ◌<◌, length, get_or};
 ghost use Rattle.aut68.specs.Sizes.{nesting};
+ghost use Rattle.constants.specs.Refusals.{code_in, number_in};
+ghost use Rattle.levels.specs.Finds.{found_size, found_extent};
 ghost use Rattle.categories.specs.Posts.{CategoryPost, ArgumentsPost, ApplicationPost, AbstractionPost};
 
 mod checks;
 
 use cells::{Scope, bind, field, level_at, skip};
 pub use checks::check_cells;
-use constants::{CELL_FACTOR, CONTEXT_LENGTH, Cell, NESTING, NOT_TYPE, TOO_LARGE};
-pub use levels::Checked;
+use constants::{CELL_FACTOR, CONTEXT_LENGTH, Cell, NESTING, Reason};
 use levels::{
-    Argued, Found, bound, constant, context_of, context_variable, enter_start, found_type,
-    function_of, is_stored, keep_argument, over_binding, refused, stored, unfit,
+    Found, bound, constant, context_of, context_variable, enter_start, found_type, function_of,
+    is_stored, keep_argument, over_binding, stored,
 };
-use typing::{applied, argument_fits, stored_fits};
+use typing::{Wanted, applied, argument_fits, stored_fits};
 
 // The category of the expression at the start of e, which is the rest of the store from there on.
 #[cycle(abstraction_application_arguments_category)]
@@ -35,30 +36,28 @@ pub fn category(
     scope: Scope,
     w: &mut [Cell],
     limit: usize,
-    budget: u32,
+    budget: &mut u32,
     level: usize,
-) -> Found
+) -> Result<Found, Reason>
     requires { length e.now ≤ length terms.now }
-    ensures { CategoryPost table.now terms.now e.now scope w.old limit budget level w.new result.code result.size result.extent result.budget }
+    ensures { CategoryPost table.now terms.now e.now scope w.old limit budget.old level
+        w.new (code_in result) (found_size result) (found_extent result) budget.new }
 {
     if level >= NESTING {
-        return refused(TOO_LARGE, budget);
+        return Err(Reason::TooLarge);
     }
-    if e.len() == 0 {
-        return refused(NOT_TYPE, budget);
+    if e.is_empty() {
+        return Err(Reason::NotType);
     }
     let x = e[0];
     let v = (x / CELL_FACTOR) as usize;
-    let k = x % CELL_FACTOR;
-    match k {
-        1 => stored(table, terms, w, limit, budget, level, v),
-        2 => bound(table, terms, scope, w, limit, budget, level, v),
+    match x % CELL_FACTOR {
+        1 => stored(table, terms, w, limit, level, v),
+        2 => bound(table, terms, scope, w, limit, level, v),
+        3 if field(table, v, CONTEXT_LENGTH) == 0 => stored(table, terms, w, limit, level, v),
         3 => {
-            if field(table, v, CONTEXT_LENGTH) == 0 {
-                return stored(table, terms, w, limit, budget, level, v);
-            }
             let mut starts = [0; 64];
-            let c = arguments(
+            let extent = arguments(
                 table,
                 terms,
                 &e[1..],
@@ -69,18 +68,18 @@ pub fn category(
                 level,
                 v,
                 &mut starts,
-            );
-            constant(table, terms, w, limit, c, &starts, level, v)
+            )?;
+            constant(table, terms, w, limit, extent, &starts, level, v)
         }
         4 => application(table, terms, e, scope, w, limit, budget, level),
         5 => abstraction(table, terms, e, scope, w, limit, budget, level),
-        _ => refused(NOT_TYPE, budget),
+        _ => Err(Reason::NotType),
     }
 }
 
 // The arguments at the start of s of the constant of line v, from left to right, each copied to the level's unit when it has
 // passed, and where it ends entered in `starts`, whose first place has 0. Where an argument's category is stored it is compared
-// there.
+// there. Returns how many cells they have.
 #[cycle(abstraction_application_arguments_category)]
 fn arguments(
     table: &[u32],
@@ -89,53 +88,45 @@ fn arguments(
     scope: Scope,
     w: &mut [Cell],
     limit: usize,
-    budget: u32,
+    budget: &mut u32,
     level: usize,
     v: usize,
     starts: &mut [Cell; 64],
-) -> Argued
+) -> Result<usize, Reason>
     requires { (length s.now ≤ length terms.now) × (level < nesting) × (length starts.old ≡ 64) × (get_or starts.old 0 0 ≡ 0) }
-    ensures { ArgumentsPost table.now terms.now s.now scope w.old limit budget level v
-        w.new result.code result.extent starts.new result.budget }
+    ensures { ArgumentsPost table.now terms.now s.now scope w.old limit budget.old level v
+        w.new (code_in result) (number_in result) starts.new budget.new }
 {
     let count = field(table, v, CONTEXT_LENGTH);
     let mut context = [0; 64];
     context_of(table, v, count, &mut context);
     let base = level_at(limit, level);
-    let mut i = 0;
     let mut at = 0;
-    let mut rest = budget;
-    while i < count {
-        let wanted = context_variable(table, v, &context, i);
-        if at >= s.len() {
-            return unfit(NOT_TYPE, rest);
-        }
-        let x = s[at];
-        let f = if is_stored(table, x) {
-            let u = (x / CELL_FACTOR) as usize;
-            stored_fits(
-                table, terms, w, limit, rest, level, u, wanted, base, i, starts,
-            )
-        } else {
-            let g = category(table, terms, &s[at..], scope, w, limit, rest, level + 1);
-            argument_fits(table, terms, w, limit, g, level, wanted, base, i, starts)
+    for i in 0..count {
+        let line = context_variable(table, v, &context, i);
+        let Some(&x) = s.get(at) else {
+            return Err(Reason::NotType);
         };
-        rest = f.budget;
-        let code = f.code;
-        if code != 0 {
-            return unfit(code, rest);
-        }
-        let n = f.extent;
+        let wanted = Wanted {
+            line,
+            base,
+            count: i,
+            starts,
+        };
+        let n = if is_stored(table, x) {
+            let u = (x / CELL_FACTOR) as usize;
+            stored_fits(table, terms, w, limit, budget, level, u, wanted)?;
+            1
+        } else {
+            let found = category(table, terms, &s[at..], scope, w, limit, budget, level + 1)?;
+            argument_fits(table, terms, w, limit, budget, found.size, level, wanted)?;
+            found.extent
+        };
         keep_argument(s, at, n, w, base);
-        at = at + n;
-        i = i + 1;
-        enter_start(starts, i, at);
+        at += n;
+        enter_start(starts, i + 1, at);
     }
-    Argued {
-        code: 0,
-        extent: at,
-        budget: rest,
-    }
+    Ok(at)
 }
 
 // The category of `<A>B` at the start of e: B's, by head steps an abstraction; A's, compared with its domain; its body with
@@ -148,26 +139,29 @@ fn application(
     scope: Scope,
     w: &mut [Cell],
     limit: usize,
-    budget: u32,
+    budget: &mut u32,
     level: usize,
-) -> Found
+) -> Result<Found, Reason>
     requires { (length e.now ≤ length terms.now) × (1 ≤ length e.now) × (level < nesting) }
-    ensures { ApplicationPost table.now terms.now e.now scope w.old limit budget level
-        w.new result.code result.size result.extent result.budget }
+    ensures { ApplicationPost table.now terms.now e.now scope w.old limit budget.old level
+        w.new (code_in result) (found_size result) (found_extent result) budget.new }
 {
     let b = skip(table, e, 1, 1);
-    let c = category(table, terms, &e[b..], scope, w, limit, budget, level);
-    let extent = c.extent;
-    let f = function_of(table, terms, w, limit, c, level);
-    let code = f.code;
-    let rest = f.budget;
-    if code != 0 {
-        return refused(code, rest);
-    }
-    let a = category(table, terms, &e[1..], scope, w, limit, rest, level + 1);
-    let domain = f.domain;
-    let body = f.body;
-    applied(table, terms, e, b, extent, w, limit, level, domain, body, a)
+    let found = category(table, terms, &e[b..], scope, w, limit, budget, level)?;
+    let function = function_of(table, terms, w, limit, found.size, budget, level)?;
+    category(table, terms, &e[1..], scope, w, limit, budget, level + 1)?;
+    applied(
+        table,
+        terms,
+        e,
+        b,
+        found.extent,
+        w,
+        limit,
+        budget,
+        level,
+        function,
+    )
 }
 
 // The category of `[x,P]T` at the start of e: P's must be `type`; T's under one binding more; `type` if that is `type`, else
@@ -180,27 +174,18 @@ fn abstraction(
     scope: Scope,
     w: &mut [Cell],
     limit: usize,
-    budget: u32,
+    budget: &mut u32,
     level: usize,
-) -> Found
+) -> Result<Found, Reason>
     requires { (length e.now ≤ length terms.now) × (1 ≤ length e.now) × (level < nesting) }
-    ensures { AbstractionPost table.now terms.now e.now scope w.old limit budget level
-        w.new result.code result.size result.extent result.budget }
+    ensures { AbstractionPost table.now terms.now e.now scope w.old limit budget.old level
+        w.new (code_in result) (found_size result) (found_extent result) budget.new }
 {
-    let p = category(table, terms, &e[1..], scope, w, limit, budget, level);
-    let extent = p.extent;
-    let d = found_type(w, limit, level, p);
-    let code = d.code;
-    let rest = d.budget;
-    if code != 0 {
-        return refused(code, rest);
-    }
-    if extent > e.len() - 1 {
-        return refused(NOT_TYPE, rest);
-    }
-    let t = extent + 1;
+    let domain = category(table, terms, &e[1..], scope, w, limit, budget, level)?;
+    found_type(w, limit, level)?;
+    let t = domain.extent + 1;
     let start = terms.len() - e.len() + 1;
-    let inner = bind(scope, start, extent);
-    let c = category(table, terms, &e[t..], inner, w, limit, rest, level);
-    over_binding(e, t, w, limit, level, c)
+    let inner = bind(scope, start, domain.extent);
+    let found = category(table, terms, &e[t..], inner, w, limit, budget, level)?;
+    over_binding(e, t, w, limit, level, found)
 }

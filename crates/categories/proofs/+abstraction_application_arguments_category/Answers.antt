@@ -1,54 +1,57 @@
 use mathlib.Core.Path.{◌≡◌, refl, sym, ◌∙◌}
 use native.Mathlib.Omega.{arith}
 use lib.ListN.{length}
+use borrow.Author.Tests.{eqb-true, eqb-false}
+use Rattle.lookup.specs.Answers.{code_nonzero}
+use Rattle.reduction.proofs.Exits.{passed_on}
+use Rattle.levels.specs.Finds.{refusal_nonzero}
+use Rattle.levels.proofs.Instances.{constant_refused}
+use Rattle.levels.proofs.Functions.{function_refused}
+use Rattle.levels.proofs.Types.{type_refused}
+use Rattle.levels.proofs.Bindings.{over_refused}
+use Rattle.typing.proofs.Fitting.{fits_refused}
+use Rattle.typing.proofs.Applications.{applied_refused}
 use Rattle.categories.proofs.KindLaws.{category_deep, category_empty, by_variable_lem, by_bound_lem, by_alone, by_constant_lem, by_application_lem, by_abstraction_lem, by_nothing}
 use Rattle.categories.proofs.ArgumentLaws.{argument_none, argument_stored, argument_other}
-use Rattle.categories.proofs.BinderLaws.{application_refused, application_made, abstraction_refused, abstraction_past, abstraction_made}
+use Rattle.categories.proofs.BinderLaws.{application_refused, application_made, abstraction_refused, abstraction_made}
 use Rattle.categories.proofs.Within.{part, part_length, part_first}
 use Rattle.categories.proofs.Strings.{ArgumentPost}
 use Rattle.categories.proofs.Turns.{turns_start, turns_more, turns_stop, turns_end}
 use Prim.Native.Nat.{ℕ}
 use Rattle.categories.proofs.+abstraction_application_arguments_category.Goals as goal
-use Rattle.categories.proofs.+abstraction_application_arguments_category.Goals.{arguments-Joined-is_stored, arguments-then-is_stored, arguments-else-is_stored}
+use Rattle.categories.proofs.+abstraction_application_arguments_category.Goals.{arguments-Joined-is_stored, arguments-then-is_stored+in_ok-stored_fits, arguments-else-is_stored+in_ok-found+in_ok-argument_fits}
 
 -- the argument at hand, by whichever way
 arguments-fitted : (t : ℕ) (c : arguments-Joined-is_stored t)
     → (let a = c.args in
     let g = c.loop-i in
-    ArgumentPost a.table.now a.terms.now (part a.s.now g.at) a.scope g.w a.limit g.rest a.level
-    c.context_variable-wanted.result c.level_at-base.result g.i g.starts c.if-is_stored.w c.if-is_stored.f.code
-    c.if-is_stored.f.extent c.if-is_stored.f.budget
+    ArgumentPost a.table.now a.terms.now (part a.s.now g.at) a.scope g.w a.limit g.budget a.level
+    c.context_variable-line.result c.level_at-base.result g.i g.starts c.if-is_stored.w 0
+    c.if-is_stored.n c.if-is_stored.budget
     × (length c.if-is_stored.w ≡ length g.w))
 arguments-fitted t c = (
   elim c.if-is_stored.branch [
-    | arguments-then-is_stored w ↦
-        rw (w.w-is, w.f-is, w.stored_fits-f.ensures.1) (argument_stored w.stored_fits-f.ensures.0
-        (omega (arith, part_length c.args.s.now c.loop-i.at, c.if-at-s.false))
-        (sym (part_first c.args.s.now c.loop-i.at)) refl c.is_stored.ensures w.if-is_stored.true)
-    | arguments-else-is_stored w ↦
-        rw (w.w-is, w.f-is, w.argument_fits-f.ensures.1) (argument_other w.category-g.ensures w.argument_fits-f.ensures.0)
+    | arguments-then-is_stored+in_ok-stored_fits w ↦
+        rw (w.w-is, w.n-is, w.budget-is) (argument_stored w.in_ok-stored_fits.ensures
+        (omega (arith, part_length c.args.s.now c.loop-i.at, c.in-Some.ensures.lookup.3.0))
+        (c.in-Some.ensures.lookup.3.1 0 ∙ sym (part_first c.args.s.now c.loop-i.at)) refl c.is_stored.ensures w.if-is_stored.true)
+    | arguments-else-is_stored+in_ok-found+in_ok-argument_fits w ↦
+        rw (w.w-is, w.n-is, w.budget-is) (argument_other w.in_ok-found.ensures w.in_ok-argument_fits.ensures)
   ],
   c.if-is_stored.auto.w,
 )
 
-pub abstraction-category-p-requires : goal.abstraction-category-p-requires
-abstraction-category-p-requires t c = (omega arith, omega arith)
+pub abstraction-returns-in_err-domain : goal.abstraction-returns-in_err-domain
+abstraction-returns-in_err-domain t c =
+    rw (passed_on _ _ c.from_residual.ensures.1) (abstraction_refused c.in_err-domain.ensures (type_refused (refusal_nonzero _)) (refusal_nonzero _) refl refl refl)
 
-pub abstraction-returns-then-code-ne0 : goal.abstraction-returns-then-code-ne0
-abstraction-returns-then-code-ne0 t c =
-    abstraction_refused c.category-p.ensures c.found_type-d.ensures c.if-code-ne0.true c.refused.ensures.0
-    c.refused.ensures.1 c.refused.ensures.2
-
-pub abstraction-overflow_sub-e : goal.abstraction-overflow_sub-e
-abstraction-overflow_sub-e t c = omega (arith, c.requires)
-
-pub abstraction-returns-then-extent-e : goal.abstraction-returns-then-extent-e
-abstraction-returns-then-extent-e t c =
-    abstraction_past c.category-p.ensures c.found_type-d.ensures c.if-code-ne0.false c.if-extent-e.true c.refused-then-extent-e.ensures.1
+pub abstraction-returns-in_err-found_type : goal.abstraction-returns-in_err-found_type
+abstraction-returns-in_err-found_type t c =
+    rw (passed_on _ _ c.from_residual-in_err-found_type.ensures.1) (abstraction_refused c.in_ok-domain.ensures (c.in_err-found_type.ensures _ _) (refusal_nonzero _) refl refl refl)
 
 pub abstraction-overflow_add-t : goal.abstraction-overflow_add-t
 abstraction-overflow_add-t t c =
-    omega (arith, c.if-extent-e.false, c.well_formed, c.requires)
+    omega (arith, c.in_ok-domain.ensures.within, part_length c.args.e.now 1, c.well_formed, c.requires)
 
 pub abstraction-overflow_sub-start : goal.abstraction-overflow_sub-start
 abstraction-overflow_sub-start t c = omega (arith, c.requires)
@@ -58,23 +61,24 @@ abstraction-overflow_add-start t c = omega (arith, c.requires)
 
 pub abstraction-offset_bounds-e-t : goal.abstraction-offset_bounds-e-t
 abstraction-offset_bounds-e-t t c =
-    omega (arith, c.requires, c.well_formed, c.if-extent-e.false)
+    omega (arith, c.requires, c.well_formed, c.in_ok-domain.ensures.within, part_length c.args.e.now 1)
 
 pub abstraction-slice_bounds-category-count-2 : goal.abstraction-slice_bounds-category-count-2
-abstraction-slice_bounds-category-count-2 t c = omega (arith, c.requires, c.if-extent-e.false)
-
-pub abstraction-category-c-requires : goal.abstraction-category-c-requires
-abstraction-category-c-requires t c =
-    (omega (arith, c.requires, c.if-extent-e.false), omega (arith, c.requires, c.if-extent-e.false))
+abstraction-slice_bounds-category-count-2 t c = omega (arith, c.requires, c.in_ok-domain.ensures.within, part_length c.args.e.now 1)
 
 pub abstraction-over_binding-requires : goal.abstraction-over_binding-requires
 abstraction-over_binding-requires t c =
-    (omega (arith, c.requires), omega (arith, c.requires, c.category-c.ensures.within, c.if-extent-e.false))
+    (omega (arith, c.requires), omega (arith, c.requires, c.in_ok-found.ensures.within, c.in_ok-domain.ensures.within, part_length c.args.e.now 1))
+
+pub abstraction-returns-in_err-found : goal.abstraction-returns-in_err-found
+abstraction-returns-in_err-found t c =
+    rw (passed_on _ _ c.from_residual-in_err-found.ensures.1) (abstraction_made c.in_ok-domain.ensures (c.in_ok-found_type.ensures _ _) c.requires.1 refl
+    refl refl c.bind-inner.ensures c.in_err-found.ensures (over_refused (refusal_nonzero _) refl refl refl))
 
 pub abstraction-returns : goal.abstraction-returns
 abstraction-returns t c =
-    abstraction_made c.category-p.ensures c.found_type-d.ensures c.requires.1 c.if-code-ne0.false
-    c.if-extent-e.false refl refl c.bind-inner.ensures c.category-c.ensures c.over_binding.ensures
+    abstraction_made c.in_ok-domain.ensures (c.in_ok-found_type.ensures _ _) c.requires.1 refl
+    refl refl c.bind-inner.ensures c.in_ok-found.ensures (c.over_binding.ensures _)
 
 pub application-offset_bounds-e-b : goal.application-offset_bounds-e-b
 application-offset_bounds-e-b t c =
@@ -84,14 +88,22 @@ pub application-slice_bounds-category-count : goal.application-slice_bounds-cate
 application-slice_bounds-category-count t c =
     omega (arith, c.requires, c.skip-b.ensures.within c.requires.1)
 
-pub application-category-c-requires : goal.application-category-c-requires
-application-category-c-requires t c =
+pub application-category-requires : goal.application-category-requires
+application-category-requires t c =
     (omega (arith, c.requires, c.skip-b.ensures.within c.requires.1), omega (arith, c.requires, c.skip-b.ensures.within c.requires.1))
 
-pub application-returns-then-code-ne0 : goal.application-returns-then-code-ne0
-application-returns-then-code-ne0 t c =
-    application_refused c.requires.1 c.skip-b.ensures c.category-c.ensures c.function_of-f.ensures c.if-code-ne0.true
-    c.refused.ensures.0 c.refused.ensures.1 c.refused.ensures.2
+pub application-returns-in_err-found : goal.application-returns-in_err-found
+application-returns-in_err-found t c =
+    rw (passed_on _ _ c.from_residual.ensures.1) (application_refused c.requires.1 c.skip-b.ensures c.in_err-found.ensures (function_refused {domain = 0} {body = 0} (refusal_nonzero _)) (refusal_nonzero _) refl refl refl)
+
+pub application-returns-in_err-function : goal.application-returns-in_err-function
+application-returns-in_err-function t c =
+    rw (passed_on _ _ c.from_residual-in_err-function.ensures.1) (application_refused c.requires.1 c.skip-b.ensures c.in_ok-found.ensures c.in_err-function.ensures (refusal_nonzero _) refl refl refl)
+
+pub application-returns-in_err-category : goal.application-returns-in_err-category
+application-returns-in_err-category t c =
+    rw (passed_on _ _ c.from_residual-in_err-category.ensures.1) (application_made c.requires.1 c.skip-b.ensures c.in_ok-found.ensures c.in_ok-function.ensures (omega (arith, c.requires))
+    refl c.in_err-category.ensures (applied_refused (refusal_nonzero _) refl refl refl))
 
 pub application-slice_bounds-category-count-2 : goal.application-slice_bounds-category-count-2
 application-slice_bounds-category-count-2 t c = omega (arith, c.requires)
@@ -99,59 +111,69 @@ application-slice_bounds-category-count-2 t c = omega (arith, c.requires)
 pub application-overflow_add-level : goal.application-overflow_add-level
 application-overflow_add-level t c = omega (arith, c.requires)
 
-pub application-category-a-requires : goal.application-category-a-requires
-application-category-a-requires t c =
+pub application-category-requires-2 : goal.application-category-requires-2
+application-category-requires-2 t c =
     (omega (arith, c.requires), omega (arith, c.requires))
 
 pub application-applied-requires : goal.application-applied-requires
 application-applied-requires t c = (
   omega (arith, c.requires),
   omega (arith, c.requires, c.skip-b.ensures.within c.requires.1),
-  omega (arith, c.requires, c.skip-b.ensures.within c.requires.1, c.category-c.ensures.within),
+  omega (arith, c.requires, c.skip-b.ensures.within c.requires.1, c.in_ok-found.ensures.within),
 )
 
 pub application-returns : goal.application-returns
 application-returns t c =
-    application_made c.requires.1 c.skip-b.ensures c.category-c.ensures c.function_of-f.ensures (omega (arith, c.requires))
-    c.if-code-ne0.false c.category-a.ensures c.applied.ensures
+    application_made c.requires.1 c.skip-b.ensures c.in_ok-found.ensures c.in_ok-function.ensures (omega (arith, c.requires))
+    refl c.in_ok-category.ensures (c.applied.ensures _)
 
 pub arguments-loop-i-init : goal.arguments-loop-i-init
 arguments-loop-i-init t c =
-    (omega arith, omega arith, turns_start c.requires.2 c.requires.3, refl)
+    (omega arith, turns_start c.requires.2 c.requires.3, refl)
 
-pub arguments-context_variable-wanted-requires : goal.arguments-context_variable-wanted-requires
-arguments-context_variable-wanted-requires t c = omega (arith, c.field-count.ensures.1, c.loop-i-test.true)
+pub arguments-context_variable-line-requires : goal.arguments-context_variable-line-requires
+arguments-context_variable-line-requires t c = omega (arith, c.field-count.ensures.1, c.loop-i-test.true)
 
-pub arguments-returns-then-at-s : goal.arguments-returns-then-at-s
-arguments-returns-then-at-s t c =
-    turns_stop c.requires.1 c.loop-i.invariant.2 c.field-count.ensures.0 c.loop-i-test.true c.context_of.ensures
-    c.context_variable-wanted.ensures (λ h. c.level_at-base.ensures h (omega (arith, c.requires)))
-    (argument_none (omega (arith, part_length c.args.s.now c.loop-i.at, c.if-at-s.true)) refl) (λ z. omega arith)
-    c.unfit.ensures.0 c.unfit.ensures.1 c.unfit.ensures.2
+pub arguments-returns-in_default : goal.arguments-returns-in_default
+arguments-returns-in_default t c =
+    turns_stop c.requires.1 c.loop-i.invariant.1 c.field-count.ensures.0 c.loop-i-test.true c.context_of.ensures
+    c.context_variable-line.ensures (λ h. c.level_at-base.ensures h (omega (arith, c.requires)))
+    (argument_none (omega (arith, part_length c.args.s.now c.loop-i.at, c.in_default.ensures.lookup.3)) refl) (code_nonzero _)
+    refl refl refl
 
-pub arguments-overflow_cast-u : goal.arguments-overflow_cast-u
-arguments-overflow_cast-u t c = omega (arith, c.type_inv.s c.loop-i.at)
-
-pub arguments-stored_fits-f-requires : goal.arguments-stored_fits-f-requires
-arguments-stored_fits-f-requires t c =
+pub arguments-stored_fits-requires : goal.arguments-stored_fits-requires
+arguments-stored_fits-requires t c =
     omega (arith, c.requires)
 
 pub arguments-overflow_add-level : goal.arguments-overflow_add-level
 arguments-overflow_add-level t c = omega (arith, c.requires)
 
-pub arguments-category-g-requires : goal.arguments-category-g-requires
-arguments-category-g-requires t c =
+pub arguments-category-requires : goal.arguments-category-requires
+arguments-category-requires t c =
     (omega (arith, c.requires, c.loop-i.invariant), omega (arith, c.requires, c.loop-i.invariant))
 
-pub arguments-argument_fits-f-requires : goal.arguments-argument_fits-f-requires
-arguments-argument_fits-f-requires t c =
+pub arguments-argument_fits-requires : goal.arguments-argument_fits-requires
+arguments-argument_fits-requires t c =
     omega (arith, c.requires)
 
-pub arguments-returns-then-code-ne0 : goal.arguments-returns-then-code-ne0
-arguments-returns-then-code-ne0 t c =
-    turns_stop c.requires.1 c.loop-i.invariant.2 c.field-count.ensures.0 c.loop-i-test.true
-    c.context_of.ensures c.context_variable-wanted.ensures (λ h. c.level_at-base.ensures h (omega (arith, c.requires)))
-    (arguments-fitted t (goal.at.arguments-returns-then-code-ne0 t c).Joined-is_stored).0 c.if-code-ne0.true c.unfit-then-code-ne0.ensures.0 c.unfit-then-code-ne0.ensures.1 c.unfit-then-code-ne0.ensures.2
+pub arguments-returns-in_err-stored_fits : goal.arguments-returns-in_err-stored_fits
+arguments-returns-in_err-stored_fits t c =
+    rw (passed_on _ _ c.from_residual.ensures.1) (turns_stop c.requires.1 c.loop-i.invariant.1 c.field-count.ensures.0 c.loop-i-test.true c.context_of.ensures
+    c.context_variable-line.ensures (λ h. c.level_at-base.ensures h (omega (arith, c.requires)))
+    (argument_stored c.in_err-stored_fits.ensures (omega (arith, part_length c.args.s.now c.loop-i.at, c.in-Some.ensures.lookup.3.0))
+    (c.in-Some.ensures.lookup.3.1 0 ∙ sym (part_first c.args.s.now c.loop-i.at)) refl c.is_stored.ensures c.if-is_stored.true) (refusal_nonzero _) refl refl refl)
+
+pub arguments-returns-in_err-found : goal.arguments-returns-in_err-found
+arguments-returns-in_err-found t c =
+    rw (passed_on _ _ c.from_residual-in_err-found.ensures.1) (turns_stop c.requires.1 c.loop-i.invariant.1 c.field-count.ensures.0 c.loop-i-test.true c.context_of.ensures
+    c.context_variable-line.ensures (λ h. c.level_at-base.ensures h (omega (arith, c.requires)))
+    (argument_other c.in_err-found.ensures (fits_refused (refusal_nonzero _))) (refusal_nonzero _) refl refl refl)
+
+pub arguments-returns-in_err-argument_fits : goal.arguments-returns-in_err-argument_fits
+arguments-returns-in_err-argument_fits t c =
+    rw (passed_on _ _ c.from_residual-in_err-argument_fits.ensures.1) (turns_stop c.requires.1 c.loop-i.invariant.1 c.field-count.ensures.0 c.loop-i-test.true c.context_of.ensures
+    c.context_variable-line.ensures (λ h. c.level_at-base.ensures h (omega (arith, c.requires)))
+    (argument_other c.in_ok-found.ensures c.in_err-argument_fits.ensures) (refusal_nonzero _) refl refl refl)
 
 pub arguments-keep_argument-requires : goal.arguments-keep_argument-requires
 arguments-keep_argument-requires t c = omega (arith, c.loop-i.invariant)
@@ -160,34 +182,23 @@ pub arguments-overflow_add-at : goal.arguments-overflow_add-at
 arguments-overflow_add-at t c =
     omega (arith, (arguments-fitted t (goal.at.arguments-overflow_add-at t c).Joined-is_stored).0.within, part_length c.args.s.now c.loop-i.at, c.loop-i.invariant, c.well_formed.1.1)
 
-pub arguments-overflow_add-i : goal.arguments-overflow_add-i
-arguments-overflow_add-i t c =
-    omega (arith, c.field-count.ensures.1, c.loop-i-test.true)
-
-pub arguments-loop-i-smaller : goal.arguments-loop-i-smaller
-arguments-loop-i-smaller t c = omega (arith, c.loop-i-test.true)
-
 pub arguments-loop-i-preserved : goal.arguments-loop-i-preserved
 arguments-loop-i-preserved t c = (
-  omega (arith, c.loop-i-test.true),
   omega (arith, (arguments-fitted t (goal.at.arguments-loop-i-preserved t c).Joined-is_stored).0.within, part_length c.args.s.now c.loop-i.at, c.loop-i.invariant),
-  turns_more c.requires.1 c.loop-i.invariant.2 c.field-count.ensures.0 c.loop-i-test.true
-      c.context_of.ensures c.context_variable-wanted.ensures (λ h. c.level_at-base.ensures h (omega (arith, c.requires)))
-      (arguments-fitted t (goal.at.arguments-loop-i-preserved t c).Joined-is_stored).0 c.if-code-ne0.false c.keep_argument.ensures c.enter_start.ensures,
+  turns_more c.requires.1 c.loop-i.invariant.1 c.field-count.ensures.0 c.loop-i-test.true
+      c.context_of.ensures c.context_variable-line.ensures (λ h. c.level_at-base.ensures h (omega (arith, c.requires)))
+      (arguments-fitted t (goal.at.arguments-loop-i-preserved t c).Joined-is_stored).0 refl c.keep_argument.ensures c.enter_start.ensures,
   omega (arith, (arguments-fitted t (goal.at.arguments-loop-i-preserved t c).Joined-is_stored).1, c.loop-i.invariant),
 )
 
 pub arguments-returns : goal.arguments-returns
-arguments-returns t c = turns_end c.field-count.ensures.0 c.loop-i.invariant.0 c.loop-i-test.false c.loop-i.invariant.1 c.loop-i.invariant.2
+arguments-returns t c = turns_end c.field-count.ensures.0 (omega arith) (omega arith) c.loop-i.invariant.0 c.loop-i.invariant.1
 
 pub category-returns-then-level-ge-NESTING : goal.category-returns-then-level-ge-NESTING
-category-returns-then-level-ge-NESTING t c = category_deep c.if-level-ge-NESTING.true c.refused.ensures.1
+category-returns-then-level-ge-NESTING t c = category_deep c.if-level-ge-NESTING.true refl
 
-pub category-returns-then-e-eq0 : goal.category-returns-then-e-eq0
-category-returns-then-e-eq0 t c = category_empty c.if-e-eq0.true c.refused-then-e-eq0.ensures.1
-
-pub category-overflow_cast-v : goal.category-overflow_cast-v
-category-overflow_cast-v t c = omega (arith, c.type_inv.e 0)
+pub category-returns-then-is_empty : goal.category-returns-then-is_empty
+category-returns-then-is_empty t c = category_empty (eqb-true _ _ (sym c.if-is_empty.ensures)) refl
 
 pub category-stored-requires : goal.category-stored-requires
 category-stored-requires t c = omega (arith, c.if-level-ge-NESTING.false)
@@ -195,37 +206,40 @@ category-stored-requires t c = omega (arith, c.if-level-ge-NESTING.false)
 pub category-bound-requires : goal.category-bound-requires
 category-bound-requires t c = omega (arith, c.if-level-ge-NESTING.false)
 
-pub category-stored-requires-then-field-eq0 : goal.category-stored-requires-then-field-eq0
-category-stored-requires-then-field-eq0 t c = omega (arith, c.if-level-ge-NESTING.false)
+pub category-returns-in-3 : goal.category-returns-in-3
+category-returns-in-3 t c =
+    by_alone (omega (arith, eqb-false _ _ (sym c.if-is_empty.ensures))) c.in-3.is refl (sym c.field.ensures.0 ∙ c.if-field-eq0.true) (c.stored-in-3.ensures _)
 
-pub category-returns-then-field-eq0 : goal.category-returns-then-field-eq0
-category-returns-then-field-eq0 t c =
-    by_alone (omega (arith, c.if-e-eq0.false)) c.in-3.is refl (sym c.field.ensures.0 ∙ c.if-field-eq0.true) c.stored-then-field-eq0.ensures
-
-pub category-arguments-c-requires : goal.category-arguments-c-requires
-category-arguments-c-requires t c = (omega arith, (omega arith, omega arith, refl, refl))
+pub category-arguments-requires : goal.category-arguments-requires
+category-arguments-requires t c =
+    let some = eqb-false _ _ (sym c.if-is_empty.ensures) in
+    (omega (arith, some), (omega (arith, some), omega arith, refl, refl))
 
 pub category-constant-requires : goal.category-constant-requires
 category-constant-requires t c =
-    (omega (arith, c.if-level-ge-NESTING.false), omega (arith, c.arguments-c.ensures.within, c.well_formed))
+    (omega (arith, c.if-level-ge-NESTING.false), omega (arith, c.in_ok-extent-in-3-2.ensures.within, c.well_formed))
 
 pub category-application-requires : goal.category-application-requires
-category-application-requires t c = (omega arith, (omega arith, omega arith, omega arith))
+category-application-requires t c = (omega arith, (omega arith, omega (arith, eqb-false _ _ (sym c.if-is_empty.ensures)), omega arith))
 
 pub category-abstraction-requires : goal.category-abstraction-requires
-category-abstraction-requires t c = (omega arith, (omega arith, omega arith, omega arith))
+category-abstraction-requires t c = (omega arith, (omega arith, omega (arith, eqb-false _ _ (sym c.if-is_empty.ensures)), omega arith))
 
 pub category-returns-in-1 : goal.category-returns-in-1
 category-returns-in-1 t c =
-    by_variable_lem (omega (arith, c.if-e-eq0.false)) c.in-1.is refl c.stored.ensures
+    by_variable_lem (omega (arith, eqb-false _ _ (sym c.if-is_empty.ensures))) c.in-1.is refl (c.stored.ensures _)
 
 pub category-returns-in-2 : goal.category-returns-in-2
 category-returns-in-2 t c =
-    by_bound_lem (omega (arith, c.if-e-eq0.false)) c.in-2.is refl c.bound.ensures
+    by_bound_lem (omega (arith, eqb-false _ _ (sym c.if-is_empty.ensures))) c.in-2.is refl (c.bound.ensures _)
 
-pub category-returns-else-field-eq0 : goal.category-returns-else-field-eq0
-category-returns-else-field-eq0 t c =
-    by_constant_lem (omega (arith, c.if-e-eq0.false)) c.in-3.is refl c.arguments-c.ensures c.constant.ensures
+pub category-returns-in_err-extent-in-3-2 : goal.category-returns-in_err-extent-in-3-2
+category-returns-in_err-extent-in-3-2 t c =
+    rw (passed_on _ _ c.from_residual.ensures.1) (by_constant_lem (omega (arith, eqb-false _ _ (sym c.if-is_empty.ensures))) c.in-3.is refl c.in_err-extent-in-3-2.ensures (constant_refused (refusal_nonzero _) refl refl refl))
+
+pub category-returns-in_ok-extent-in-3-2 : goal.category-returns-in_ok-extent-in-3-2
+category-returns-in_ok-extent-in-3-2 t c =
+    by_constant_lem (omega (arith, eqb-false _ _ (sym c.if-is_empty.ensures))) c.in-3.is refl c.in_ok-extent-in-3-2.ensures (c.constant.ensures _)
 
 pub category-returns-in-4 : goal.category-returns-in-4
 category-returns-in-4 t c = by_application_lem c.in-4.is c.application.ensures
@@ -235,4 +249,4 @@ category-returns-in-5 t c = by_abstraction_lem c.in-5.is c.abstraction.ensures
 
 pub category-returns-in_default : goal.category-returns-in_default
 category-returns-in_default t c =
-    by_nothing (λ z. omega arith) (λ z. omega arith) (λ z. omega arith) (λ z. omega arith) (λ z. omega arith) c.refused-in_default.ensures.1 refl
+    by_nothing (λ z. omega arith) (λ z. omega arith) (λ z. omega arith) (λ z. omega arith) (λ z. omega arith) refl refl

@@ -2,7 +2,7 @@
 use mathlib.Core.Path.{◌≡◌}
 use lib.ListN.{length}
 use Rattle.categories.proofs.Turns.{Turns}
-use Prim.Native.Nat.{◌+◌, ◌*◌, ◌-◌, ◌≤◌}
+use Prim.Native.Nat.{◌+◌, ◌*◌, ◌≤◌}
 use Rattle.categories.proofs.+abstraction_application_arguments_category.Given as goal
 
 abbrev pub decreases-abstraction : goal.decreases-abstraction
@@ -18,7 +18,5 @@ abbrev pub decreases-category : goal.decreases-category
 decreases-category l = 4 * length l.e.now + 1
 
 abbrev pub invariant-arguments-loop-i : goal.invariant-arguments-loop-i
-invariant-arguments-loop-i l = (l.i ≤ l.count) × (l.at ≤ length l.s) × Turns l.table l.terms l.s l.scope l.initial.w l.limit l.budget l.level l.v l.i l.at l.rest l.starts l.w × (length l.w ≡ length l.initial.w)
-
-abbrev pub decreases-arguments-loop-i : goal.decreases-arguments-loop-i
-decreases-arguments-loop-i l = l.count - l.i
+invariant-arguments-loop-i l = (l.at ≤ length l.s) × Turns l.table l.terms l.s l.scope l.initial.w l.limit l.initial.budget l.level l.v l.i l.at l.budget l.starts l.w
+    × (length l.w ≡ length l.initial.w)
