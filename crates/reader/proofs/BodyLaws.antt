@@ -10,7 +10,8 @@ use lib.Dec.{leb}
 use borrow.Author.Tests.{leb-true, leb-false}
 use Rattle.aut68.specs.Bytes.{name_byte}
 use Rattle.aut68.specs.Paragraphs.{State}
-use Rattle.aut68.specs.Procedure.Answer.{and_then}
+use Rattle.aut68.specs.Procedure.Answer.{Refusal, and_then, code_of}
+use Rattle.lookup.specs.Answers.{code_nonzero}
 use Rattle.aut68.specs.Procedure.Parse.{Read, symbol, line_end}
 use Rattle.kinds.specs.Kinds.{KindsTable, kind_of, place_or0}
 use Rattle.symbols.specs.Symbols.{PastSymbol}
@@ -19,13 +20,22 @@ use Rattle.headings.proofs.LineEndLaws.{line_ends, line_goes_on}
 use Rattle.notes.specs.Note.{note_end}
 use Rattle.notes.specs.NoteLaws.{state_noted_same}
 use Rattle.meanings.specs.NotedContext.{context_noted_same}
-use Rattle.expressions.specs.declared.parts.Reading.{Reading}
-use Rattle.expressions.specs.Walk.{ReadTo, passed}
+use Rattle.expressions.specs.Walk.{Walked, ReadTo, passed}
 use Rattle.expressions.specs.Posts.{go_on, Refusing}
 use Rattle.expressions.proofs.StoreLaws.{below_then}
-use Rattle.expressions.proofs.ReadLaws.{then_refused, then_passed, then_done, then_stop}
+use Rattle.expressions.proofs.ReadLaws.{read_back, then_refused, then_passed, then_done, then_stop}
 use Rattle.expressions.proofs.ExpressionLaws.{code_malformed}
 use Rattle.reader.specs.Posts.{Lookup, MiddleRead, CategoryRead, BodyRead}
+
+-- a line that is refused is so from where its body begins
+pub body_here : {ks s book tb : List ℕ} {lines indicator : ℕ} {w w' : List ℕ} {at to kind : ℕ} {a : Walked} (x : Refusal) → BodyRead ks s book tb lines indicator w w' at to kind a → a.code ≡ code_of x
+    → BodyRead ks s book tb lines indicator w w' at to kind (record { code = code_of x; at = at; to = to; fault = 0; count = 0 })
+body_here x h e =
+    record {
+      below = h.below;
+      upward = λ z. absurd (code_nonzero x z);
+      read = λ st k g i before name. rw (sym e) (read_back (λ z. code_nonzero x (sym e ∙ z)) (h.read st k g i before name));
+    }
 
 -- ---- the whole body
 
@@ -40,7 +50,7 @@ decide a b = split (leb a b) refl
     split true e = inl (leb-true a b e)
     split false e = inr (leb-false a b e)
 
-module _ {ks s book tb : List ℕ} {lines indicator : ℕ} {w w₁ : List ℕ} {at to kind : ℕ} {m : Reading} (M : MiddleRead ks s book tb lines indicator w w₁ at to kind m) where
+module _ {ks s book tb : List ℕ} {lines indicator : ℕ} {w w₁ : List ℕ} {at to kind : ℕ} {m : Walked} (M : MiddleRead ks s book tb lines indicator w w₁ at to kind m) where
   -- behind the middle, names are looked up in the same
   lookup_on : {st : State} → Lookup st ks s book tb lines indicator w to → Lookup st ks s book tb lines indicator w₁ m.to
   lookup_on k =
@@ -61,7 +71,7 @@ module _ {ks s book tb : List ℕ} {lines indicator : ℕ} {w w₁ : List ℕ} {
       record { below = M.below; upward = λ z. absurd (n z); read = λ st k h i before name. then_refused _ n (M.read st k h) }
 
   module _ (z : m.code ≡ 0) {colon : ℕ} (p : PastSymbol ks s m.at 5 colon) where
-    pub body_no_colon : {r' : Reading} {place end : ℕ} → length s < colon → Refusing 3 place end r' → BodyRead ks s book tb lines indicator w w₁ at to kind r'
+    pub body_no_colon : {r' : Walked} {place end : ℕ} → length s < colon → Refusing 3 place end r' → BodyRead ks s book tb lines indicator w w₁ at to kind r'
     unfolding after_heading
     body_no_colon l h =
         record {
@@ -72,7 +82,7 @@ module _ {ks s book tb : List ℕ} {lines indicator : ℕ} {w w₁ : List ℕ} {
               then_stop _ (p.missing k.table 58 body_kinds.0 (omega arith) l) (h.code_is ∙ sym code_malformed));
         }
 
-    module _ (o : colon ≤ length s) {w₂ : List ℕ} {c : Reading} (C : CategoryRead ks s book tb lines indicator w₁ w₂ (go_on colon m.to m.fault) c) where
+    module _ (o : colon ≤ length s) {w₂ : List ℕ} {c : Walked} (C : CategoryRead ks s book tb lines indicator w₁ w₂ (go_on colon m.to m.fault) c) where
       pub body_category_refused : c.code ≢ 0 → BodyRead ks s book tb lines indicator w w₂ at to kind c
       unfolding after_heading
       body_category_refused n =
@@ -85,7 +95,7 @@ module _ {ks s book tb : List ℕ} {lines indicator : ℕ} {w w₁ : List ℕ} {
           }
 
       module _ (y : c.code ≡ 0) {next : ℕ} (q : PastSymbol ks s c.at 13 next) where
-        pub body_not_ended : {r' : Reading} {place end : ℕ} → next ≢ length s → Refusing 3 place end r' → BodyRead ks s book tb lines indicator w w₂ at to kind r'
+        pub body_not_ended : {r' : Walked} {place end : ℕ} → next ≢ length s → Refusing 3 place end r' → BodyRead ks s book tb lines indicator w w₂ at to kind r'
         unfolding after_heading
         body_not_ended {r'} n h =
             record {
@@ -106,7 +116,7 @@ module _ {ks s book tb : List ℕ} {lines indicator : ℕ} {w w₁ : List ℕ} {
             ends f k (inr l) = then_stop _ (q.missing k 10 body_kinds.1 (omega arith) l) (h.code_is ∙ sym code_malformed)
 
         pub body_read : next ≡ length s
-            → BodyRead ks s book tb lines indicator w w₂ at to kind (record { code = 0; at = next; to = c.to; fault = c.fault; count = m.to })
+            → BodyRead ks s book tb lines indicator w w₂ at to kind (record { code = 0; at = length s; to = c.to; fault = c.fault; count = m.to })
         unfolding after_heading
         body_read e =
             record {
@@ -118,7 +128,7 @@ module _ {ks s book tb : List ℕ} {lines indicator : ℕ} {w w₁ : List ℕ} {
                   (then_passed _ y (C.read st (lookup_on k)) (λ d D.
                   then_done _ (q.read k.table 10 body_kinds.1 (omega arith) (omega arith))
                   (then_done _ (line_ends s next (omega arith))
-                  (passed refl refl
+                  (passed refl (ap (λ i. drop i s) (sym e))
                   (record {
                     before_is = refl;
                     indicator_is = refl;

@@ -3,10 +3,10 @@ use mathlib.Core.Path.{◌≡◌, refl, sym, ap, ap₂, ◌∙◌, subst}
 use mathlib.Core.Logic.{◌≢◌}
 use mathlib.Core.Option.{Option, none, some}
 use mathlib.Core.List.{List}
-use Prim.Native.Nat.{ℕ, ◌+◌, ◌-◌, ◌≤◌}
+use Prim.Native.Nat.{ℕ, ◌+◌, ◌≤◌}
 use native.Mathlib.Omega.{arith}
-use lib.ListN.{length, drop, take}
-use lib.Seq.{length-slice}
+use lib.ListN.{length}
+use lib.Seq.{slice, length-slice}
 use Rattle.aut68.specs.Bytes.{Bytes}
 use Rattle.aut68.specs.Source.{Used}
 use Rattle.aut68.specs.Lines.{Line, Kind, variable, primitive, abbreviation, line_of, kind_number, row_cell}
@@ -18,10 +18,9 @@ use Rattle.aut68.specs.Sizes.{line_limit, at_kind}
 use Rattle.lookup.specs.LineNumbers.{line_line_of}
 use Rattle.kinds.specs.Kinds.{KindsTable}
 use Rattle.symbols.specs.Symbols.{used_in, used_by}
-use Rattle.symbols.proofs.SymbolLaws.{part}
 use Rattle.symbols.proofs.UsedLaws.{used_by_lem}
 use Rattle.headings.specs.ReadLine.{used_or}
-use Rattle.headings.proofs.HeadLaws.{used_none, used_some}
+use Rattle.headings.proofs.HeadLaws.{used_some}
 use Rattle.names.specs.Known.{Known}
 use Rattle.names.specs.Posts.{number_or}
 use Rattle.names.proofs.FindLaws.{line_at}
@@ -57,25 +56,26 @@ abbrev Indicated : List ℕ → List ℕ → List ℕ → ℕ → List ℕ → O
 Indicated ks book tb lines w o r =
     (st : State) → KindsTable ks → Known st.earlier book tb lines → StateNoted st book tb lines w → IndicatorFound lines r (indicator_line st o tt)
 
-module _ (s : Bytes) (title size start len : ℕ) {ks book tb w : List ℕ} {lines : ℕ} where
-  pub indicator_empty : len ≡ 0 → Indicated ks book tb lines w (used_or s title size start len) 0
-  indicator_empty e st t k g =
-      subst (λ f. IndicatorFound lines 0 f) (sym (ap (λ o. indicator_line st o tt) (used_none s title size start len e) ∙ indicator_none st)) (is_line refl (omega arith))
+pub indicator_empty : {ks book tb w : List ℕ} {lines : ℕ} → Indicated ks book tb lines w none 0
+indicator_empty {lines = lines} st t k g = subst (λ f. IndicatorFound lines 0 f) (sym (indicator_none st)) (is_line refl (omega arith))
 
-  module _ (n : len ≢ 0) (i : (start + len ≤ length s) × (title + size ≤ length s)) {v : ℕ}
-      (U : UsedFound ks book tb lines w (take (title + size - title) (drop title s)) (take (start + len - start) (drop start s)) v) where
+module _ (s : Bytes) (title size start len : ℕ) {ks book tb w : List ℕ} {lines : ℕ} where
+  module _ (n : len ≢ 0) (i : (title + size ≤ length s) × (start + len ≤ length s)) {before word : Bytes}
+      (eb : before ≡ slice title (title + size) s) (ew : word ≡ slice start (start + len) s) {v : ℕ} (U : UsedFound ks book tb lines w before word v) where
     -- the name as it was looked up
     number : (st : State) → KindsTable ks → Known st.earlier book tb lines → StateNoted st book tb lines w → v ≡ number_or 0 (number_of st (used_in s title size start len))
     number st t k g =
-        let e = part s start (start + len) (omega arith) in
-        U.is st t k g (omega (arith, ap length e, length-slice start (start + len) s i.0))
-        ∙ ap (λ u. number_or 0 (number_of st u)) (ap₂ used_by (part s title (title + size) (omega arith)) e ∙ sym (used_by_lem s title size start len i.1))
+        U.is st t k g (omega (arith, ap length ew, length-slice start (start + len) s i.1))
+        ∙ ap (λ u. number_or 0 (number_of st u)) (ap₂ used_by eb ew ∙ sym (used_by_lem s title size start len i.0))
 
     pub indicator_unknown : v ≡ 0 → Indicated ks book tb lines w (used_or s title size start len) line_limit
     indicator_unknown z st t k g =
         subst (λ f. IndicatorFound lines line_limit f)
         (sym (ap (λ o. indicator_line st o tt) (used_some s title size start len n)
         ∙ indicator_nowhere st _ (number_none (number_of st (used_in s title size start len)) (number st t k g) z (used_number st _)))) (no_line refl)
+
+    pub indicator_too_large : line_limit ≤ v → Indicated ks book tb lines w (used_or s title size start len) line_limit
+    indicator_too_large m st t k g = absurd (omega (arith, k.few, U.within))
 
     module _ (m : v ≢ 0) {kind : ℕ} (ek : kind ≡ row_cell tb v at_kind) where
       pub indicator_no_variable : kind ≢ 0 → Indicated ks book tb lines w (used_or s title size start len) line_limit

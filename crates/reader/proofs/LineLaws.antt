@@ -1,4 +1,5 @@
 -- A line, from its heading and its body.
+use Rattle.std.specs.Prelude.{Ok, Err, Result as Tried}
 use mathlib.Core.Path.{◌≡◌, refl, sym, ap, ap₂, ◌∙◌, subst}
 use mathlib.Core.Logic.{◌≢◌, ⊎_elim}
 use mathlib.Core.Bool.{Bool, true, false}
@@ -14,7 +15,7 @@ use Rattle.aut68.specs.Expr.{Expr, cells, levels}
 use Rattle.aut68.specs.Source.{Used}
 use Rattle.aut68.specs.Lines.{Kind, kind_cells, line_cells, row_cell}
 use Rattle.aut68.specs.Paragraphs.{State, current}
-use Rattle.aut68.specs.Procedure.Answer.{◌>>=◌, give, ensure, aside, code_of, duplicate, too_large}
+use Rattle.aut68.specs.Procedure.Answer.{◌>>=◌, give, ensure, stop, aside, code_of, malformed, duplicate, too_large}
 use Rattle.aut68.specs.Procedure.Parse.{Placed, a_line}
 use Rattle.aut68.specs.Procedure.Lookup.{unused}
 use Rattle.aut68.specs.Procedure.Resolve.{Naming, indicator_line, resolve_middle, context_at}
@@ -22,26 +23,27 @@ use Rattle.aut68.specs.Procedure.Resolve as Resolve
 use Rattle.aut68.specs.Procedure.CheckLine.{Passed, within_limits, middle_within_limits, read_line}
 use Rattle.aut68.specs.Sizes.{line_limit, smallest_limit, nesting, at_context}
 use Rattle.cells.specs.Layout.{context_unit, line_unit, reader_units}
-use Rattle.symbols.proofs.SymbolLaws.{part}
 use Rattle.kinds.specs.Kinds.{KindsTable}
 use Rattle.cells.specs.Cells.{At, Outside}
 use Rattle.cells.specs.Stores.{outside_below}
 use Rattle.cells.specs.Results.{Result}
 use Rattle.cells.specs.Results as Results
 use Rattle.headings.specs.declared.before_middle.Head.{Head}
-use Rattle.headings.specs.ReadLine.{used_or}
+use Rattle.headings.specs.ReadLine.{indicator_in}
 use Rattle.headings.specs.Posts.{HeadRead}
 use Rattle.names.specs.Known.{Known}
 use Rattle.notes.specs.Note.{note_end, StateNoted}
 use Rattle.notes.specs.NoteLaws.{note_fits, state_noted_same}
 use Rattle.paragraphs.specs.Posts.{TakenTold, CurrentTold}
 use Rattle.meanings.specs.Posts.{ContextPost}
-use Rattle.expressions.specs.declared.parts.Reading.{Reading}
-use Rattle.expressions.specs.Walk.{ReadTo, Laid, SameBelow}
+use Rattle.expressions.specs.Walk.{Walked, ReadTo, Laid, SameBelow}
 use Rattle.expressions.proofs.StoreLaws.{below_same, below_then, part_append, part_stays}
 use Rattle.expressions.proofs.ReadLaws.{read_is}
+use Rattle.constants.specs.declared.codes.Reason.{Reason}
+use Rattle.constants.specs.Refusals.{code_in}
+use Rattle.reader.specs.declared.body.LineKind.{LineKind}
 use Rattle.reader.specs.declared.lines.Line.{Line as LineOf}
-use Rattle.reader.specs.Posts.{MiddleKind, kind_levels, LineWritten, BodyRead, IndicatorFound, LineRead, LineReadInto, LineReadTo}
+use Rattle.reader.specs.Posts.{number_of, MiddleKind, kind_levels, LineWritten, BodyRead, IndicatorFound, ReadAs, LineReadInto, LineReadTo}
 use Rattle.reader.proofs.StepLaws.{reading_result, step_stopped, step_names, step_fault, step_right_lem, step_wrong, step_indicator, step_no_indicator}
 use Rattle.reader.proofs.LimitLaws.{laid_small, laid_large, within, not_within, middle_within_lem, middle_not_within}
 use Rattle.reader.proofs.StepLaws.{name_unused, name_taken, kind_number_lem, context_length, indicator_within, zero_or_not}
@@ -64,15 +66,16 @@ module _ {w₁ w₂ : List ℕ} {to middle end : ℕ} {xs ys : List ℕ} (below 
 
 -- ---- a line whose heading was refused
 
-module _ {ks s book tb : List ℕ} {lines limit : ℕ} {w : List ℕ} {h : Head} {l : LineOf} (H : HeadRead ks s h) where
-  pub line_heading_refused : h.code ≢ 0 → l.code ≡ h.code → LineReadInto ks s book tb lines limit w w l
-  unfolding read_line aside code_of
-  line_heading_refused n e =
+module _ {ks s book tb : List ℕ} {lines limit : ℕ} {w : List ℕ} {l : Tried LineOf Reason} where
+  pub line_heading_refused : (KindsTable ks → (rest : Bytes) × (a_line aut68 (length s) s ≡ stop malformed rest)) → code_in l ≡ code_of malformed
+      → LineReadInto ks s book tb lines limit w w l
+  unfolding read_line aside
+  line_heading_refused H e =
       record {
         below = below_same (context_unit * limit) w;
         read = λ st t k short large noted.
-            let (rest, c, q) = H.missing t n in
-            step_stopped _ (ap (λ m. aside m tt) q) (e ∙ c);
+            let (rest, q) = H t in
+            step_stopped _ (ap (λ m. aside m tt) q) e;
       }
 
 -- ---- a line whose heading was read
@@ -82,17 +85,17 @@ note_below : {limit n : ℕ} → smallest_limit ≤ limit → n ≡ reader_units
 note_below {limit} large long = omega (arith, ap note_end long, note_fits limit large)
 
 -- the name of the line p, as it was looked up
-looked_up : {ks s : Bytes} {h : Head} → HeadRead ks s h → h.code ≡ 0 → {st : State} {p : Placed} {w w' : List ℕ} {indicator to kind middle end fault before : ℕ} {i : Option Used}
-    → LineWritten st indicator w w' to kind middle end fault before i (slice h.first (h.first + h.size) s) p
-    → (take (h.first + h.size - h.first) (drop h.first s) ≡ p.line.identifier) × (1 ≤ length (take (h.first + h.size - h.first) (drop h.first s)))
-looked_up {s = s} {h} H hz P =
-    let e = part s h.first (h.first + h.size) (omega arith) in
-    (e ∙ sym P.identifier_is, omega (arith, ap length e, length-slice h.first (h.first + h.size) s H.named, H.sized hz))
+looked_up : {ks s : Bytes} {h : Head} → HeadRead ks s h → {word : Bytes} → word ≡ slice h.identifier.start (h.identifier.start + h.identifier.len) s
+    → {st : State} {p : Placed} {w w' : List ℕ} {indicator to kind middle end fault before : ℕ} {i : Option Used}
+    → LineWritten st indicator w w' to kind middle end fault before i (slice h.identifier.start (h.identifier.start + h.identifier.len) s) p
+    → (word ≡ p.line.identifier) × (1 ≤ length word)
+looked_up {s = s} {h} H e P =
+    (e ∙ sym P.identifier_is, omega (arith, ap length e, length-slice h.identifier.start (h.identifier.start + h.identifier.len) s H.named, H.sized))
 
-module _ {ks s book tb : List ℕ} {lines : ℕ} (limit : ℕ) {w w₁ w' : List ℕ} (long : length w ≡ reader_units * limit) {h : Head} (H : HeadRead ks s h) (hz : h.code ≡ 0)
-    {found indicator kind : ℕ} {r : Reading}
+module _ {ks s book tb : List ℕ} {lines : ℕ} (limit : ℕ) {w w₁ w' : List ℕ} (long : length w ≡ reader_units * limit) {h : Head} (H : HeadRead ks s h)
+    {found indicator kind : ℕ} {r : Walked}
     (F : (st : State) → KindsTable ks → Known st.earlier book tb lines → StateNoted st book tb lines w
-    → IndicatorFound lines found (indicator_line st (used_or s h.title h.span h.start h.len) tt))
+    → IndicatorFound lines found (indicator_line st (indicator_in s h.indicator) tt))
     (I : (line_limit ≤ found → indicator ≡ 0) × (found < line_limit → indicator ≡ found))
     (C : ContextPost tb w w₁ indicator)
     (M : MiddleKind ks s h.at kind) (B : BodyRead ks s book tb lines indicator w₁ w' h.at (line_unit * limit) kind r) where
@@ -107,11 +110,11 @@ module _ {ks s book tb : List ℕ} {lines : ℕ} (limit : ℕ) {w w₁ w' : List
   below_kept = below_then below_noted (omega arith) B.below
 
   reading : (st : State) → KindsTable ks → Known st.earlier book tb lines → length s < 4294967296 → smallest_limit ≤ limit → StateNoted st book tb lines w
-      → ReadTo s (LineWritten st indicator w₁ w' (line_unit * limit) kind r.count r.to r.fault h.first (used_or s h.title h.span h.start h.len) (slice h.first (h.first + h.size) s))
+      → ReadTo s (LineWritten st indicator w₁ w' (line_unit * limit) kind r.count r.to r.fault h.identifier.start (indicator_in s h.indicator) (slice h.identifier.start (h.identifier.start + h.identifier.len) s))
       r.code r.at (a_line aut68 (length s) s)
   reading st t k short large noted =
       let earlier = indicator_within (F st t k noted) k.few I in
-      read_is (H.read t hz)
+      read_is (H.read t)
       (B.read st
       (record {
         table = t;
@@ -123,23 +126,23 @@ module _ {ks s book tb : List ℕ} {lines : ℕ} (limit : ℕ) {w w₁ w' : List
         earlier = earlier;
         short = short;
       }) M
-      (used_or s h.title h.span h.start h.len) h.first (slice h.first (h.first + h.size) s))
+      (indicator_in s h.indicator) h.identifier.start (slice h.identifier.start (h.identifier.start + h.identifier.len) s))
 
   -- the note of the state is where it was
   note_stays : {st : State} → smallest_limit ≤ limit → StateNoted st book tb lines w → StateNoted st book tb lines w'
   note_stays large noted = state_noted_same (context_unit * limit) (note_below large long) below_kept.long below_kept.is noted
 
-  pub line_body_refused : {l : LineOf} → r.code ≢ 0 → l.code ≡ r.code → LineReadInto ks s book tb lines limit w w' l
+  pub line_body_refused : {l : Tried LineOf Reason} → r.code ≢ 0 → code_in l ≡ r.code → LineReadInto ks s book tb lines limit w w' l
   unfolding read_line
   line_body_refused {l} n e =
       record {
         below = below_kept;
         read = λ st t k short large noted.
-            subst (λ c. Result (LineRead s w' (line_unit * limit) l) c tt (read_line aut68 st limit s tt)) (sym e) (Results.then_refused _ n (reading_result (reading st t k short large noted)));
+            subst (λ c. Result (ReadAs s w' (line_unit * limit) l) c tt (read_line aut68 st limit s tt)) (sym e) (Results.then_refused _ n (reading_result (reading st t k short large noted)));
       }
 
   module _ (rz : r.code ≡ 0) where
-    pub line_no_indicator : {l : LineOf} → line_limit ≤ found → l.code ≡ 5 → LineReadInto ks s book tb lines limit w w' l
+    pub line_no_indicator : {l : Tried LineOf Reason} → line_limit ≤ found → code_in l ≡ 5 → LineReadInto ks s book tb lines limit w w' l
     unfolding read_line
     line_no_indicator g e =
         record {
@@ -149,28 +152,28 @@ module _ {ks s book tb : List ℕ} {lines : ℕ} (limit : ℕ) {w w₁ w' : List
               step_no_indicator _ (subst (λ o. IndicatorFound lines found (indicator_line st o tt)) (sym P.indicator_is) (F st t k noted)) k.few g e);
         }
 
-    module _ (le : found < line_limit) {taken : Bool} (T : TakenTold ks book tb lines w' (take (h.first + h.size - h.first) (drop h.first s)) taken) where
-      pub line_taken : {l : LineOf} → taken ≡ true → l.code ≡ 4 → LineReadInto ks s book tb lines limit w w' l
+    module _ (le : found < line_limit) {word : Bytes} (ew : word ≡ slice h.identifier.start (h.identifier.start + h.identifier.len) s) {taken : Bool} (T : TakenTold ks book tb lines w' word taken) where
+      pub line_taken : {l : Tried LineOf Reason} → taken ≡ true → code_in l ≡ 4 → LineReadInto ks s book tb lines limit w w' l
       unfolding read_line code_of
       line_taken n e =
           record {
             below = below_kept;
             read = λ st t k short large noted.
                 Results.then_passed _ rz (reading_result (reading st t k short large noted)) (λ p P.
-                let (q, m) = looked_up H hz P in
+                let (q, m) = looked_up H ew P in
                 step_indicator _ (subst (λ o. IndicatorFound lines found (indicator_line st o tt)) (sym P.indicator_is) (F st t k noted)) le (I.1 le)
                 (step_wrong _ duplicate (ap (λ x. unused x st) (sym q) ∙ name_taken T t k (note_stays large noted) m n) e));
           }
 
       module _ (free : taken ≡ false) where
-        pub line_fault : {l : LineOf} → r.fault ≢ 0 → l.code ≡ r.fault → LineReadInto ks s book tb lines limit w w' l
+        pub line_fault : {l : Tried LineOf Reason} → r.fault ≢ 0 → code_in l ≡ r.fault → LineReadInto ks s book tb lines limit w w' l
         unfolding read_line
         line_fault n e =
             record {
               below = below_kept;
               read = λ st t k short large noted.
                   Results.then_passed _ rz (reading_result (reading st t k short large noted)) (λ p P.
-                  let (q, m) = looked_up H hz P in
+                  let (q, m) = looked_up H ew P in
                   let middle = P.middle_written.names refl in
                   step_indicator _ (subst (λ o. IndicatorFound lines found (indicator_line st o tt)) (sym P.indicator_is) (F st t k noted)) le (I.1 le)
                   (step_right_lem _ duplicate (ap (λ x. unused x st) (sym q) ∙ name_unused T t k (note_stays large noted) m free)
@@ -200,12 +203,12 @@ module _ {ks s book tb : List ℕ} {lines : ℕ} (limit : ℕ) {w w₁ w' : List
                     };
               })
 
-          after_names : {l : LineOf}
+          after_names : {l : Tried LineOf Reason}
               → ((st : State) → Known st.earlier book tb lines → indicator ≤ lines → StateNoted st book tb lines w' → (p : Placed)
-              → (P : LineWritten st indicator w₁ w' (line_unit * limit) kind r.count r.to r.fault h.first (used_or s h.title h.span h.start h.len) (slice h.first (h.first + h.size) s) p)
+              → (P : LineWritten st indicator w₁ w' (line_unit * limit) kind r.count r.to r.fault h.identifier.start (indicator_in s h.indicator) (slice h.identifier.start (h.identifier.start + h.identifier.len) s) p)
               → (x : Kind) (d : Expr) → resolve_middle st (context_at st.earlier indicator) p.line.middle tt ≡ Resolve.found x
               → Laid P.between (line_unit * limit) r.count nesting (kind_cells x) (kind_levels x) → Laid w' r.count r.to nesting (cells d) (levels d)
-              → Result (LineRead s w' (line_unit * limit) l) l.code tt (left st p x d tt))
+              → Result (ReadAs s w' (line_unit * limit) l) (code_in l) tt (left st p x d tt))
               → LineReadInto ks s book tb lines limit w w' l
           unfolding read_line left
           after_names f =
@@ -213,7 +216,7 @@ module _ {ks s book tb : List ℕ} {lines : ℕ} (limit : ℕ) {w w₁ w' : List
                 below = below_kept;
                 read = λ st t k short large noted.
                     Results.then_passed _ rz (reading_result (reading st t k short large noted)) (λ p P.
-                    let (q, m) = looked_up H hz P in
+                    let (q, m) = looked_up H ew P in
                     let z : P.fault_between ≡ 0 = ⊎_elim (λ z. z) (λ y. absurd (y (sym (P.category_written.kept y) ∙ n))) (zero_or_not P.fault_between) in
                     step_indicator _ (subst (λ o. IndicatorFound lines found (indicator_line st o tt)) (sym P.indicator_is) (F st t k noted)) le (I.1 le)
                     (step_right_lem _ duplicate (ap (λ x. unused x st) (sym q) ∙ name_unused T t k (note_stays large noted) m free)
@@ -222,7 +225,7 @@ module _ {ks s book tb : List ℕ} {lines : ℕ} (limit : ℕ) {w w₁ w' : List
                     f st k (indicator_within (F st t k noted) k.few I) (note_stays large noted) p P x d ex sx sd)))));
               }
 
-          pub line_large_middle : {l : LineOf} → limit < r.count - line_unit * limit → l.code ≡ 10 → LineReadInto ks s book tb lines limit w w' l
+          pub line_large_middle : {l : Tried LineOf Reason} → limit < r.count - line_unit * limit → code_in l ≡ 10 → LineReadInto ks s book tb lines limit w w' l
           unfolding left code_of
           line_large_middle g e =
               after_names (λ st k earlier noted p P x d ex sx sd.
@@ -233,7 +236,7 @@ module _ {ks s book tb : List ℕ} {lines : ℕ} (limit : ℕ) {w w₁ w' : List
                 → (length (kind_cells x) ≤ limit) × (kind_levels x ≤ nesting)
             middle_fits_lem x e A = laid_small A (B.upward rz).0 f (omega (arith, e, below_noted.long, (B.upward rz).0))
 
-            pub line_large_category : {l : LineOf} → limit < r.to - line_unit * limit - (r.count - line_unit * limit) → l.code ≡ 10 → LineReadInto ks s book tb lines limit w w' l
+            pub line_large_category : {l : Tried LineOf Reason} → limit < r.to - line_unit * limit - (r.count - line_unit * limit) → code_in l ≡ 10 → LineReadInto ks s book tb lines limit w w' l
             unfolding left code_of
             line_large_category g e =
                 let (start, more) = B.upward rz in
@@ -241,22 +244,21 @@ module _ {ks s book tb : List ℕ} {lines : ℕ} (limit : ℕ) {w w₁ w' : List
                 step_right_lem _ too_large (middle_within_lem x (middle_fits_lem x P.long sx))
                 (step_wrong _ too_large (not_within d (laid_large sd more (omega arith) (omega (arith, below_kept.long)))) e))
 
-            pub line_read : {context paragraph : ℕ} → r.to - line_unit * limit - (r.count - line_unit * limit) ≤ limit
+            pub line_read : {context paragraph : ℕ} (k : LineKind) → kind ≡ number_of k → r.to - line_unit * limit - (r.count - line_unit * limit) ≤ limit
                 → (indicator ≡ 0 → context ≡ 0) × (1 ≤ indicator → context ≡ row_cell tb indicator at_context + 1) → CurrentTold w' paragraph
                 → LineReadInto ks s book tb lines limit w w'
-                (record {
-                  code = 0;
-                  first = h.first;
-                  len = h.size;
+                (Ok (record {
+                  first = h.identifier.start;
+                  len = h.identifier.len;
                   indicator = indicator;
                   context = context;
-                  kind = kind;
+                  kind = k;
                   middle = r.count - line_unit * limit;
                   size = r.to - line_unit * limit;
                   paragraph = paragraph;
-                })
+                }))
             unfolding left line_cells
-            line_read {context} g c q =
+            line_read {context} y ek g c q =
                 let (start, more) = B.upward rz in
                 let room : length w' ≡ reader_units * limit = below_kept.long ∙ long in
                 let end : r.to ≤ length w' = omega arith in
@@ -269,12 +271,12 @@ module _ {ks s book tb : List ℕ} {lines : ℕ} (limit : ℕ) {w w₁ w' : List
                 (Results.passed refl
                 (record {
                   first_is = sym P.before_is;
-                  len_is = omega (arith, ap length P.identifier_is, length-slice h.first (h.first + h.size) s H.named);
+                  len_is = omega (arith, ap length P.identifier_is, length-slice h.identifier.start (h.identifier.start + h.identifier.len) s H.named);
                   within = H.named;
                   identifier_is = sym P.identifier_is;
                   indicator_is = refl;
                   context_is = context_length k earlier c;
-                  kind_is = sym P.kind_is ∙ sym (kind_number_lem st (context_at st.earlier indicator) p.line.middle ex);
+                  kind_is = sym ek ∙ sym P.kind_is ∙ sym (kind_number_lem st (context_at st.earlier indicator) p.line.middle ex);
                   middle_is = omega (arith, ap length cx, length-slice (line_unit * limit) r.count P.between between);
                   size_is = omega (arith, ap length (cells_both P.below start more end cx cd), length-slice (line_unit * limit) r.to w' end);
                   paragraph_is = q.is book st.place noted.place;
@@ -311,8 +313,34 @@ module _ (w part : List ℕ) (n m : ℕ) (l : n ≤ m) (fits : m ≤ length w) (
         same = λ i x. ⊎_elim (λ y. before i y) (λ y. behind i y) x;
       }
 
-module _ {ks s book tb : List ℕ} {lines limit : ℕ} {w : List ℕ} {l : LineOf} where
-  pub line_no_room : length w < reader_units * limit → l.code ≡ 10 → LineReadTo ks s book tb lines limit w w l
+-- the line that was read in a part of a store, in the whole
+module _ (s : Bytes) (part rest : List ℕ) {to : ℕ} (room : to ≤ length part) (p : Passed) where
+  in_front : (l : Tried LineOf Reason) → ReadAs s part to l p → ReadAs s (part ++ rest) to l p
+  in_front (Ok l) h =
+      record {
+        first_is = h.first_is;
+        len_is = h.len_is;
+        within = h.within;
+        identifier_is = h.identifier_is;
+        indicator_is = h.indicator_is;
+        context_is = h.context_is;
+        kind_is = h.kind_is;
+        middle_is = h.middle_is;
+        size_is = h.size_is;
+        paragraph_is = h.paragraph_is;
+        after = h.after ++ rest;
+        cells_at =
+            record {
+              is =
+                  drop-append-le to part rest room
+                  ∙ ap (λ x. x ++ rest) h.cells_at.is
+                  ∙ append_assoc (line_cells p.line) h.after rest;
+            };
+      }
+  in_front (Err r) h = h
+
+module _ {ks s book tb : List ℕ} {lines limit : ℕ} {w : List ℕ} (l : Tried LineOf Reason) where
+  pub line_no_room : length w < reader_units * limit → code_in l ≡ 10 → LineReadTo ks s book tb lines limit w w l
   line_no_room m e =
       record {
         outside = record { long = refl; same = λ i h. refl };
@@ -328,25 +356,5 @@ module _ {ks s book tb : List ℕ} {lines limit : ℕ} {w : List ℕ} {l : LineO
         outside = front_outside w part (context_unit * limit) (reader_units * limit) (omega arith) m h.below;
         no_room = λ z. absurd (omega arith);
         read = λ st t k short large room noted.
-            Results.result_map (λ p P.
-            record {
-              first_is = P.first_is;
-              len_is = P.len_is;
-              within = P.within;
-              identifier_is = P.identifier_is;
-              indicator_is = P.indicator_is;
-              context_is = P.context_is;
-              kind_is = P.kind_is;
-              middle_is = P.middle_is;
-              size_is = P.size_is;
-              paragraph_is = P.paragraph_is;
-              after = P.after ++ drop (reader_units * limit) w;
-              cells_at =
-                  record {
-                    is =
-                        drop-append-le (line_unit * limit) part (drop (reader_units * limit) w) (omega (arith, long))
-                        ∙ ap (λ x. x ++ drop (reader_units * limit) w) P.cells_at.is
-                        ∙ append_assoc (line_cells p.line) P.after (drop (reader_units * limit) w);
-                  };
-            }) (h.read st t k short large noted);
+            Results.result_map (λ p P. in_front s part (drop (reader_units * limit) w) (omega arith) p l P) (h.read st t k short large noted);
       }

@@ -22,14 +22,15 @@ use Rattle.symbols.proofs.SymbolLaws.{part}
 use Rattle.symbols.proofs.WordLaws.{word_ahead_lem, past_word_lem}
 use Rattle.cells.specs.declared.scope.Scope.{Scope}
 use Rattle.meanings.proofs.BindingLaws.{no_names}
-use Rattle.expressions.specs.declared.parts.Reading.{Reading}
 use Rattle.expressions.specs.Walk as Walk
-use Rattle.expressions.specs.Walk.{ReadTo, passed, Faulted, whole, faulty, CellPut}
+use Rattle.expressions.specs.Walk.{Walked, ReadTo, passed, Faulted, whole, faulty, CellPut}
 use Rattle.expressions.specs.Posts.{expression_in, go_on, Ready, ExpressionRead}
 use Rattle.expressions.proofs.StoreLaws.{below_same, below_put, put_next}
 use Rattle.expressions.proofs.LaidLaws.{nothing_laid, laid_cell}
 use Rattle.expressions.proofs.ReadLaws.{then_give, read_is}
-use Rattle.reader.specs.Posts.{MiddleKind, middle_number, kind_levels, Lookup, WrittenMiddle, WrittenCategory, MiddleRead, CategoryRead}
+use Rattle.reader.specs.declared.body.LineKind.{LineKind}
+use Rattle.reader.specs.declared.body.LineKind.TheVariants.{Variable, Primitive, Abbreviation}
+use Rattle.reader.specs.Posts.{number_of, MiddleKind, middle_number, kind_levels, Lookup, WrittenMiddle, WrittenCategory, MiddleRead, CategoryRead}
 use Rattle.reader.proofs.EndingLaws.{ending_type, ending_other}
 
 -- ---- words
@@ -68,13 +69,18 @@ module _ {ks s : Bytes} {at start end : ℕ} (b : at ≤ length s) (p : PastSpac
             is_meaning = λ t z. (word_test word_eb e t ∙ f, word_test word_pn g t ∙ h);
           }
 
+pub word_kind : (k : LineKind) → ((k ≡ Abbreviation) → ⊥) → number_of k < 2
+word_kind Variable n = omega arith
+word_kind Primitive n = omega arith
+word_kind Abbreviation n = absurd (n refl)
+
 -- ---- outside every binding
 
 -- the scope has no entry
 abbrev pub NoEntry : Scope → Type 0
 NoEntry scope = (scope.bound ≡ 0) × (scope.depth ≡ 0) × (scope.starts ≡ replicate nesting 0) × (scope.lens ≡ replicate nesting 0)
 
-module _ {ks s book tb : List ℕ} {lines indicator : ℕ} {scope : Scope} {w w' : List ℕ} {r r' : Reading}
+module _ {ks s book tb : List ℕ} {lines indicator : ℕ} {scope : Scope} {w w' : List ℕ} {r r' : Walked}
     (n : NoEntry scope)
     (E : ExpressionRead (expression_in scope) ks s scope book tb lines indicator w w' r r') where
   pub outer_read : (st : State) → Lookup st ks s book tb lines indicator w r.to
@@ -164,7 +170,7 @@ module _ {ks s book tb : List ℕ} {lines indicator : ℕ} {w : List ℕ} {at to
           read_is (middle_pn (drop at s) f g) (passed refl (sym (past_word_lem p q k.table b)) (sym e, primitive_written st indicator w to))
       by_kind st k m (suc (suc n)) e = absurd (omega arith)
 
-  pub middle_expression : {scope : Scope} {w' : List ℕ} {r' : Reading} → 2 ≤ kind → NoEntry scope
+  pub middle_expression : {scope : Scope} {w' : List ℕ} {r' : Walked} → 2 ≤ kind → NoEntry scope
       → ExpressionRead (expression_in scope) ks s scope book tb lines indicator w w' (go_on at to 0) r' → MiddleRead ks s book tb lines indicator w w' at to kind r'
   unfolding middle_number
   middle_expression l n E =
@@ -187,7 +193,7 @@ unfolding cells levels resolve
 type_written st indicator {w' = w'} {next = next} put =
     record { kept = λ n. refl; names = λ z. whole z (laid_cell put (below_same next w') (omega arith) (nothing_laid {d = nesting - 1})) }
 
-module _ {ks s book tb : List ℕ} {lines indicator : ℕ} {w w' : List ℕ} {r : Reading} (small : r.to ≤ length w + 1) (b : r.at ≤ length s)
+module _ {ks s book tb : List ℕ} {lines indicator : ℕ} {w w' : List ℕ} {r : Walked} (small : r.to ≤ length w + 1) (b : r.at ≤ length s)
     {start end : ℕ} (p : PastSpaces s r.at start) (q : WordEnd ks s start end) {t : Bool} (e : t ≡ same_bytes (take (end - start) (drop start s)) word_type) where
   pub category_type : {next : ℕ} → t ≡ true → CellPut w w' r.to 0 next → CategoryRead ks s book tb lines indicator w w' r (go_on end next r.fault)
   category_type f put =
@@ -199,7 +205,7 @@ module _ {ks s book tb : List ℕ} {lines indicator : ℕ} {w w' : List ℕ} {r 
             (passed refl (sym (past_word_lem p q k.table b)) (type_written st indicator put));
       }
 
-  pub category_expression : {scope : Scope} {r' : Reading} → t ≡ false → NoEntry scope
+  pub category_expression : {scope : Scope} {r' : Walked} → t ≡ false → NoEntry scope
       → ExpressionRead (expression_in scope) ks s scope book tb lines indicator w w' (go_on r.at r.to r.fault) r' → CategoryRead ks s book tb lines indicator w w' r r'
   category_expression f n E =
       record {

@@ -1,4 +1,6 @@
 -- One step of reading a line, and what it takes: the indicator, the identifier, kinds and contexts.
+use Rattle.std.specs.Prelude.{Option, Some, None, IfSome, is_some, not}
+use Rattle.std.specs.Option.{unwrap_or}
 use mathlib.Core.Path.{◌≡◌, refl, sym, ap, ◌∙◌, subst}
 use mathlib.Core.Logic.{◌≢◌, ◌⊎◌, inl, inr}
 use mathlib.Core.Bool.{Bool, true, false}
@@ -29,7 +31,7 @@ use Rattle.names.proofs.FindLaws.{line_at}
 use Rattle.notes.specs.Note.{StateNoted}
 use Rattle.paragraphs.specs.Posts.{TakenTold}
 use Rattle.expressions.specs.Walk.{ReadTo, passed, refused, Laid, Faulted, whole, faulty}
-use Rattle.reader.specs.Posts.{middle_number, IndicatorFound, is_line, no_line}
+use Rattle.reader.specs.Posts.{place_in, middle_number, IndicatorFound, is_line, no_line}
 
 -- ---- one step, and what comes after it
 
@@ -119,6 +121,21 @@ pub indicator_within : {lines found indicator : ℕ} {fi : Answer (Unit {0}) ℕ
     → (line_limit ≤ found → indicator ≡ 0) × (found < line_limit → indicator ≡ found) → indicator ≤ lines
 indicator_within (is_line e l) n h = omega (arith, h.1 (omega arith))
 indicator_within (no_line e) n h = omega (arith, h.0 (omega arith))
+
+-- the line of an indicator, 0 where it is none
+pub known_place : (o : Option ℕ) → IfSome o (λ v. v < line_limit) → {i : ℕ} → i ≡ unwrap_or o 0 → (line_limit ≤ place_in o → i ≡ 0) × (place_in o < line_limit → i ≡ place_in o)
+known_place (Some v) l e = (λ m. absurd (omega arith), λ m. e)
+known_place None l e = (λ m. e, λ m. absurd (omega arith))
+
+pub place_none : (o : Option ℕ) (t : Bool) → is_some o ≡ not t → t ≡ true → line_limit ≤ place_in o
+place_none (Some v) true e f = absurd (cc)
+place_none (Some v) false e f = absurd (cc)
+place_none None t e f = omega arith
+
+pub place_some : (o : Option ℕ) (t : Bool) → is_some o ≡ not t → t ≡ false → IfSome o (λ v. v < line_limit) → place_in o < line_limit
+place_some (Some v) t e f l = l
+place_some None true e f l = absurd (cc)
+place_some None false e f l = absurd (cc)
 
 pub zero_or_not : (n : ℕ) → (n ≡ 0) ⊎ (n ≢ 0)
 zero_or_not zero = inl refl

@@ -1,5 +1,5 @@
 -- What the functions that read a line leave.
-use Rattle.std.specs.Prelude.{◌≡◌, true, false, List, [], ℕ, ◌+◌, ◌*◌, ◌/◌, ◌≤◌, ◌<◌, length, drop, take}
+use Rattle.std.specs.Prelude.{◌≡◌, true, false, List, [], ℕ, ◌+◌, ◌*◌, ◌/◌, ◌≤◌, ◌<◌, length, drop, take, Ok, Err, Result as Tried, Some, None, Option as Maybe}
 use Rattle.std.proofs.Math.Option.{Option}
 use Rattle.std.proofs.Math.Seq.{slice}
 use Rattle.aut68.specs.Language.{aut68}
@@ -10,11 +10,14 @@ use Rattle.aut68.specs.Expr.{cells, levels}
 use Rattle.aut68.specs.Paragraphs.{State}
 use Rattle.aut68.specs.Lines.{Kind, kind_cells, kind_number, line_cells}
 use Rattle.aut68.specs.Lines as Lines
-use Rattle.aut68.specs.Procedure.Answer.{Answer, unknown_name}
+use Rattle.aut68.specs.Procedure.Answer.{Answer, unknown_name, code_of}
 use Rattle.aut68.specs.Procedure.Parse.{Placed, a_middle, an_expression, word_ahead}
 use Rattle.aut68.specs.Procedure.Resolve.{found, refused, resolve, resolve_middle, context_at}
 use Rattle.aut68.specs.Procedure.CheckLine.{Passed, read_line}
 use Rattle.aut68.specs.Sizes.{line_limit, smallest_limit, nesting}
+use Rattle.constants.specs.declared.codes.Reason.{Reason}
+use Rattle.constants.specs.Reasons.{refusal_of}
+use Rattle.constants.specs.Refusals.{code_in}
 use Rattle.cells.specs.Cells.{At, Outside}
 use Rattle.cells.specs.Results.{Result}
 use Rattle.cells.specs.Layout.{context_unit, line_unit, reader_units}
@@ -23,11 +26,19 @@ use Rattle.headings.specs.ReadLine.{after_heading}
 use Rattle.names.specs.Known.{Known}
 use Rattle.notes.specs.Note.{note_end, StateNoted}
 use Rattle.meanings.specs.NotedContext.{ContextNoted}
-use Rattle.expressions.specs.declared.parts.Reading.{Reading}
 use Rattle.expressions.specs.Walk as Walk
-use Rattle.expressions.specs.Walk.{ReadTo, SameBelow}
+use Rattle.expressions.specs.Walk.{Walked, fault_in, ReadTo, SameBelow}
 use Rattle.expressions.specs.Posts.{Onward}
+use Rattle.reader.specs.declared.body.BodyCells.{BodyCells}
+use Rattle.reader.specs.declared.body.LineKind.{LineKind}
+use Rattle.reader.specs.declared.body.LineKind.TheVariants.{Variable, Primitive, Abbreviation}
 use Rattle.reader.specs.declared.lines.Line.{Line}
+
+-- a line's kind in the table
+abbrev pub number_of : LineKind → ℕ
+number_of Variable = 0
+number_of Primitive = 1
+number_of Abbreviation = 2
 
 -- a middle's kind, by the word that stands next: 0 `EB`, 1 `PN`, else 2
 pub record MiddleKind (ks s : Bytes) (at kind : ℕ) : Type 0 where
@@ -68,7 +79,7 @@ module _ (st : State) (indicator : ℕ) (w w' : List ℕ) (to end fault fault' :
   WrittenCategory = Walk.Written cells levels (resolve st (context_at st.earlier indicator) []) w w' to end nesting fault fault'
 
 -- a middle of this kind was read from `at` on, its cells from `to` on
-pub record MiddleRead (ks s book tb : List ℕ) (lines indicator : ℕ) (w w' : List ℕ) (at to kind : ℕ) (r' : Reading) : Type 0 where
+pub record MiddleRead (ks s book tb : List ℕ) (lines indicator : ℕ) (w w' : List ℕ) (at to kind : ℕ) (r' : Walked) : Type 0 where
   pub below : SameBelow to w w'
   pub up : to ≤ r'.to
   pub from : at ≤ r'.at
@@ -78,7 +89,7 @@ pub record MiddleRead (ks s book tb : List ℕ) (lines indicator : ℕ) (w w' : 
       → ReadTo s (λ m. (middle_number m ≡ kind) × WrittenMiddle st indicator w w' to r'.to 0 r'.fault m) r'.code r'.at (a_middle aut68 (drop at s))
 
 -- a written category was read from r on
-pub record CategoryRead (ks s book tb : List ℕ) (lines indicator : ℕ) (w w' : List ℕ) (r r' : Reading) : Type 0 where
+pub record CategoryRead (ks s book tb : List ℕ) (lines indicator : ℕ) (w w' : List ℕ) (r r' : Walked) : Type 0 where
   pub onward : Onward s w w' r r'
   pub read : (st : State) → Lookup st ks s book tb lines indicator w r.to
       → ReadTo s (WrittenCategory st indicator w w' r.to r'.to r.fault r'.fault) r'.code r'.at (an_expression aut68 nesting ending (drop r.at s))
@@ -96,12 +107,22 @@ pub record LineWritten (st : State) (indicator : ℕ) (w w' : List ℕ) (to kind
   pub long : length between ≡ length w
   pub category_written : WrittenCategory st indicator between w' middle end fault_between fault p.line.category
 
+-- what was read of a line from byte `at` on, its cells from `to` on, in numbers: the middle's cells end at the count
+abbrev pub body_in : Bytes → ℕ → ℕ → Tried BodyCells Reason → Walked
+body_in s at to (Ok b) = record { code = 0; at = length s; to = b.category; fault = fault_in b.fault; count = b.middle }
+body_in s at to (Err e) = record { code = code_of (refusal_of e); at = at; to = to; fault = 0; count = 0 }
+
 -- `middle:category` and byte 10 were read from `at` on, their cells from `to` on; the middle's end at r'.count
-pub record BodyRead (ks s book tb : List ℕ) (lines indicator : ℕ) (w w' : List ℕ) (at to kind : ℕ) (r' : Reading) : Type 0 where
+pub record BodyRead (ks s book tb : List ℕ) (lines indicator : ℕ) (w w' : List ℕ) (at to kind : ℕ) (r' : Walked) : Type 0 where
   pub below : SameBelow to w w'
   pub upward : r'.code ≡ 0 → (to ≤ r'.count) × (r'.count ≤ r'.to)
   pub read : (st : State) → Lookup st ks s book tb lines indicator w to → MiddleKind ks s at kind → (i : Option Used) (before : ℕ) (name : Bytes)
       → ReadTo s (LineWritten st indicator w w' to kind r'.count r'.to r'.fault before i name) r'.code r'.at (after_heading aut68 i before name (drop at s))
+
+-- the line of an indicator; `line_limit` where it is no `EB` line
+abbrev pub place_in : Maybe ℕ → ℕ
+place_in (Some v) = v
+place_in None = line_limit
 
 -- r is the indicator's line, 0 if empty; `line_limit` where it is no `EB` line
 pub data IndicatorFound (lines r : ℕ) : Answer (Unit {0}) ℕ → Type 0 where
@@ -116,24 +137,29 @@ pub record LineRead (s : Bytes) (w' : List ℕ) (to : ℕ) (l : Line) (p : Passe
   pub identifier_is : slice l.first (l.first + l.len) s ≡ p.line.identifier
   pub indicator_is : l.indicator ≡ p.line.indicator
   pub context_is : l.context ≡ length p.line.context
-  pub kind_is : l.kind ≡ kind_number p.line.kind
+  pub kind_is : number_of l.kind ≡ kind_number p.line.kind
   pub middle_is : l.middle ≡ length (kind_cells p.line.kind)
   pub size_is : l.size ≡ length (line_cells p.line)
   pub paragraph_is : l.paragraph ≡ p.line.paragraph
   pub after : List ℕ
   pub cells_at : At w' to (line_cells p.line) after
 
+-- the same where the line was read
+abbrev pub ReadAs : Bytes → List ℕ → ℕ → Tried Line Reason → Passed → Type 0
+ReadAs s w' to (Ok l) p = LineRead s w' to l p
+ReadAs s w' to (Err r) p = Unit {0}
+
 -- the same for a store of the reader's units: what is noted of the state, which stays as it was, then the line's context and its cells
-pub record LineReadInto (ks s book tb : List ℕ) (lines limit : ℕ) (w w' : List ℕ) (l : Line) : Type 0 where
+pub record LineReadInto (ks s book tb : List ℕ) (lines limit : ℕ) (w w' : List ℕ) (l : Tried Line Reason) : Type 0 where
   pub below : SameBelow (context_unit * limit) w w'
   pub read : (st : State) → KindsTable ks → Known st.earlier book tb lines → length s < 4294967296 → smallest_limit ≤ limit → StateNoted st book tb lines w
-      → Result (LineRead s w' (line_unit * limit) l) l.code tt (read_line aut68 st limit s tt)
+      → Result (ReadAs s w' (line_unit * limit) l) (code_in l) tt (read_line aut68 st limit s tt)
 
--- Only the units of the context and of the cells are written. With them there, the code is 0 where the line passes, and else that of its first refusal;
--- without them it is 10.
-pub record LineReadTo (ks s book tb : List ℕ) (lines limit : ℕ) (w w' : List ℕ) (l : Line) : Type 0 where
+-- Only the units of the context and of the cells are written. With them there, the line is read where it passes, and else its first refusal is given;
+-- without them it is too large.
+pub record LineReadTo (ks s book tb : List ℕ) (lines limit : ℕ) (w w' : List ℕ) (l : Tried Line Reason) : Type 0 where
   pub outside : Outside (context_unit * limit) (reader_units * limit) w w'
-  pub no_room : length w < reader_units * limit → (w' ≡ w) × (l.code ≡ 10)
+  pub no_room : length w < reader_units * limit → (w' ≡ w) × (code_in l ≡ 10)
   pub read : (st : State) → KindsTable ks → Known st.earlier book tb lines → length s < 4294967296 → smallest_limit ≤ limit → reader_units * limit ≤ length w
       → StateNoted st book tb lines (take (reader_units * limit) w)
-      → Result (LineRead s w' (line_unit * limit) l) l.code tt (read_line aut68 st limit s tt)
+      → Result (ReadAs s w' (line_unit * limit) l) (code_in l) tt (read_line aut68 st limit s tt)

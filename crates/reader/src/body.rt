@@ -1,28 +1,52 @@
 // `middle:category` and byte 10.
-ghost use Rattle.std.specs.Prelude.{◌+◌, ◌≤◌, length};
-ghost use Rattle.reader.specs.Posts.{MiddleKind, MiddleRead, CategoryRead, BodyRead};
+ghost use Rattle.std.specs.Prelude.{◌≡◌, ◌+◌, ◌≤◌, length};
+ghost use Rattle.expressions.specs.Walk.{fault_in, walked};
+ghost use Rattle.expressions.specs.Posts.{go_on};
+ghost use Rattle.reader.specs.Posts.{number_of, body_in, MiddleKind, MiddleRead, CategoryRead, BodyRead};
 
-use constants::Cell;
-use expressions::{Reading, expression, put, refused};
-use symbols::{same_word, spaces, symbol, word_end};
+use constants::{Cell, Reason};
+use expressions::{Reading, expression, put};
+use symbols::{spaces, symbol, word_end};
 
-// The middle's kind by the word that stands next (a_middle): 0 EB, 1 PN, else 2.
-pub fn middle_kind(line: &[u8], kinds: &[u8; 256], at: usize) -> u32
+// The kind of a line, by its middle: EB, PN, or an expression.
+#[derive(Clone, Copy)]
+pub enum LineKind {
+    Variable,
+    Primitive,
+    Abbreviation,
+}
+
+// Its number in the table.
+impl From<LineKind> for usize {
+    ghost from_gives = { λ kind n. n ≡ number_of kind };
+
+    fn from(kind: LineKind) -> usize {
+        match kind {
+            LineKind::Variable => 0,
+            LineKind::Primitive => 1,
+            LineKind::Abbreviation => 2,
+        }
+    }
+}
+
+// The middle's kind by the word that stands next (a_middle).
+pub fn middle_kind(line: &[u8], kinds: &[u8; 256], at: usize) -> LineKind
     requires { at ≤ length line.now }
-    ensures { MiddleKind kinds.now line.now at result }
+    ensures { MiddleKind kinds.now line.now at (number_of result) }
 {
     let start = spaces(line, at);
     let end = word_end(line, kinds, start);
-    if same_word(&line[start..end], b"EB") {
-        return 0;
+    let word = &line[start..end];
+    if word == b"EB".as_slice() {
+        return LineKind::Variable;
     }
-    if same_word(&line[start..end], b"PN") {
-        return 1;
+    if word == b"PN".as_slice() {
+        return LineKind::Primitive;
     }
-    2
+    LineKind::Abbreviation
 }
 
-// The middle (a_middle), its cells from index `to` on. kind 0 or 1: past the word, no cells.
+// The middle (a_middle), its cells from index `to` on. EB or PN: past the word, no cells.
 fn middle(
     line: &[u8],
     kinds: &[u8; 256],
@@ -33,29 +57,28 @@ fn middle(
     w: &mut [Cell],
     at: usize,
     to: usize,
-    kind: u32,
-) -> Reading
+    kind: LineKind,
+) -> Result<Reading, Reason>
     requires { (at ≤ length line.now) × (to ≤ length w.old) }
-    ensures { MiddleRead kinds.now line.now book.now table.now lines indicator w.old w.new at to kind result }
+    ensures { MiddleRead kinds.now line.now book.now table.now lines indicator w.old w.new at to (number_of kind) (walked at to result) }
 {
-    if kind < 2 {
-        let start = spaces(line, at);
-        let end = word_end(line, kinds, start);
-        return Reading {
-            code: 0,
-            at: end,
-            to: to,
-            fault: 0,
-            count: 0,
-        };
+    if let LineKind::Abbreviation = kind {
+        let scope = cells::no_bindings();
+        return expression(
+            line, kinds, book, table, lines, indicator, w, at, to, None, scope,
+        );
     }
-    let scope = cells::no_bindings();
-    expression(
-        line, kinds, book, table, lines, indicator, w, at, to, 0, scope,
-    )
+    let start = spaces(line, at);
+    let end = word_end(line, kinds, start);
+    Ok(Reading {
+        at: end,
+        to,
+        fault: None,
+        count: 0,
+    })
 }
 
-// The written category (an_expression at its end), its cells from r.to on.
+// The written category (an_expression at its end) from byte `from` on, its cells from index `to` on, with the first fault so far.
 fn category(
     line: &[u8],
     kinds: &[u8; 256],
@@ -64,31 +87,40 @@ fn category(
     lines: usize,
     indicator: usize,
     w: &mut [Cell],
-    r: Reading,
-) -> Reading
-    requires { (r.to ≤ length w.old + 1) × (r.at ≤ length line.now) }
-    ensures { CategoryRead kinds.now line.now book.now table.now lines indicator w.old w.new r result }
+    from: usize,
+    to: usize,
+    fault: Option<Reason>,
+) -> Result<Reading, Reason>
+    requires { (to ≤ length w.old + 1) × (from ≤ length line.now) }
+    ensures { CategoryRead kinds.now line.now book.now table.now lines indicator w.old w.new (go_on from to (fault_in fault)) (walked from to result) }
 {
-    let start = spaces(line, r.at);
+    let start = spaces(line, from);
     let end = word_end(line, kinds, start);
-    if same_word(&line[start..end], b"type") {
-        let to = put(w, r.to, 0);
-        return Reading {
-            code: 0,
+    if &line[start..end] == b"type".as_slice() {
+        let next = put(w, to, 0);
+        return Ok(Reading {
             at: end,
-            to: to,
-            fault: r.fault,
+            to: next,
+            fault,
             count: 0,
-        };
+        });
     }
     let scope = cells::no_bindings();
     expression(
-        line, kinds, book, table, lines, indicator, w, r.at, r.to, r.fault, scope,
+        line, kinds, book, table, lines, indicator, w, from, to, fault, scope,
     )
 }
 
-// Middle and category: `middle:category` and byte 10, the line's last, from `at` on. The middle's cells from `to` on, the
-// category's behind them from `count` on.
+// What was read of middle and category: the cells behind those of each, and the first fault of a name.
+#[derive(Clone, Copy)]
+pub struct BodyCells {
+    pub middle: usize,
+    pub category: usize,
+    pub fault: Option<Reason>,
+}
+
+// Middle and category: `middle:category` and byte 10, the line's last, from `at` on. The middle's cells from `to` on, the category's
+// behind them.
 pub fn body(
     line: &[u8],
     kinds: &[u8; 256],
@@ -99,39 +131,27 @@ pub fn body(
     w: &mut [Cell],
     at: usize,
     to: usize,
-    kind: u32,
-) -> Reading
+    kind: LineKind,
+) -> Result<BodyCells, Reason>
     requires { (at ≤ length line.now) × (to ≤ length w.old) }
-    ensures { BodyRead kinds.now line.now book.now table.now lines indicator w.old w.new at to kind result }
+    ensures { BodyRead kinds.now line.now book.now table.now lines indicator w.old w.new at to (number_of kind) (body_in line.now at to result) }
 {
-    let m = middle(line, kinds, book, table, lines, indicator, w, at, to, kind);
-    if m.code != 0 {
-        return m;
-    }
-    let colon = symbol(line, kinds, m.at, kinds::COLON);
-    if colon > line.len() {
-        return refused(constants::MALFORMED, m.at, m.to);
-    }
-    let here = Reading {
-        code: 0,
-        at: colon,
-        to: m.to,
-        fault: m.fault,
-        count: 0,
+    let m = middle(line, kinds, book, table, lines, indicator, w, at, to, kind)?;
+    let Some(colon) = symbol(line, kinds, m.at, kinds::COLON) else {
+        return Err(Reason::Malformed);
     };
-    let c = category(line, kinds, book, table, lines, indicator, w, here);
-    if c.code != 0 {
-        return c;
-    }
-    let next = symbol(line, kinds, c.at, kinds::NEWLINE);
+    let c = category(
+        line, kinds, book, table, lines, indicator, w, colon, m.to, m.fault,
+    )?;
+    let Some(next) = symbol(line, kinds, c.at, kinds::NEWLINE) else {
+        return Err(Reason::Malformed);
+    };
     if next != line.len() {
-        return refused(constants::MALFORMED, c.at, c.to);
+        return Err(Reason::Malformed);
     }
-    Reading {
-        code: 0,
-        at: next,
-        to: c.to,
+    Ok(BodyCells {
+        middle: m.to,
+        category: c.to,
         fault: c.fault,
-        count: m.to,
-    }
+    })
 }

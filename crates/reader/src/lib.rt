@@ -4,4 +4,5 @@
 mod body;
 mod lines;
 
+pub use body::LineKind;
 pub use lines::{Line, read_line};

@@ -1,24 +1,26 @@
 // A whole line: form, indicator, identifier, names, sizes, in that order of refusals.
-ghost use Rattle.std.specs.Prelude.{◌≡◌, ◌+◌, ◌*◌, ◌≤◌, ◌<◌, length};
+ghost use Rattle.std.specs.Prelude.{◌≡◌, ◌+◌, ◌*◌, ◌≤◌, ◌<◌, length, IfSome};
 ghost use Rattle.aut68.specs.Sizes.{line_limit, at_context};
 ghost use Rattle.aut68.specs.Lines.{row_cell};
 ghost use Rattle.aut68.specs.Paragraphs.{State};
 ghost use Rattle.aut68.specs.Procedure.Resolve.{indicator_line};
 ghost use Rattle.cells.specs.Layout.{reader_units};
-ghost use Rattle.headings.specs.ReadLine.{used_or};
+ghost use Rattle.headings.specs.ReadLine.{indicator_in, IndicatorInside};
 ghost use Rattle.kinds.specs.Kinds.{KindsTable};
 ghost use Rattle.names.specs.Known.{Known};
 ghost use Rattle.notes.specs.Note.{StateNoted};
-ghost use Rattle.reader.specs.Posts.{IndicatorFound, LineReadInto, LineReadTo};
+ghost use Rattle.reader.specs.Posts.{place_in, IndicatorFound, LineReadInto, LineReadTo};
 
-use crate::body::{body, middle_kind};
-use cells::{LINE_UNIT, READER_UNITS};
-use constants::{CONTEXT_LENGTH, Cell, KIND, LINE_LIMIT};
-use headings::{Head, heading};
+use crate::body::{LineKind, body, middle_kind};
+use cells::{LINE_UNIT, READER_UNITS, field};
+use constants::{CONTEXT_LENGTH, Cell, KIND, LINE_LIMIT, Reason};
+use expressions::{title, word};
+use headings::heading;
 use meanings::note_context;
 use paragraphs::{current, find_used, is_taken};
+use symbols::UsedName;
 
-// The indicator's line (indicator_line): 0 if empty, LINE_LIMIT where it is no EB line.
+// The indicator's line (indicator_line): 0 if empty; None where it is no EB line.
 fn indicator_line(
     line: &[u8],
     kinds: &[u8; 256],
@@ -26,68 +28,46 @@ fn indicator_line(
     table: &[u32],
     lines: usize,
     w: &[Cell],
-    h: Head,
-) -> usize
-    requires { (h.start + h.len ≤ length line.now) × (h.title + h.span ≤ length line.now) }
-    ensures { (st : State) → KindsTable kinds.now → Known st.earlier book.now table.now lines → StateNoted st book.now table.now lines w.now
-        → IndicatorFound lines result (indicator_line st (used_or line.now h.title h.span h.start h.len) tt) }
+    indicator: Option<UsedName>,
+) -> Option<usize>
+    requires { IndicatorInside line.now indicator }
+    ensures small { IfSome result (λ v. v < line_limit) }
+    ensures found { (st : State) → KindsTable kinds.now → Known st.earlier book.now table.now lines → StateNoted st book.now table.now lines w.now
+        → IndicatorFound lines (place_in result) (indicator_line st (indicator_in line.now indicator) tt) }
 {
-    if h.len == 0 {
-        return 0;
-    }
-    let title = h.title;
-    let point = title + h.span;
-    let start = h.start;
-    let end = start + h.len;
+    let Some(u) = indicator else {
+        return Some(0);
+    };
     let v = find_used(
         book,
         kinds,
         table,
         lines,
         w,
-        &line[title..point],
-        &line[start..end],
-    );
-    if v == 0 {
-        return LINE_LIMIT;
+        title(line, u),
+        word(line, u.name),
+    )?;
+    if v >= LINE_LIMIT {
+        return None;
     }
-    let kind = cells::field(table, v, KIND);
-    if kind != 0 {
-        return LINE_LIMIT;
+    if field(table, v, KIND) != 0 {
+        return None;
     }
-    v
+    Some(v)
 }
 
-// A line that was read. code: 0, or its first refusal. first, len: its identifier in the line. indicator: its indicator's line
-// (0 if empty). context: its context length. kind: 0 EB, 1 PN, 2 abbreviation. middle: cells of the middle. size: cells of
-// middle and category. paragraph: the number of its paragraph.
+// A line that was read. first, len: its identifier in the line. indicator: its indicator's line (0 if empty). context: its context
+// length. middle: cells of the middle. size: cells of middle and category. paragraph: the number of its paragraph.
 #[derive(Clone, Copy)]
 pub struct Line {
-    pub code: u32,
     pub first: usize,
     pub len: usize,
     pub indicator: usize,
     pub context: usize,
-    pub kind: u32,
+    pub kind: LineKind,
     pub middle: usize,
     pub size: usize,
     pub paragraph: usize,
-}
-
-fn bad_line(code: u32) -> Line
-    ensures { result.code ≡ code }
-{
-    Line {
-        code: code,
-        first: 0,
-        len: 0,
-        indicator: 0,
-        context: 0,
-        kind: 0,
-        middle: 0,
-        size: 0,
-        paragraph: 0,
-    }
 }
 
 // The line: form, indicator, identifier, names, sizes, in that order of refusals (read_line). Of the units of w, the last two
@@ -100,60 +80,49 @@ fn read_into(
     lines: usize,
     w: &mut [Cell],
     limit: usize,
-) -> Line
+) -> Result<Line, Reason>
     requires { length w.old ≡ reader_units * limit }
     ensures { LineReadInto kinds.now line.now book.now table.now lines limit w.old w.new result }
 {
     let to = LINE_UNIT * limit;
-    let h = heading(line, kinds);
-    if h.code != 0 {
-        return bad_line(h.code);
-    }
-    let at = h.at;
-    let first = h.first;
-    let size = h.size;
-    let found = indicator_line(line, kinds, book, table, lines, w, h);
-    let indicator = known_line(found);
+    let Some(h) = heading(line, kinds) else {
+        return Err(Reason::Malformed);
+    };
+    let found = indicator_line(line, kinds, book, table, lines, w, h.indicator);
+    let indicator = found.unwrap_or(0);
     note_context(table, w, indicator);
-    let kind = middle_kind(line, kinds, at);
-    let b = body(line, kinds, book, table, lines, indicator, w, at, to, kind);
-    if b.code != 0 {
-        return bad_line(b.code);
+    let kind = middle_kind(line, kinds, h.at);
+    let b = body(
+        line, kinds, book, table, lines, indicator, w, h.at, to, kind,
+    )?;
+    if found.is_none() {
+        return Err(Reason::UnknownName);
     }
-    if found >= LINE_LIMIT {
-        return bad_line(constants::UNKNOWN_NAME);
+    if is_taken(book, kinds, table, lines, w, word(line, h.identifier)) {
+        return Err(Reason::Duplicate);
     }
-    let end = first + size;
-    if is_taken(book, kinds, table, lines, w, &line[first..end]) {
-        return bad_line(constants::DUPLICATE);
+    if let Some(reason) = b.fault {
+        return Err(reason);
     }
-    if b.fault != 0 {
-        return bad_line(b.fault);
+    let middle = b.middle - to;
+    let size = b.category - to;
+    if middle > limit || size - middle > limit {
+        return Err(Reason::TooLarge);
     }
-    let cells = b.count - to;
-    let all = b.to - to;
-    if cells > limit {
-        return bad_line(constants::TOO_LARGE);
-    }
-    if all - cells > limit {
-        return bad_line(constants::TOO_LARGE);
-    }
-    let context = context_length(table, indicator);
-    Line {
-        code: 0,
-        first: first,
-        len: size,
-        indicator: indicator,
-        context: context,
-        kind: kind,
-        middle: cells,
-        size: all,
+    Ok(Line {
+        first: h.identifier.start,
+        len: h.identifier.len,
+        indicator,
+        context: context_length(table, indicator),
+        kind,
+        middle,
+        size,
         paragraph: current(w),
-    }
+    })
 }
 
 // The line, with the cells of middle and category from LINE_UNIT of w on, its context in the unit before, and what is noted of
-// the state below. Writes these three units alone; where w does not have them, nothing, and the answer is 10.
+// the state below. Writes these three units alone; where w does not have them, nothing, and the line is too large.
 pub fn read_line(
     line: &[u8],
     kinds: &[u8; 256],
@@ -162,24 +131,14 @@ pub fn read_line(
     lines: usize,
     w: &mut [Cell],
     limit: usize,
-) -> Line
+) -> Result<Line, Reason>
     ensures { LineReadTo kinds.now line.now book.now table.now lines limit w.old w.new result }
 {
     if limit > w.len() / READER_UNITS {
-        return bad_line(constants::TOO_LARGE);
+        return Err(Reason::TooLarge);
     }
     let n = READER_UNITS * limit;
     read_into(line, kinds, book, table, lines, &mut w[..n], limit)
-}
-
-// The line's number; 0 where it is none.
-fn known_line(v: usize) -> usize
-    ensures { (line_limit ≤ v → result ≡ 0) × (v < line_limit → result ≡ v) }
-{
-    if v >= LINE_LIMIT {
-        return 0;
-    }
-    v
 }
 
 // The length of the context that ends with line v; 0 where v is 0.
@@ -189,5 +148,5 @@ fn context_length(table: &[u32], v: usize) -> usize
     if v == 0 {
         return 0;
     }
-    cells::field(table, v, CONTEXT_LENGTH) + 1
+    field(table, v, CONTEXT_LENGTH) + 1
 }

@@ -1,30 +1,42 @@
 use native.Mathlib.Omega.{arith}
-use Rattle.reader.proofs.BodyLaws.{body_middle_refused, body_no_colon, body_category_refused, body_not_ended, body_read}
+use mathlib.Core.Path.{refl}
+use Rattle.std.proofs.lemmas.Result.{err_from_is_err_and}
+use Rattle.lookup.specs.Answers.{code_nonzero}
+use Rattle.expressions.proofs.ExpressionLaws.{code_malformed}
+use Rattle.reader.proofs.BodyLaws.{body_here, body_middle_refused, body_no_colon, body_category_refused, body_not_ended, body_read}
 use Rattle.reader.proofs.body.body.Goals as goal
 
-pub returns-then-m-ne0 : goal.returns-then-m-ne0
-returns-then-m-ne0 c = body_middle_refused c.middle-m.ensures c.if-m-ne0.true
+pub returns-in_err-m : goal.returns-in_err-m
+returns-in_err-m c =
+    let p = err_from_is_err_and c.from_residual.result c.from_residual.ensures.1 in
+    rw (p.1, p.2) (body_here _ (body_middle_refused c.in_err-m.ensures (code_nonzero _)) refl)
 
-pub returns-then-colon-line : goal.returns-then-colon-line
-returns-then-colon-line c =
-    body_no_colon c.middle-m.ensures c.if-m-ne0.false c.symbol-colon.ensures c.if-colon-line.true
-    c.refused.ensures
+pub returns-in_default : goal.returns-in_default
+returns-in_default c =
+    body_no_colon c.in_ok-m.ensures refl c.in_default.ensures.past (omega arith) (record { code_is = code_malformed; at_is = refl; to_is = refl })
 
-pub category-c-requires : goal.category-c-requires
-category-c-requires c =
-    omega (arith, c.if-colon-line, c.middle-m.ensures.small, c.middle-m.ensures.below.long)
+pub category-requires : goal.category-requires
+category-requires c = omega (arith, c.in-Some.ensures.inside, c.in_ok-m.ensures.small, c.in_ok-m.ensures.below.long)
 
-pub returns-then-c-ne0 : goal.returns-then-c-ne0
-returns-then-c-ne0 c =
-    body_category_refused c.middle-m.ensures c.if-m-ne0.false c.symbol-colon.ensures c.if-colon-line.false
-    c.category-c.ensures c.if-c-ne0.true
+pub returns-in_err-c : goal.returns-in_err-c
+returns-in_err-c c =
+    let p = err_from_is_err_and c.from_residual-in_err-c.result c.from_residual-in_err-c.ensures.1 in
+    rw (p.1, p.2)
+    (body_here _
+    (body_category_refused c.in_ok-m.ensures refl c.in-Some.ensures.past c.in-Some.ensures.inside c.in_err-c.ensures (code_nonzero _))
+    refl)
+
+pub returns-in_default-symbol : goal.returns-in_default-symbol
+returns-in_default-symbol c =
+    body_not_ended c.in_ok-m.ensures refl c.in-Some.ensures.past c.in-Some.ensures.inside c.in_ok-c.ensures refl c.in_default-symbol.ensures.past
+    (λ e. omega arith) (record { code_is = code_malformed; at_is = refl; to_is = refl })
 
 pub returns-then-next-line : goal.returns-then-next-line
 returns-then-next-line c =
-    body_not_ended c.middle-m.ensures c.if-m-ne0.false c.symbol-colon.ensures c.if-colon-line.false c.category-c.ensures
-    c.if-c-ne0.false c.symbol-next.ensures c.if-next-line.true c.refused-then-next-line.ensures
+    body_not_ended c.in_ok-m.ensures refl c.in-Some.ensures.past c.in-Some.ensures.inside c.in_ok-c.ensures refl c.in-Some-symbol.ensures.past
+    c.if-next-line.true (record { code_is = code_malformed; at_is = refl; to_is = refl })
 
 pub returns : goal.returns
 returns c =
-    body_read c.middle-m.ensures c.if-m-ne0.false c.symbol-colon.ensures c.if-colon-line.false c.category-c.ensures
-    c.if-c-ne0.false c.symbol-next.ensures c.if-next-line.false
+    body_read c.in_ok-m.ensures refl c.in-Some.ensures.past c.in-Some.ensures.inside c.in_ok-c.ensures refl c.in-Some-symbol.ensures.past
+    c.if-next-line.false

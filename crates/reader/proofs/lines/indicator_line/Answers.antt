@@ -1,23 +1,33 @@
 use native.Mathlib.Omega.{arith}
-use Rattle.reader.proofs.IndicatorLaws.{indicator_empty, indicator_unknown, indicator_no_variable, indicator_found}
+use mathlib.Core.Path.{refl}
+use Rattle.reader.proofs.IndicatorLaws.{indicator_empty, indicator_unknown, indicator_too_large, indicator_no_variable, indicator_found}
 use Rattle.reader.proofs.lines.indicator_line.Goals as goal
 
-pub returns-then-h-eq0 : goal.returns-then-h-eq0
-returns-then-h-eq0 c = indicator_empty _ _ _ _ _ c.if-h-eq0.true
+pub returns-in_default-clause-found : goal.returns-in_default-clause-found
+returns-in_default-clause-found c = rw c.in_default.is indicator_empty
 
-pub returns-then-v-eq0 : goal.returns-then-v-eq0
-returns-then-v-eq0 c =
-    indicator_unknown _ _ _ _ _ c.if-h-eq0.false c.requires c.find_used-v.ensures c.if-v-eq0.true
+pub returns-in_err-v-clause-found : goal.returns-in_err-v-clause-found
+returns-in_err-v-clause-found c =
+    let i = rw c.in-Some.is at c.requires in
+    rw (c.in-Some.is, c.from_residual.ensures)
+    (indicator_unknown _ _ _ _ _ i.2 (i.0, i.1) c.title.ensures c.word.ensures c.in_err-v.ensures refl)
 
-pub field-kind-requires : goal.field-kind-requires
-field-kind-requires c = omega arith
+pub returns-then-v-ge-LINE_LIMIT-clause-found : goal.returns-then-v-ge-LINE_LIMIT-clause-found
+returns-then-v-ge-LINE_LIMIT-clause-found c =
+    let i = rw c.in-Some.is at c.requires in
+    rw c.in-Some.is
+    (indicator_too_large _ _ _ _ _ i.2 (i.0, i.1) c.title.ensures c.word.ensures c.in_ok-v.ensures.1 c.if-v-ge-LINE_LIMIT.true)
 
-pub returns-then-kind-ne0 : goal.returns-then-kind-ne0
-returns-then-kind-ne0 c =
-    indicator_no_variable _ _ _ _ _ c.if-h-eq0.false c.requires c.find_used-v.ensures c.if-v-eq0.false
-    c.field-kind.ensures.0 c.if-kind-ne0.true
+pub returns-then-field-ne0-clause-found : goal.returns-then-field-ne0-clause-found
+returns-then-field-ne0-clause-found c =
+    let i = rw c.in-Some.is at c.requires in
+    rw c.in-Some.is
+    (indicator_no_variable _ _ _ _ _ i.2 (i.0, i.1) c.title.ensures c.word.ensures c.in_ok-v.ensures.1
+    (λ z. omega (arith, c.in_ok-v.ensures.0)) c.field.ensures.0 c.if-field-ne0.true)
 
-pub returns : goal.returns
-returns c =
-    indicator_found _ _ _ _ _ c.if-h-eq0.false c.requires c.find_used-v.ensures c.if-v-eq0.false
-    c.field-kind.ensures.0 c.if-kind-ne0.false
+pub returns-clause-found : goal.returns-clause-found
+returns-clause-found c =
+    let i = rw c.in-Some.is at c.requires in
+    rw c.in-Some.is
+    (indicator_found _ _ _ _ _ i.2 (i.0, i.1) c.title.ensures c.word.ensures c.in_ok-v.ensures.1
+    (λ z. omega (arith, c.in_ok-v.ensures.0)) c.field.ensures.0 c.if-field-ne0.false)
