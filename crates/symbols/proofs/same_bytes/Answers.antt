@@ -1,7 +1,6 @@
-use mathlib.Core.Path.{◌≡◌}
+use mathlib.Core.Path.{◌≡◌, sym, ◌∙◌}
 use lib.ListN.{length}
 use borrow.Author.Tests.{eqb-true}
-use mathlib.Core.Path.{sym, ◌∙◌}
 use native.Mathlib.Omega.{arith}
 use Rattle.symbols.proofs.SameLaws.{same_start, same_four_more, same_four_stop, same_four_last, same_last, lengths_differ}
 use Rattle.symbols.proofs.same_bytes.Goals as goal
