@@ -12,7 +12,7 @@ use mathlib.Core.List.{[], ◌∷◌}
 use Rattle.aut68.specs.Bytes.{Bytes}
 use Rattle.symbols.specs.Symbols.{four_at}
 use Rattle.names.specs.Hints.{mixed, hash_of, key_at, slots, slot_at, most_slots}
-use Rattle.names.specs.HintLaws.{slots_most}
+use Rattle.names.specs.HintLaws.{slot_below, slots_most}
 
 -- the first 4 × i bytes are mixed
 pub record HashSoFar (word : Bytes) (h i : ℕ) : Type 0 where
@@ -70,3 +70,9 @@ key_is h q =
 pub slot_is : (n h q : ℕ) {k m : ℕ} → k ≡ key_at h q → m ≡ slots n → k * m / 4294967296 ≡ slot_at n h q
 unfolding slot_at
 slot_is n h q ek em = λ j. ek j * em j / 4294967296
+
+-- ---- what the checks of `hash` and `slot_at` need
+
+pub ruleset hashes = (hash_empty, hash_short, hash_start, hash_more, hash_last)
+
+pub ruleset slotted = (slot_is, product_below, slot_below, slots_most)

@@ -51,6 +51,9 @@ pub part_compared : (s word : Bytes) (start len : ℕ) → start + len ≤ lengt
     → same_bytes word (take (start + len - start) (drop start s)) ≡ same_bytes word (part_of s start len)
 part_compared s word start len l = ap (same_bytes word) (part_lent s start len l)
 
+-- what the check of `part_is` needs
+pub ruleset parts_compared = (part_length_differs, part_not_whole, part_compared)
+
 -- ---- identifiers
 
 -- no identifier: the empty part at the book's start

@@ -15,10 +15,11 @@ pub const LINK_FACTOR: usize = 65536;
 const MOST_SLOTS: usize = 131072;
 
 // The bytes of the word, mixed four at once; the last four may overlap those before.
+#[tactic(auto, using(crate::proofs::HashLaws::hashes))]
 pub fn hash(word: &[u8]) -> usize
     ensures { result ≡ hash_of word.now }
 {
-    if word.len() == 0 {
+    if word.is_empty() {
         return 0;
     }
     if word.len() < 4 {
@@ -32,6 +33,7 @@ pub fn hash(word: &[u8]) -> usize
 }
 
 // How many slots a store of n cells has.
+#[tactic(auto, using(crate::proofs::HashLaws::slots_is))]
 fn slots(n: usize) -> usize
     ensures { result ≡ slots n }
 {
@@ -39,6 +41,7 @@ fn slots(n: usize) -> usize
 }
 
 // The key of the hash h in the paragraph q.
+#[tactic(auto, using(crate::proofs::HashLaws::key_is))]
 pub fn key(h: usize, q: usize) -> usize
     ensures { (result ≡ key_at h q) × (result < 4294967296) }
 {
@@ -46,6 +49,7 @@ pub fn key(h: usize, q: usize) -> usize
 }
 
 // The slot of the hash h in the paragraph q, in a store of n cells.
+#[tactic(auto, using(crate::proofs::HashLaws::slotted))]
 fn slot_at(n: usize, h: usize, q: usize) -> usize
     ensures { (result ≡ slot_at n h q) × (result ≤ most_slots) }
 {
@@ -53,6 +57,7 @@ fn slot_at(n: usize, h: usize, q: usize) -> usize
 }
 
 // The line at the head of the chain of the hash h in the paragraph q; 0: none.
+#[tactic(auto, using(crate::proofs::LinkLaws::head_is_lem, crate::proofs::LinkLaws::head_past))]
 pub fn head(w: &[Cell], h: usize, q: usize) -> usize
     ensures { result ≡ get_or w.now (slot_at (length w.now) h q) 0 }
 {
@@ -64,6 +69,7 @@ pub fn head(w: &[Cell], h: usize, q: usize) -> usize
 }
 
 // Puts line v at the head of that chain; the line that was there.
+#[tactic(auto, using(crate::proofs::LinkLaws::no_head, crate::proofs::LinkLaws::head_put))]
 pub fn put_head(w: &mut [Cell], h: usize, q: usize, v: usize) -> usize
     ensures { HeadPost w.old w.new h q v result }
 {
@@ -77,6 +83,7 @@ pub fn put_head(w: &mut [Cell], h: usize, q: usize, v: usize) -> usize
 }
 
 // Links the row behind the first `lines` rows to line h.
+#[tactic(auto, using(crate::proofs::LinkLaws::not_linked))]
 pub fn link(table: &mut [u32], lines: usize, h: usize)
     ensures { LinkPost table.old table.new lines h }
 {
@@ -96,6 +103,7 @@ pub fn link(table: &mut [u32], lines: usize, h: usize)
 }
 
 // Takes the links out of the first `lines` rows.
+#[tactic(auto, using(crate::proofs::LinkLaws::unlinked_none, crate::proofs::LinkLaws::unlinked_at))]
 pub fn unlink(table: &mut [u32], lines: usize)
     ensures { row_width * lines ≤ length table.old → table.new ≡ unlinked lines table.old }
 {

@@ -15,6 +15,7 @@ use constants::{Cell, NAME_LENGTH, NAME_START, PARAGRAPH, ROW_WIDTH};
 use symbols::same_bytes;
 
 // Is the word the n bytes of s from `first` on? No, where they are not whole in s.
+#[tactic(auto, using(crate::proofs::PartLaws::parts_compared))]
 pub fn part_is(s: &[u8], first: usize, n: usize, word: &[u8]) -> bool
     ensures { 1 ≤ length word.now → result ≡ same_bytes word.now (part_of s.now first n) }
 {
@@ -25,6 +26,7 @@ pub fn part_is(s: &[u8], first: usize, n: usize, word: &[u8]) -> bool
 }
 
 // Is the word the identifier of line v, and q its paragraph?
+#[tactic(auto, using(crate::proofs::FindLaws::is_not, crate::proofs::FindLaws::is_compared_lem))]
 fn line_is(book: &[u8], table: &[u32], v: usize, word: &[u8], q: usize) -> bool
     ensures { 1 ≤ length word.now → result ≡ line_is book.now table.now word.now q v }
 {
@@ -38,6 +40,7 @@ fn line_is(book: &[u8], table: &[u32], v: usize, word: &[u8], q: usize) -> bool
 }
 
 // The line that the row of line v links to.
+#[tactic(auto, using(crate::proofs::LinkLaws::link_is_lem))]
 fn link_of(table: &[u32], v: usize) -> usize
     ensures { result ≡ link_of table.now v }
 {
