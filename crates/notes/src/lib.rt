@@ -78,6 +78,7 @@ pub fn capacity(n: usize) -> usize
 }
 
 // .. and of so many.
+#[tactic(auto, using(crate::proofs::EntryLaws::noted_is))]
 fn noted(n: usize, count: usize) -> usize
     ensures { result ≡ noted n count }
 {
@@ -85,6 +86,7 @@ fn noted(n: usize, count: usize) -> usize
 }
 
 // The chain of a name with the hash h, opened in the paragraph q.
+#[tactic(auto, using(crate::proofs::EntryLaws::chain_is_lem))]
 pub fn chain(n: usize, h: usize, q: usize) -> usize
     ensures { (result ≡ chain_of n h q) × (result < cell_values) }
 {
@@ -104,6 +106,7 @@ fn entry_cell(w: &[Cell], base: usize, k: usize) -> usize
 }
 
 // Has the paragraph k, by its entry, this name, and was it opened in q?
+#[tactic(auto, using(crate::proofs::EntryLaws::entry_not, crate::proofs::EntryLaws::entry_compared))]
 fn entry_is(book: &[u8], w: &[Cell], k: usize, word: &[u8], q: usize) -> bool
     ensures { 1 ≤ length word.now → k ≤ capacity (length w.now) → result ≡ entry_is book.now w.now word.now q k }
 {
@@ -116,6 +119,7 @@ fn entry_is(book: &[u8], w: &[Cell], k: usize, word: &[u8], q: usize) -> bool
 }
 
 // The next entry of the chain of paragraph k; 0: none.
+#[tactic(auto, using(crate::proofs::EntryLaws::next_is_lem))]
 fn next_at(w: &[Cell], k: usize) -> usize
     ensures { k ≤ capacity (length w.now) → result ≡ next_at w.now k }
 {
@@ -137,6 +141,7 @@ pub fn noted_in(book: &[u8], w: &[Cell], word: &[u8], h: usize, q: usize) -> Opt
 }
 
 // Is the paragraph n open?
+#[tactic(auto, using(crate::proofs::OpenLaws::among_all, crate::proofs::OpenLaws::among_none))]
 pub fn is_open(w: &[Cell], n: usize) -> bool
     ensures { OpenTold w.now n result }
 {

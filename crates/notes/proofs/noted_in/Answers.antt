@@ -7,9 +7,6 @@ use Rattle.names.specs.Chains.{down_finds}
 use Rattle.notes.proofs.EntryLaws.{entries_within, search_starts, gives_entry}
 use Rattle.notes.proofs.noted_in.Goals as goal
 
-pub overflow_add-chain : goal.overflow_add-chain
-overflow_add-chain c = omega arith
-
 pub returns : goal.returns
 returns c =
     let a = c.args in
