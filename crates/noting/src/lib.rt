@@ -13,6 +13,7 @@ use notes::{
 };
 
 // Puts x in the i-th cell behind the middle of the store, if there is one.
+#[tactic(auto, using(crate::proofs::PutLaws::put_set))]
 fn put_cell(w: &mut [Cell], i: usize, x: usize)
     ensures { Put (length w.old) i x w.old w.new }
 {

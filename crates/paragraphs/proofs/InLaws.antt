@@ -84,6 +84,12 @@ module _ {ks book w : List ℕ} {word : Bytes} {h i q : ℕ} (l : OfLevel number
             ∙ ap (number_or 0) (v.walk.child word));
       }
 
+-- what is noted, where it is found or all have an entry
+pub gives_noted : (ks book w : List ℕ) (word : Bytes) (h : ℕ) {i q count : ℕ} → OfLevel numbers w i q → count ≡ get_or w (count_cell (length w)) 0 → (r : Prelude.Option ℕ)
+    → Gives (NotedFound book w word h q) r → (Prelude.is_some r ≡ false → count ≤ capacity (length w)) → Gives (FoundIn paragraph_in ks book w word h i) r
+gives_noted ks book w word h l e Prelude.None f b = not_in_note l f refl e refl (b refl)
+gives_noted ks book w word h l e (Prelude.Some n) f b = (f.0, in_note l f.1 (λ z. let p = f.0 in omega arith))
+
 pub gives_in_book : (ks book w : List ℕ) (word : Bytes) (h : ℕ) {i q from upto : ℕ} → OfLevel numbers w i q → OfLevel froms w i from → upto ≡ get_or w (upto_cell (length w)) 0 → (r : Prelude.Option ℕ)
     → Gives (Walked ks book from upto q word) r → Gives (FoundIn paragraph_in ks book w word h i) r
 gives_in_book ks book w word h {i} {q} {from} {upto} l m e =

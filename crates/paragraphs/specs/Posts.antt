@@ -1,6 +1,6 @@
 -- What the functions on lines and paragraphs by their names give.
 use Rattle.std.specs.Prelude.{◌≡◌, Bool, not, List, ℕ, ◌-◌, ◌≤◌, ◌<◌, length}
-use Rattle.std.specs.Prelude as Found
+use Rattle.std.specs.Prelude as Prelude
 use Rattle.std.proofs.Math.Option.{Option}
 use Rattle.aut68.specs.Sizes.{cell_values}
 use Rattle.aut68.specs.Bytes.{Bytes}
@@ -18,7 +18,7 @@ use Rattle.notes.specs.NoteLaws.{Outer}
 use Rattle.notes.specs.Posts.{OfLevel}
 
 -- r is the line with the name, of the hash h, in the i-th open paragraph from outside
-pub record LineInLevel (book tb : List ℕ) (lines : ℕ) (w : List ℕ) (word : Bytes) (h i : ℕ) (r : Found.Option ℕ) : Type 0 where
+pub record LineInLevel (book tb : List ℕ) (lines : ℕ) (w : List ℕ) (word : Bytes) (h i : ℕ) (r : Prelude.Option ℕ) : Type 0 where
   pub around : ℕ
   pub level : OfLevel numbers w i around
   pub found : Gives (LineFound book tb lines w word h around) r
@@ -29,10 +29,10 @@ pub record FoundIn (sought : Place → Bytes → ℕ → Option ℕ) (ks book w 
       → (os : List Opened) → Outer book st.place w i os → r ≡ number_or 0 (sought st.place word (current os))
 
 -- From the innermost of i paragraphs outward, outside being one of them, to what is found first: what may be found in each.
-pub data Outward (found_in : ℕ → Found.Option ℕ → Type 0) : ℕ → Found.Option ℕ → Type 0 where
-  nowhere : {i : ℕ} → i ≡ 0 → Outward found_in i Found.None
-  here : {i v : ℕ} → 1 ≤ i → found_in (i - 1) (Found.Some v) → Outward found_in i (Found.Some v)
-  further : {i : ℕ} {r : Found.Option ℕ} → 1 ≤ i → found_in (i - 1) Found.None → Outward found_in (i - 1) r → Outward found_in i r
+pub data Outward (found_in : ℕ → Prelude.Option ℕ → Type 0) : ℕ → Prelude.Option ℕ → Type 0 where
+  nowhere : {i : ℕ} → i ≡ 0 → Outward found_in i Prelude.None
+  here : {i v : ℕ} → 1 ≤ i → found_in (i - 1) (Prelude.Some v) → Outward found_in i (Prelude.Some v)
+  further : {i : ℕ} {r : Prelude.Option ℕ} → 1 ≤ i → found_in (i - 1) Prelude.None → Outward found_in (i - 1) r → Outward found_in i r
 
 -- r is the closed paragraph that the name means, sought outward; 0: none
 pub record ClosedFound (ks book w : List ℕ) (word : Bytes) (r : ℕ) : Type 0 where

@@ -51,15 +51,11 @@ fn paragraph_in(
     if count == q {
         return None;
     }
-    match noted_in(book, w, word, h, q) {
-        Some(n) => Some(n),
-        None => {
-            if count <= capacity(w.len()) {
-                return None;
-            }
-            walk(book, kinds, from_at(w, i), cell_at(w, UPTO), q, word)
-        }
+    let noted = noted_in(book, w, word, h, q);
+    if noted.is_some() || count <= capacity(w.len()) {
+        return noted;
     }
+    walk(book, kinds, from_at(w, i), cell_at(w, UPTO), q, word)
 }
 
 // The same among closed ones (closed_in).
