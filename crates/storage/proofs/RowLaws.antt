@@ -2,42 +2,19 @@
 use mathlib.Core.Path.{◌≡◌, refl, sym, ap, ◌∙◌}
 use mathlib.Core.Bool.{Bool, true, false, not, ◌&&◌, true≢false}
 use mathlib.Core.List.{List, [], ◌∷◌}
-use Prim.Native.Nat.{ℕ, suc, ◌+◌, ◌*◌, ◌-◌, ◌≤◌, ◌<◌}
+use Prim.Native.Nat.{ℕ, suc, ◌+◌, ◌*◌, ◌≤◌, ◌<◌}
 use native.Mathlib.Omega.{arith}
 use lib.Dec.{leb, ltb}
 use lib.ListN.{set}
 use lib.Seq.{sets}
 use Rattle.aut68.specs.Sizes.{line_limit, row_width}
-use Rattle.cells.specs.CopyLaws.{and_false}
-use borrow.Author.Tests.{not-true, not-false, ltb-true, lt-ltb, le-ltb, le-leb, lt-leb, leb-true}
+use borrow.Author.Tests.{not-false, ltb-true, leb-true}
 
 -- ---- room
 
 module _ (table terms index lines used entries size names : ℕ) where
   abbrev fits : Bool
   fits = ltb (suc lines) line_limit && leb (row_width * suc lines) table && leb (used + size) terms && leb (entries + suc names) index
-
-  pub too_many_lines : line_limit ≤ suc lines → false ≡ fits
-  too_many_lines h = rw (le-ltb (suc lines) line_limit (omega arith))
-
-  pub no_row : table < row_width * (lines + 1) → false ≡ fits
-  no_row h = rw (lt-leb (row_width * suc lines) table (omega arith), and_false (ltb (suc lines) line_limit))
-
-  pub no_cells : {t : Bool} → not t ≡ true → t ≡ leb (used + size) terms → false ≡ fits
-  no_cells {t} h e = rw (← e, not-true t h, and_false (ltb (suc lines) line_limit && leb (row_width * suc lines) table))
-
-  pub no_entry : index ≤ names → false ≡ fits
-  no_entry h =
-      rw (
-        lt-leb (entries + suc names) index (omega arith),
-        and_false (ltb (suc lines) line_limit && leb (row_width * suc lines) table && leb (used + size) terms),
-      )
-
-  pub room_by_entry : {t u : Bool} → suc lines < line_limit → row_width * (lines + 1) ≤ table → not t ≡ false → t ≡ leb (used + size) terms → u ≡ leb (entries + (names + 1)) index → u ≡ fits
-  room_by_entry {t} h k f e g =
-      let n : names + 1 ≡ suc names = omega arith in
-      rw (lt-ltb (suc lines) line_limit (omega arith), le-leb (row_width * suc lines) table (omega arith), ← e, not-false t f)
-      (g ∙ ap (λ (i : ℕ). leb (entries + i) index) n)
 
   -- what room means
   pub room_facts : {t : Bool} → not t ≡ false → t ≡ fits → (suc lines < line_limit) × (row_width * suc lines ≤ table) × (used + size ≤ terms) × (entries + suc names ≤ index)

@@ -23,32 +23,18 @@ pub struct Room {
 pub fn has_room(r: Room, lines: usize, size: usize, names: usize) -> bool
     ensures { result ≡ (ltb (suc lines) line_limit && leb (row_width * suc lines) r.table && leb (r.used + size) r.terms && leb (r.entries + suc names) r.index) }
 {
-    if lines >= LAST_LINE {
-        return false;
-    }
-    if ROW_WIDTH * (lines + 1) > r.table {
-        return false;
-    }
-    if !whole(r.used, size, r.terms) {
-        return false;
-    }
-    if names >= r.index {
-        return false;
-    }
-    whole(r.entries, names + 1, r.index)
+    lines < LAST_LINE
+        && ROW_WIDTH * (lines + 1) <= r.table
+        && whole(r.used, size, r.terms)
+        && names < r.index
+        && whole(r.entries, names + 1, r.index)
 }
 
 // a + b, where it is below 2^32; a row has no larger number.
 pub fn sum(a: usize, b: usize) -> usize
     ensures { a + b < 4294967296 → result ≡ a + b }
 {
-    if a > 4294967295 {
-        return 0;
-    }
-    if b > 4294967295 {
-        return 0;
-    }
-    a + b
+    a.saturating_add(b)
 }
 
 // Writes x in cell k of the row behind the first `lines` rows.
@@ -56,10 +42,7 @@ fn put_field(table: &mut [u32], lines: usize, k: usize, x: usize)
     requires { k < row_width }
     ensures { suc lines < line_limit → x < 4294967296 → table.new ≡ set table.old (row_width * lines + k) x }
 {
-    if lines >= LAST_LINE {
-        return;
-    }
-    if x > 4294967295 {
+    if lines >= LAST_LINE || x > u32::MAX as usize {
         return;
     }
     let at = ROW_WIDTH * lines + k;
