@@ -12,7 +12,7 @@ use Rattle.aut68.specs.Lines.{Lines}
 use Rattle.aut68.specs.Procedure.Answer.{Answer, code_in, rest_in, code_of, mismatch, too_large, out_of_budget}
 use Rattle.aut68.specs.Procedure.Calls.{decline_code, not_whole, string_too_large}
 use Rattle.aut68.specs.Procedure.Compare.{Comparison, compare}
-use Rattle.aut68.specs.Procedure.PartsFirst.{parts_first, parts_first_at}
+use Rattle.aut68.specs.Procedure.PartsFirst.{parts_first}
 use Rattle.aut68.specs.Rules.Strings.{Whole}
 use Rattle.aut68.specs.Comparing.{FindsEquality}
 use Rattle.aut68.specs.Desk.{comparison_of, is_not_whole, is_too_large, is_compared}
@@ -21,20 +21,9 @@ use Rattle.calculus.specs.Resolved.{ResolvedLines}
 use Rattle.cells.specs.Cells.{copy_cells}
 use Rattle.cells.specs.Layout.{unit_at, level_unit}
 use Rattle.cells.specs.Results.{Result, passed, refused}
-use Rattle.comparison.specs.Posts.{ComparesBy, Compares}
 use Rattle.strings.specs.Posts.{SaysWhole}
 use Rattle.judging.specs.Posts.{levels_of, ComparesOne, Named, JudgedPost}
 use Rattle.judging.proofs.Placing.{placed, still_long}
-
--- one of the two comparisons
-module _ {second : Bool} {tb ts w w' : List ℕ} {limit budget a b code rest : ℕ} where
-  pub as_second : second ≡ true → ComparesBy parts_first_at tb ts w limit budget a b nesting w' code rest → ComparesOne second tb ts w limit budget a b w' code rest
-  unfolding levels_of
-  as_second e c = record { compares = subst (λ x. ComparesBy (levels_of x) tb ts w limit budget a b nesting w' code rest) (sym e) c }
-
-  pub as_first : second ≡ false → Compares tb ts w limit budget a b nesting w' code rest → ComparesOne second tb ts w limit budget a b w' code rest
-  unfolding levels_of
-  as_first e c = record { compares = subst (λ x. ComparesBy (levels_of x) tb ts w limit budget a b nesting w' code rest) (sym e) c }
 
 -- from depth 1 on
 from_first : (second : Bool) (ls : Lines) (limit : ℕ) → levels_of second ls limit nesting ≡ comparison_of second ls limit

@@ -9,6 +9,13 @@ use Rattle.aut68.specs.Procedure.PartsFirst.{parts_first_at}
 use Rattle.aut68.specs.Desk.{Judged}
 use Rattle.heads.specs.Book.{Book}
 use Rattle.comparison.specs.Posts.{Levels, ComparesBy}
+use Rattle.judging.specs.declared.Comparison.{Comparison}
+use Rattle.judging.specs.declared.Comparison.TheVariants.{First, PartsFirst}
+
+-- is it the second?
+abbrev pub second_in : Comparison → Bool
+second_in First = false
+second_in PartsFirst = true
 
 -- the first comparison, or the second
 unfoldable pub levels_of : Bool → Levels
