@@ -24,6 +24,7 @@ const SCRATCH_UNIT: usize = WORK_UNITS - 2;
 const RESULT_UNIT: usize = WORK_UNITS - 1;
 
 // Where unit k starts. A limit above LARGEST_LIMIT has no units: 0.
+// Kept: no caller has such a limit, so an Option would be taken apart for nothing wherever a unit is used.
 fn unit_at(limit: usize, k: usize) -> usize
     requires { k < work_units }
     ensures { limit ≤ largest_limit → result ≡ unit_at limit k }

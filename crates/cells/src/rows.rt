@@ -9,6 +9,7 @@ ghost use Rattle.cells.specs.Posts.{Skipped, Extent};
 use constants::{CELL_FACTOR, CONTEXT_LENGTH, Cell, ROW_WIDTH};
 
 // Cell k of the row of line v; `constants` names them. 0 where v is 0 or the table has no such cell.
+// Kept: the number 0 for no cell, since row_cell, which the contracts cite, says it so.
 pub fn field(table: &[u32], v: usize, k: usize) -> usize
     requires { k < row_width }
     ensures { (result ≡ row_cell table.now v k) × (result < 2 ^ 32) }
@@ -23,6 +24,7 @@ pub fn field(table: &[u32], v: usize, k: usize) -> usize
 }
 
 // How many expressions follow the cell x as its parts: a constant's context length, 2 for an application or an abstraction.
+// Kept: kinds of cells are numbers, since cells are published with them.
 #[tactic(auto, unfolding(crate::specs::Cells::parts_after))]
 pub fn kids(table: &[u32], x: Cell) -> usize
     ensures { (result ≡ parts_after table.now x) × (result < 2 ^ 32) }

@@ -14,6 +14,7 @@ use constants::{CELL_FACTOR, Cell};
 const SLOTS: usize = 64;
 
 // No line has this number.
+// Kept: the slots are cells of the working store that the caller lends, so no line is a number, too.
 const NO_LINE: Cell = Cell::MAX;
 
 // Nothing is in the slots from `slots` on.

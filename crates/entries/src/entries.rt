@@ -8,6 +8,7 @@ use sorting::sort;
 
 // The lines that a line names (namesOf), from its indicator and the `size` cells in its units of w, ascending, each once, ahead of these
 // units; how many they are. Where w does not have the units, or a number is too large for them, nothing is written.
+// Kept: 0 for no units, since the caller has seen to them, and takes the number with no test.
 pub fn line_names(w: &mut [Cell], limit: usize, size: usize, indicator: usize) -> usize
     ensures { NamesPost limit size indicator w.old w.new result }
 {

@@ -61,6 +61,7 @@ fn digit_of(unit: usize, n: usize) -> u8
 }
 
 // The number in its columns; blanks, if it is 0.
+// Kept: 0 for no number, since numbered, which the contracts cite, says it so.
 fn put_number(n: usize, part: &mut [u8])
     requires { length part.old ≡ number_columns }
     ensures { part.new ≡ numbered n }
