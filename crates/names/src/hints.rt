@@ -57,15 +57,15 @@ fn slot_at(n: usize, h: usize, q: usize) -> usize
 }
 
 // The line at the head of the chain of the hash h in the paragraph q; 0: none.
+// Kept: 0 for none, as the cells of the working store, which the caller lends, and the rows' links have it.
 #[tactic(auto, using(crate::proofs::LinkLaws::head_is_lem, crate::proofs::LinkLaws::head_past))]
 pub fn head(w: &[Cell], h: usize, q: usize) -> usize
     ensures { result ≡ get_or w.now (slot_at (length w.now) h q) 0 }
 {
-    let at = slot_at(w.len(), h, q);
-    if at >= w.len() {
-        return 0;
+    match w.get(slot_at(w.len(), h, q)) {
+        Some(&line) => line as usize,
+        None => 0,
     }
-    w[at] as usize
 }
 
 // Puts line v at the head of that chain; the line that was there.

@@ -77,6 +77,7 @@ pub struct Part {
 
 // Where the identifier of a line stands in the book; the empty part at its start if the line is 0, its row is not whole in the
 // table, or the row points outside the book.
+// Kept: the empty part for none, as the C interface gives it.
 pub fn identifier_place(book: &[u8], table: &[u32], line: u32) -> Part
     ensures { IdentifierPlaced book.now table.now line result.start result.len }
 {

@@ -38,11 +38,10 @@ pub const CHAIN_FACTOR: usize = 65536;
 pub fn cell_at(w: &[Cell], i: usize) -> usize
     ensures { (result ≡ get_or w.now (length w.now / 2 + i) 0) × (result < cell_values) }
 {
-    let half = w.len() / 2;
-    if i >= w.len() - half {
-        return 0;
+    match w[w.len() / 2..].get(i) {
+        Some(&cell) => cell as usize,
+        None => 0,
     }
-    w[half + i] as usize
 }
 
 // What is noted of the i-th open paragraph from outside, from the cell `base` on; 0 for i = 0.
