@@ -32,6 +32,8 @@ use Rattle.constants.specs.declared.codes.Reason.{Reason}
 use Rattle.constants.specs.declared.codes.Reason.TheVariants as Reasons
 use Rattle.constants.specs.declared.codes.Reason.TheVariants.{WorkTooSmall, LimitOutOfRange, Malformed, Duplicate, UnknownName, WrongArity}
 use Rattle.constants.specs.declared.codes.Reason.TheVariants.{NotFunction, NotType, Mismatch, OutOfSpace, NotInContext, Unbalanced}
+use Rattle.sides.specs.declared.sides.Sizes.{Sizes}
+use Rattle.sides.proofs.Settling.{same_sizes}
 use Rattle.sides.specs.declared.sides.Progress.{Progress}
 use Rattle.sides.specs.declared.sides.Progress.TheVariants.{Identical, Normal, Stepped}
 use Rattle.sides.specs.Posts.{Pair, Placed, SaysIdentical, Opens, Turned, Turns}
@@ -104,7 +106,7 @@ pub record Passed (deeper : ℕ) (tb ts w : List ℕ) (limit budget l n r m : �
 abbrev pub end_code : Code.Result Progress Reason → Option ℕ
 end_code (Ok Identical) = Some 0
 end_code (Ok Normal) = Some (code_of mismatch)
-end_code (Ok (Stepped n m)) = None
+end_code (Ok (Stepped sizes)) = None
 end_code (Err r) = Some (code_of (refusal_of r))
 
 pub passed_none : (deeper : ℕ) {tb ts w : List ℕ} {limit budget l n r m : ℕ} → Passed deeper tb ts w limit budget l n r m w n m budget
@@ -227,9 +229,9 @@ module _ {limit deeper l r : ℕ} (O : Opened limit deeper l r) where
               go ls k e f i c (Posts.spent s g o u v q) = rw u (result_is (turn_spent ls limit (deeper - 1) e f rest s g q rest₂ c v) (refused (code_is o refl)))
 
           -- it is taken
-          pub pass_next : {n₃ m₃ : ℕ} → Turns tb ts w₂ limit rest₂ l n r m w₃ (Ok (Stepped n₃ m₃)) rest₃ → length w₃ ≡ length w₂
-              → Passed deeper tb ts w₀ limit budget l n₀ r m₀ w₃ n₃ m₃ rest₃
-          pass_next {n₃} {m₃} T long₃ = record {
+          pub pass_next : {sizes : Sizes} → Turns tb ts w₂ limit rest₂ l n r m w₃ (Ok (Stepped sizes)) rest₃ → length w₃ ≡ length w₂
+              → Passed deeper tb ts w₀ limit budget l n₀ r m₀ w₃ sizes.left sizes.right rest₃
+          pass_next {sizes} T long₃ = record {
             spends = omega (arith, I.spends, A.spends, T.spends);
             progressed =
                 progress_then (second limit deeper) I.progressed (long₃ ∙ long₂) (turn_frame T) λ ls k e f B h p P x y.
@@ -237,22 +239,16 @@ module _ {limit deeper l r : ℕ} (O : Opened limit deeper l r) where
                 go ls k e f (differs_so ls k e f B d p P) (turned T ls k e f B d p P x y);
           }
             where
-              left_size : {i j i' j' : ℕ} → ◌≡◌ {A = Code.Result Progress Reason} (Ok (Stepped i j)) (Ok (Stepped i' j')) → i ≡ i'
-              left_size q = cc
-
-              right_size : {i j i' j' : ℕ} → ◌≡◌ {A = Code.Result Progress Reason} (Ok (Stepped i j)) (Ok (Stepped i' j')) → j ≡ j'
-              right_size q = cc
-
               go : (ls : Lines) (k : ℕ) (e f : Expr) → compare_parts aut68 (parts_first_at ls limit (deeper - 1)) e f rest ≡ stop mismatch rest₂
-                  → Turned ls limit k w₃ l r e f rest₂ (Ok (Stepped n₃ m₃)) rest₃ → Went (second limit deeper) ls limit k w₃ l r e f rest n₃ m₃ rest₃
+                  → Turned ls limit k w₃ l r e f rest₂ (Ok (Stepped sizes)) rest₃ → Went (second limit deeper) ls limit k w₃ l r e f rest sizes.left sizes.right rest₃
               go ls k e f c (Posts.identically o u q) = absurd (cc)
               go ls k e f c (Posts.to_parts o u q P) = absurd (cc)
               go ls k e f c (Posts.onward s g o u q h P) = record {
                 e' = _;
                 f' = _;
                 pair = P;
-                size_left = left_size o;
-                size_right = right_size o;
+                size_left = ap (λ (x : Sizes). x.left) (same_sizes o);
+                size_right = ap (λ (x : Sizes). x.right) (same_sizes o);
                 goes = λ _. opens ls e f rest ∙ turn_onward ls limit (deeper - 1) e f rest s g q rest₂ c rest₃ u h ∙ sym (opens ls _ _ rest₃);
               }
               go ls k e f c (Posts.too_far s g o u v q h) = absurd (cc)

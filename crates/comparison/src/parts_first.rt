@@ -6,7 +6,7 @@ ghost use Rattle.comparison.specs.Posts.{ComparesFirst, AttemptsParts};
 
 use cells::{side_at, skip};
 use constants::{Cell, LARGEST_LIMIT, NESTING, Reason};
-use sides::{Opening, Progress, identical, open_pair, shapes_of, turn};
+use sides::{Progress, identical, open_pair, shapes_of, turn};
 
 // The expressions at a and b of w, a pair that may go `deeper` levels deeper (parts_first_at): NESTING for a first pair; with none it is
 // too large.
@@ -28,17 +28,11 @@ pub fn compare_parts_first(
     }
     let l = side_at(limit, deeper);
     let r = l + limit;
-    let Some(
-        Opening {
-            mut left,
-            mut right,
-        },
-    ) = open_pair(table, w, a, b, l, r)
-    else {
+    let Some(mut sizes) = open_pair(table, w, a, b, l, r) else {
         return Ok(());
     };
     loop {
-        if identical(w, l, left, r, right) {
+        if identical(w, l, sizes.left, r, sizes.right) {
             return Ok(());
         }
         let Err(reason) = attempt(table, terms, w, limit, budget, l, r, deeper - 1) else {
@@ -47,13 +41,10 @@ pub fn compare_parts_first(
         if reason != Reason::Mismatch {
             return Err(reason);
         }
-        match turn(table, terms, w, limit, budget, l, left, r, right)? {
+        match turn(table, terms, w, limit, budget, l, r, sizes)? {
             Progress::Identical => return Ok(()),
             Progress::Normal => return Err(Reason::Mismatch),
-            Progress::Stepped { left: n, right: m } => {
-                left = n;
-                right = m;
-            }
+            Progress::Stepped(next) => sizes = next,
         }
     }
 }

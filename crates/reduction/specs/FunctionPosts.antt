@@ -1,5 +1,5 @@
 -- What head steps until an abstraction leave.
-use Rattle.std.specs.Prelude.{◌≡◌, List, ℕ, ◌+◌, ◌*◌, ◌≤◌, ◌<◌, length, get_or, Ok, Err}
+use Rattle.std.specs.Prelude.{◌≡◌, List, ℕ, ◌+◌, ◌*◌, ◌≤◌, ◌<◌, length, get_or, Option, Some, None, Ok, Err}
 use Rattle.std.specs.Prelude as Code
 use Rattle.aut68.specs.Sizes.{largest_limit, work_units}
 use Rattle.aut68.specs.Expr.{Expr, abs, size, cells}
@@ -16,14 +16,12 @@ use Rattle.cells.specs.Results.{Result}
 use Rattle.constants.specs.declared.codes.Reason.{Reason}
 use Rattle.heads.specs.Book.{Book}
 use Rattle.reduction.specs.Frames.{Framed, Lies}
-use Rattle.reduction.specs.declared.functions.Shape.{Shape}
-use Rattle.reduction.specs.declared.functions.Shape.TheVariants.{Abstraction, Other}
 use Rattle.reduction.specs.declared.functions.Function.{Function}
 
--- the shape of the expression at index `at`
-abbrev pub ShapePost : List ℕ → List ℕ → ℕ → Shape → Type 0
-ShapePost tb w at (Abstraction d b) = (get_or w at 0 ≡ 5) × (d ≡ at + 1) × Skipped tb w (at + 1) 1 b
-ShapePost tb w at Other = at < length w → get_or w at 0 ≡ 5 → ⊥
+-- the expression at index `at` is an abstraction, with its domain and its body there; or it is none
+abbrev pub ShapePost : List ℕ → List ℕ → ℕ → Option (ℕ × ℕ) → Type 0
+ShapePost tb w at (Some (d, b)) = (get_or w at 0 ≡ 5) × (d ≡ at + 1) × Skipped tb w (at + 1) 1 b
+ShapePost tb w at None = at < length w → get_or w at 0 ≡ 5 → ⊥
 
 -- c has come to its head form g, which has no head step; or the procedure stops on the way
 pub data FormIs (ls : Lines) (limit k at : ℕ) (c : Expr) (budget : ℕ) (w' : List ℕ) (code size' budget' : ℕ) : Type 0 where

@@ -8,23 +8,16 @@ use cells::skip;
 use constants::{Cell, Reason};
 use heads::head_of;
 
-// An abstraction's domain and body, by where they start; or something else.
-#[derive(Clone, Copy)]
-enum Shape {
-    Abstraction { domain: usize, body: usize },
-    Other,
-}
-
-// The shape of the expression at `at` of w.
-fn shape_of(table: &[u32], w: &[Cell], at: usize) -> Shape
+// Where the domain and the body start, if the expression at `at` of w is an abstraction.
+fn abstraction_at(table: &[u32], w: &[Cell], at: usize) -> Option<(usize, usize)>
     ensures { ShapePost table.now w.now at result }
 {
     if at < w.len() && w[at] == 5 {
         let domain = at + 1;
         let body = skip(table, w, domain, 1);
-        return Shape::Abstraction { domain, body };
+        return Some((domain, body));
     }
-    Shape::Other
+    None
 }
 
 // Head steps of the expression of `size` cells at `at` until there is none: the size then. Refused where a step is past the budget, or
@@ -72,7 +65,7 @@ pub fn to_function(
     ensures { FunctionPost table.now terms.now w.old w.new limit budget.old at size (code_in result) (function_in result) budget.new }
 {
     let size = head_form(table, terms, w, limit, budget, at, size)?;
-    let Shape::Abstraction { domain, body } = shape_of(table, w, at) else {
+    let Some((domain, body)) = abstraction_at(table, w, at) else {
         return Err(Reason::NotFunction);
     };
     Ok(Function { size, domain, body })

@@ -13,6 +13,7 @@ use Rattle.aut68.specs.Procedure.Compare.{Comparison, sides}
 use Rattle.constants.specs.declared.codes.Reason.{Reason}
 use Rattle.sides.specs.declared.sides.Progress.{Progress}
 use Rattle.sides.specs.declared.sides.Progress.TheVariants as Progresses
+use Rattle.sides.specs.declared.sides.Sizes.{Sizes}
 use Rattle.sides.specs.declared.sides.Settled.{Settled}
 use Rattle.sides.specs.declared.sides.Settled.TheVariants as SettledCases
 use Rattle.sides.specs.Posts.{Opens, Turned, Turns, Goes, Settles}
@@ -34,32 +35,29 @@ settled_same {limit = limit} {budget} {l = l} O q = record {
       Posts.Goes.identically refl λ d. sides_same aut68 ls limit d e f budget (next_same ls e f (opened_identical l O q ls k e f B P));
 }
 
+pub same_sizes : {a b : Sizes} → ◌≡◌ {A = Result Progress Reason} (Ok (Progresses.Stepped a)) (Ok (Progresses.Stepped b)) → a ≡ b
+same_sizes q = cc
+
 -- the end that a turn comes to, unless a step was taken
 abbrev pub end_of : Result Progress Reason → Option (Result Settled Reason)
 end_of (Ok Progresses.Identical) = Some (Ok SettledCases.Identical)
 end_of (Ok Progresses.Normal) = Some (Ok SettledCases.Normal)
-end_of (Ok (Progresses.Stepped n m)) = None
+end_of (Ok (Progresses.Stepped sizes)) = None
 end_of (Err r) = Some (Err r)
 
 module _ {tb ts w₀ w₁ w₂ : List ℕ} {limit budget l n₀ r m₀ n m rest rest' : ℕ}
     (p : Progressed (sides_under limit) (2 * nesting) tb ts w₀ limit budget l n₀ r m₀ w₁ n m rest) where
   -- a step was taken
-  pub settle_on : {n' m' : ℕ} → Turns tb ts w₁ limit rest l n r m w₂ (Ok (Progresses.Stepped n' m')) rest' → length w₂ ≡ length w₁
-      → Progressed (sides_under limit) (2 * nesting) tb ts w₀ limit budget l n₀ r m₀ w₂ n' m' rest'
-  settle_on {n'} {m'} T long = progress_then (sides_under limit) p long T.frame λ ls k e f B h q P x y. go ls k e f (T.means ls k e f B h q P x y)
+  pub settle_on : {sizes : Sizes} → Turns tb ts w₁ limit rest l n r m w₂ (Ok (Progresses.Stepped sizes)) rest' → length w₂ ≡ length w₁
+      → Progressed (sides_under limit) (2 * nesting) tb ts w₀ limit budget l n₀ r m₀ w₂ sizes.left sizes.right rest'
+  settle_on {sizes} T long = progress_then (sides_under limit) p long T.frame λ ls k e f B h q P x y. go ls k e f (T.means ls k e f B h q P x y)
     where
-      left_size : {i j i' j' : ℕ} → ◌≡◌ {A = Result Progress Reason} (Ok (Progresses.Stepped i j)) (Ok (Progresses.Stepped i' j')) → i ≡ i'
-      left_size q = cc
-
-      right_size : {i j i' j' : ℕ} → ◌≡◌ {A = Result Progress Reason} (Ok (Progresses.Stepped i j)) (Ok (Progresses.Stepped i' j')) → j ≡ j'
-      right_size q = cc
-
-      go : (ls : Lines) (k : ℕ) (e f : Expr) → Turned ls limit k w₂ l r e f rest (Ok (Progresses.Stepped n' m')) rest'
-          → Went (sides_under limit) ls limit k w₂ l r e f rest n' m' rest'
+      go : (ls : Lines) (k : ℕ) (e f : Expr) → Turned ls limit k w₂ l r e f rest (Ok (Progresses.Stepped sizes)) rest'
+          → Went (sides_under limit) ls limit k w₂ l r e f rest sizes.left sizes.right rest'
       go ls k e f (Posts.identically o u q) = absurd (cc)
       go ls k e f (Posts.to_parts o u q P) = absurd (cc)
       go ls k e f (Posts.onward s g o u q h P) =
-          record { e' = _; f' = _; pair = P; size_left = left_size o; size_right = right_size o; goes = λ d. sides_step aut68 ls limit d e f s g q rest rest' u h }
+          record { e' = _; f' = _; pair = P; size_left = ap (λ (x : Sizes). x.left) (same_sizes o); size_right = ap (λ (x : Sizes). x.right) (same_sizes o); goes = λ d. sides_step aut68 ls limit d e f s g q rest rest' u h }
       go ls k e f (Posts.too_far s g o u v q h) = absurd (cc)
       go ls k e f (Posts.spent s g o u v q) = absurd (cc)
 

@@ -241,7 +241,7 @@ module _ (ts : List ℕ) (limit budget : ℕ) {tb w : List ℕ} {l n r m : ℕ} 
     some_size q = cc
 
     pub turn_step : {w' : List ℕ} {n' budget' : ℕ} → StepPost tb ts w w' limit h (Some n') → budget' + 1 ≡ budget
-        → Turns tb ts w limit budget l n r m w' (Ok (Stepped (pick s n' n) (pick s m n'))) budget'
+        → Turns tb ts w limit budget l n r m w' (Ok (Stepped (record { left = pick s n' n; right = pick s m n' }))) budget'
     turn_step {w'} {n'} {budget'} S b = record {
       spends = omega arith;
       counts = λ _. b;
@@ -251,10 +251,10 @@ module _ (ts : List ℕ) (limit budget : ℕ) {tb w : List ℕ} {l n r m : ℕ} 
       where
         by : (ls : Lines) (k : ℕ) (e f : Expr) (B : Book ls limit tb ts) (u : k ≤ 2 * nesting) (p : Placed limit (length w) l r)
             (P : Pair ls limit k w l r e f) (x : n ≡ size e) (y : m ≡ size f) → Taken S (omega arith) ls k e f B u p P x y
-            → Turned ls limit k w' l r e f budget (Ok (Stepped (pick s n' n) (pick s m n'))) budget'
+            → Turned ls limit k w' l r e f budget (Ok (Stepped (record { left = pick s n' n; right = pick s m n' }))) budget'
         by ls k e f B u p P x y T = of T.step_is
           where
-            of : StepIs limit (pick s l r) T.g (Some n') w' → Turned ls limit k w' l r e f budget (Ok (Stepped (pick s n' n) (pick s m n'))) budget'
+            of : StepIs limit (pick s l r) T.g (Some n') w' → Turned ls limit k w' l r e f budget (Ok (Stepped (record { left = pick s n' n; right = pick s m n' }))) budget'
             of (made a v at') =
                 let new : Side ls limit k w' (pick s l r) T.g = record {
                   known = known_category_head ls B.resolved k (pick s e f) T.g T.leaves (side_of s P).known;

@@ -16,7 +16,7 @@ use Rattle.heads.specs.declared.heads.Head.{Head}
 use Rattle.agreement.specs.Which.{Which, pick, step_in}
 use Rattle.sides.specs.declared.sides.NextStep.{NextStep}
 use Rattle.sides.specs.declared.sides.NextStep.TheVariants.{Left, Right}
-use Rattle.sides.specs.declared.sides.Opening.{Opening}
+use Rattle.sides.specs.declared.sides.Sizes.{Sizes}
 use Rattle.sides.specs.declared.sides.Progress.{Progress}
 use Rattle.sides.specs.declared.sides.Progress.TheVariants.{Stepped}
 use Rattle.sides.specs.declared.sides.Progress.TheVariants as Progresses
@@ -38,15 +38,15 @@ Takes first second (Some (Left h)) = first ≡ Some h
 Takes first second (Some (Right h)) = second ≡ Some h
 
 -- nothing was opened; else the sizes
-abbrev pub same_in : Option Opening → Bool
+abbrev pub same_in : Option Sizes → Bool
 same_in None = true
 same_in (Some o) = false
 
-abbrev pub left_in : Option Opening → ℕ
+abbrev pub left_in : Option Sizes → ℕ
 left_in None = 0
 left_in (Some o) = o.left
 
-abbrev pub right_in : Option Opening → ℕ
+abbrev pub right_in : Option Sizes → ℕ
 right_in None = 0
 right_in (Some o) = o.right
 
@@ -124,7 +124,7 @@ pub record SaysShapes (tb w : List ℕ) (l r : ℕ) (answer : Bool) (parts : ℕ
 pub data Turned (ls : Lines) (limit k : ℕ) (w' : List ℕ) (l r : ℕ) (e f : Expr) (b : ℕ) (found : Result Progress Reason) (b' : ℕ) : Type 0 where
   identically : found ≡ Ok Progresses.Identical → b' ≡ b → next ls e f ≡ same → Turned ls limit k w' l r e f b found b'
   to_parts : found ≡ Ok Progresses.Normal → b' ≡ b → next ls e f ≡ by_parts → Pair ls limit k w' l r e f → Turned ls limit k w' l r e f b found b'
-  onward : (s : Which) (g : Expr) → found ≡ Ok (Stepped (size (pick s g e)) (size (pick s f g))) → b' + 1 ≡ b → next ls e f ≡ step_in s g
+  onward : (s : Which) (g : Expr) → found ≡ Ok (Stepped (record { left = size (pick s g e); right = size (pick s f g) })) → b' + 1 ≡ b → next ls e f ≡ step_in s g
       → size g ≤ limit → Pair ls limit k w' l r (pick s g e) (pick s f g) → Turned ls limit k w' l r e f b found b'
   too_far : (s : Which) (g : Expr) → found ≡ Err TooLarge → b' ≡ b → 0 < b → next ls e f ≡ step_in s g → limit < size g
       → Turned ls limit k w' l r e f b found b'
@@ -133,7 +133,7 @@ pub data Turned (ls : Lines) (limit k : ℕ) (w' : List ℕ) (l r : ℕ) (e f : 
 -- the sides of n and m cells at l and r, after a step, if one is next
 pub record Turns (tb ts w : List ℕ) (limit budget l n r m : ℕ) (w' : List ℕ) (found : Result Progress Reason) (rest : ℕ) : Type 0 where
   pub spends : rest ≤ budget
-  pub counts : {n' m' : ℕ} → found ≡ Ok (Stepped n' m') → rest + 1 ≡ budget
+  pub counts : {sizes : Sizes} → found ≡ Ok (Stepped sizes) → rest + 1 ≡ budget
   -- what lies below the left side is as it was
   pub frame : l ≤ r → l ≤ unit_at limit scratch_unit → Outside l (length w) w w'
   pub means : (ls : Lines) (k : ℕ) (e f : Expr) → Book ls limit tb ts → k ≤ 2 * nesting → Placed limit (length w) l r → Pair ls limit k w l r e f

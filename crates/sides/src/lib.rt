@@ -5,6 +5,6 @@
 mod sides;
 
 pub use sides::{
-    NextStep, Opening, Progress, Settled, choose, identical, open_pair, same_expression, settle,
+    NextStep, Progress, Settled, Sizes, choose, identical, open_pair, same_expression, settle,
     shapes_of, turn,
 };

@@ -17,12 +17,19 @@ pub enum NextStep {
     Right(Head),
 }
 
+// The sizes of two sides.
+#[derive(Clone, Copy, Debug, PartialEq, Eq)]
+pub struct Sizes {
+    pub left: usize,
+    pub right: usize,
+}
+
 // What a turn finds: identical sides, sides without a head step, or the sizes of the sides after a step.
 #[derive(Clone, Copy, Debug, PartialEq, Eq)]
 pub enum Progress {
     Identical,
     Normal,
-    Stepped { left: usize, right: usize },
+    Stepped(Sizes),
 }
 
 // Where head steps end: at identical sides, or where neither side has one.
@@ -30,13 +37,6 @@ pub enum Progress {
 pub enum Settled {
     Identical,
     Normal,
-}
-
-// The sizes of the sides that were put in place.
-#[derive(Clone, Copy, Debug, PartialEq, Eq)]
-pub struct Opening {
-    pub left: usize,
-    pub right: usize,
 }
 
 // Are the sides of n and m cells at l and r identical?
@@ -90,7 +90,7 @@ pub fn open_pair(
     b: usize,
     l: usize,
     r: usize,
-) -> Option<Opening>
+) -> Option<Sizes>
     ensures { Opens table.now w.old a b l r w.new (same_in result) (left_in result) (right_in result) }
 {
     if same_expression(table, w, a, b) {
@@ -100,7 +100,7 @@ pub fn open_pair(
     let right = extent(table, w, b);
     move_cells(w, a, l, left);
     move_cells(w, b, r, right);
-    Some(Opening { left, right })
+    Some(Sizes { left, right })
 }
 
 // The next head step, by that of each side (choose): a contraction before an unfolding, the left one of two contractions, the unfolding
@@ -127,7 +127,7 @@ pub fn choose(left: Option<Head>, right: Option<Head>) -> Option<NextStep>
     Some(NextStep::Left(first))
 }
 
-// One head step in the sides of n and m cells at l and r, if one is next. Refused where it is past the budget, or would leave more than
+// One head step in the sides at l and r, if one is next. Refused where it is past the budget, or would leave more than
 // `limit` cells: it is then neither made nor counted.
 pub fn turn(
     table: &[u32],
@@ -136,17 +136,16 @@ pub fn turn(
     limit: usize,
     budget: &mut u32,
     l: usize,
-    n: usize,
     r: usize,
-    m: usize,
+    sizes: Sizes,
 ) -> Result<Progress, Reason>
-    ensures { Turns table.now terms.now w.old limit budget.old l n r m w.new result budget.new }
+    ensures { Turns table.now terms.now w.old limit budget.old l sizes.left r sizes.right w.new result budget.new }
 {
-    if identical(w, l, n, r, m) {
+    if identical(w, l, sizes.left, r, sizes.right) {
         return Ok(Progress::Identical);
     }
-    let first = head_of(table, w, l, n);
-    let second = head_of(table, w, r, m);
+    let first = head_of(table, w, l, sizes.left);
+    let second = head_of(table, w, r, sizes.right);
     let Some(next) = choose(first, second) else {
         return Ok(Progress::Normal);
     };
@@ -157,12 +156,12 @@ pub fn turn(
         NextStep::Left(head) => {
             let left = step(table, terms, w, limit, head).ok_or(Reason::TooLarge)?;
             *budget -= 1;
-            Ok(Progress::Stepped { left, right: m })
+            Ok(Progress::Stepped(Sizes { left, ..sizes }))
         }
         NextStep::Right(head) => {
             let right = step(table, terms, w, limit, head).ok_or(Reason::TooLarge)?;
             *budget -= 1;
-            Ok(Progress::Stepped { left: n, right })
+            Ok(Progress::Stepped(Sizes { right, ..sizes }))
         }
     }
 }
@@ -182,23 +181,14 @@ pub fn settle(
 ) -> Result<Settled, Reason>
     ensures { Settles table.now terms.now w.old limit budget.old a b l r w.new result budget.new }
 {
-    let Some(
-        Opening {
-            mut left,
-            mut right,
-        },
-    ) = open_pair(table, w, a, b, l, r)
-    else {
+    let Some(mut sizes) = open_pair(table, w, a, b, l, r) else {
         return Ok(Settled::Identical);
     };
     loop {
-        match turn(table, terms, w, limit, budget, l, left, r, right)? {
+        match turn(table, terms, w, limit, budget, l, r, sizes)? {
             Progress::Identical => return Ok(Settled::Identical),
             Progress::Normal => return Ok(Settled::Normal),
-            Progress::Stepped { left: n, right: m } => {
-                left = n;
-                right = m;
-            }
+            Progress::Stepped(next) => sizes = next,
         }
     }
 }

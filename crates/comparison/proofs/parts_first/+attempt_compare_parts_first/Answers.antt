@@ -66,18 +66,18 @@ compare_parts_first-returns-in_default t c = first_same (opened t (goal.at.compa
 
 pub compare_parts_first-returns-then-identical : goal.compare_parts_first-returns-then-identical
 compare_parts_first-returns-then-identical t c =
-    pass_same (opened t (goal.at.compare_parts_first-returns-then-identical t c).After-side_at-l) (put_in_place c.in-Some.ensures refl c.open_pair.auto.w) c.loop-limit.invariant
+    pass_same (opened t (goal.at.compare_parts_first-returns-then-identical t c).After-side_at-l) (put_in_place c.in-Some.ensures refl c.open_pair.auto.w) c.loop-sizes.invariant
     c.identical.ensures c.if-identical.true
 
 pub compare_parts_first-returns-in_default-attempt : goal.compare_parts_first-returns-in_default-attempt
 compare_parts_first-returns-in_default-attempt t c =
-    pass_stands (opened t (goal.at.compare_parts_first-returns-in_default-attempt t c).After-side_at-l) (put_in_place c.in-Some.ensures refl c.open_pair.auto.w) c.loop-limit.invariant
+    pass_stands (opened t (goal.at.compare_parts_first-returns-in_default-attempt t c).After-side_at-l) (put_in_place c.in-Some.ensures refl c.open_pair.auto.w) c.loop-sizes.invariant
     c.identical.ensures c.if-identical.false
     c.in_default-attempt.ensures c.attempt.auto.w (λ q. omega arith)
 
 pub compare_parts_first-returns-then-ne : goal.compare_parts_first-returns-then-ne
 compare_parts_first-returns-then-ne t c =
-    pass_stands (opened t (goal.at.compare_parts_first-returns-then-ne t c).After-side_at-l) (put_in_place c.in-Some.ensures refl c.open_pair.auto.w) c.loop-limit.invariant
+    pass_stands (opened t (goal.at.compare_parts_first-returns-then-ne t c).After-side_at-l) (put_in_place c.in-Some.ensures refl c.open_pair.auto.w) c.loop-sizes.invariant
     c.identical.ensures c.if-identical.false
     c.in-Err.ensures c.attempt.auto.w
     λ q. let e : c.in-Err.reason ≡ Mismatch = different _ q in let g : true ≡ false = rw e at c.if-ne.ensures in absurd (cc)
@@ -86,24 +86,24 @@ pub compare_parts_first-returns-in_err-turn : goal.compare_parts_first-returns-i
 compare_parts_first-returns-in_err-turn t c =
     let p = err_from_is_err_and c.from_residual.result c.from_residual.ensures.1 in
     rw (p.1, p.2)
-    (pass_ended (opened t (goal.at.compare_parts_first-returns-in_err-turn t c).After-side_at-l) (put_in_place c.in-Some.ensures refl c.open_pair.auto.w) c.loop-limit.invariant
+    (pass_ended (opened t (goal.at.compare_parts_first-returns-in_err-turn t c).After-side_at-l) (put_in_place c.in-Some.ensures refl c.open_pair.auto.w) c.loop-sizes.invariant
     c.identical.ensures c.if-identical.false
     (rw (mismatched _ c.if-ne.ensures) at c.in-Err.ensures) c.attempt.auto.w c.in_err-turn.ensures refl)
 
 pub compare_parts_first-returns-in-Identical : goal.compare_parts_first-returns-in-Identical
 compare_parts_first-returns-in-Identical t c =
-    pass_ended (opened t (goal.at.compare_parts_first-returns-in-Identical t c).After-side_at-l) (put_in_place c.in-Some.ensures refl c.open_pair.auto.w) c.loop-limit.invariant
+    pass_ended (opened t (goal.at.compare_parts_first-returns-in-Identical t c).After-side_at-l) (put_in_place c.in-Some.ensures refl c.open_pair.auto.w) c.loop-sizes.invariant
     c.identical.ensures c.if-identical.false
     (rw (mismatched _ c.if-ne.ensures) at c.in-Err.ensures) c.attempt.auto.w (rw c.in-Identical.is at c.in_ok-turn.ensures) refl
 
 pub compare_parts_first-returns-in-Normal : goal.compare_parts_first-returns-in-Normal
 compare_parts_first-returns-in-Normal t c =
-    pass_ended (opened t (goal.at.compare_parts_first-returns-in-Normal t c).After-side_at-l) (put_in_place c.in-Some.ensures refl c.open_pair.auto.w) c.loop-limit.invariant
+    pass_ended (opened t (goal.at.compare_parts_first-returns-in-Normal t c).After-side_at-l) (put_in_place c.in-Some.ensures refl c.open_pair.auto.w) c.loop-sizes.invariant
     c.identical.ensures c.if-identical.false
     (rw (mismatched _ c.if-ne.ensures) at c.in-Err.ensures) c.attempt.auto.w (rw c.in-Normal.is at c.in_ok-turn.ensures) refl
 
-pub compare_parts_first-loop-limit-preserved : goal.compare_parts_first-loop-limit-preserved
-compare_parts_first-loop-limit-preserved t c =
-    pass_next (opened t (goal.at.compare_parts_first-loop-limit-preserved t c).After-side_at-l) (put_in_place c.in-Some.ensures refl c.open_pair.auto.w) c.loop-limit.invariant
+pub compare_parts_first-loop-sizes-preserved : goal.compare_parts_first-loop-sizes-preserved
+compare_parts_first-loop-sizes-preserved t c =
+    pass_next (opened t (goal.at.compare_parts_first-loop-sizes-preserved t c).After-side_at-l) (put_in_place c.in-Some.ensures refl c.open_pair.auto.w) c.loop-sizes.invariant
     c.identical.ensures c.if-identical.false
     (rw (mismatched _ c.if-ne.ensures) at c.in-Err.ensures) c.attempt.auto.w (rw c.in-Stepped.is at c.in_ok-turn.ensures) c.turn.auto.w

@@ -15,8 +15,8 @@ abbrev pub invariant-attempt-loop-part : goal.invariant-attempt-loop-part
 invariant-attempt-loop-part l = (l.budget ≤ l.initial.budget)
     × PartsInvariant parts_first_at l.table l.terms l.initial.w l.limit l.initial.budget l.l l.r l.deeper l.w (l.parts - l._part) l.i l.j l.budget
 
-abbrev pub invariant-compare_parts_first-loop-limit : goal.invariant-compare_parts_first-loop-limit
-invariant-compare_parts_first-loop-limit l = Passed l.deeper l.table l.terms l.initial.w l.limit l.initial.budget l.l l.initial.left l.r l.initial.right l.w l.left l.right l.budget
+abbrev pub invariant-compare_parts_first-loop-sizes : goal.invariant-compare_parts_first-loop-sizes
+invariant-compare_parts_first-loop-sizes l = Passed l.deeper l.table l.terms l.initial.w l.limit l.initial.budget l.l l.initial.sizes.left l.r l.initial.sizes.right l.w l.sizes.left l.sizes.right l.budget
 
-abbrev pub decreases-compare_parts_first-loop-limit : goal.decreases-compare_parts_first-loop-limit
-decreases-compare_parts_first-loop-limit l = l.budget
+abbrev pub decreases-compare_parts_first-loop-sizes : goal.decreases-compare_parts_first-loop-sizes
+decreases-compare_parts_first-loop-sizes l = l.budget

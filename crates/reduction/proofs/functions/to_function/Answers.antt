@@ -11,9 +11,9 @@ returns-in_err-size c =
     (function_refused (λ z. code_nonzero _ z) c.in_err-size.ensures)
 
 pub returns-in_default : goal.returns-in_default
-returns-in_default c = function_other c.in_ok-size.ensures (rw c.in_default.is at c.shape_of.ensures)
+returns-in_default c = function_other c.in_ok-size.ensures c.in_default.ensures
 
 pub returns : goal.returns
 returns c =
-    let X = c.in-Abstraction.ensures in
+    let X = c.in-Some.ensures in
     function_abstraction c.in_ok-size.ensures X.0 _ X.2 X.1 refl

@@ -10,7 +10,7 @@ use Rattle.sides.proofs.sides.turn.Goals as goal
 -- what is known where the next step is chosen
 decided : (c : After-choose)
     → (let a = c.args in
-    Decided a.table.now a.w.now a.l a.n a.r a.m c.head_of-first.result c.head_of-second.result c.choose.result)
+    Decided a.table.now a.w.now a.l a.sizes.left a.r a.sizes.right c.head_of-first.result c.head_of-second.result c.choose.result)
 decided c =
     record {
       answer = c.identical.result;
