@@ -43,12 +43,6 @@ compare-returns-in-Normal t c =
 pub compare_parts-returns-in_default : goal.compare_parts-returns-in_default
 compare_parts-returns-in_default t c = shapes_differ c.in_default.ensures refl
 
-pub compare_parts-overflow_add-i : goal.compare_parts-overflow_add-i
-compare_parts-overflow_add-i t c = omega (arith, (c.in-Some.ensures.match refl).0)
-
-pub compare_parts-overflow_add-j : goal.compare_parts-overflow_add-j
-compare_parts-overflow_add-j t c = omega (arith, (c.in-Some.ensures.match refl).1)
-
 pub compare_parts-loop-part-init : goal.compare_parts-loop-part-init
 compare_parts-loop-part-init t c =
     let all : c.in-Some.parts - 0 ≡ c.in-Some.parts = omega arith in

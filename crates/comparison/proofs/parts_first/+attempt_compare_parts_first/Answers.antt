@@ -27,12 +27,6 @@ opened t c = record {
 pub attempt-returns-in_default : goal.attempt-returns-in_default
 attempt-returns-in_default t c = record { spends = omega arith; compares = shapes_differ c.in_default.ensures refl }
 
-pub attempt-overflow_add-i : goal.attempt-overflow_add-i
-attempt-overflow_add-i t c = omega (arith, (c.in-Some.ensures.match refl).0)
-
-pub attempt-overflow_add-j : goal.attempt-overflow_add-j
-attempt-overflow_add-j t c = omega (arith, (c.in-Some.ensures.match refl).1)
-
 pub attempt-loop-part-init : goal.attempt-loop-part-init
 attempt-loop-part-init t c =
     let all : c.in-Some.parts - 0 ≡ c.in-Some.parts = omega arith in

@@ -43,9 +43,6 @@ returns-then-w-b-eq5 c =
       is = λ B k e K a q. search_contracts B (search_application B (I.4.of B k e K a q) c.if-x-ne4.false c.skip-b.ensures) c.if-w-b-eq5.true refl refl refl;
     }
 
-pub loop-i-smaller : goal.loop-i-smaller
-loop-i-smaller c = omega (arith, c.skip-b.ensures.within (omega arith))
-
 pub loop-i-preserved : goal.loop-i-preserved
 loop-i-preserved c =
     let I = c.loop-i.invariant in

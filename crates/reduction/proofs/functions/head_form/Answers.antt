@@ -1,10 +1,6 @@
-use Rattle.reduction.specs.Frames.{framed_same}
 use Rattle.reduction.proofs.Exits.{passed_on, missing}
-use Rattle.reduction.proofs.FormLaws.{reducing_starts, form_normal, form_spent, form_framed, form_large, form_steps}
+use Rattle.reduction.proofs.FormLaws.{form_normal, form_spent, form_framed, form_large, form_steps}
 use Rattle.reduction.proofs.functions.head_form.Goals as goal
-
-pub loop-h-init : goal.loop-h-init
-loop-h-init c = (framed_same, reducing_starts)
 
 pub returns-then-budget-eq0 : goal.returns-then-budget-eq0
 returns-then-budget-eq0 c = form_spent c.loop-h.invariant.0 c.loop-h.invariant.1 _ c.in-Some.ensures c.if-budget-eq0.true

@@ -1,14 +1,11 @@
 use mathlib.Core.Path.{◌≡◌}
 use Prim.Native.Nat.{◌+◌, ◌-◌}
 use native.Mathlib.Omega.{arith}
-use Rattle.reduction.proofs.ArgumentLaws.{listed_none, listed_more, listed_wrong, listed_all, listed_full}
+use Rattle.reduction.proofs.ArgumentLaws.{listed_none, listed_more, listed_wrong}
 use Rattle.reduction.proofs.steps.arguments_at.Goals as goal
 
 pub loop-i-init : goal.loop-i-init
 loop-i-init c = listed_none
-
-pub returns-then-i-count : goal.returns-then-i-count
-returns-then-i-count c = listed_all c.loop-i.invariant (omega arith)
 
 pub returns-then-next-at : goal.returns-then-next-at
 returns-then-next-at c = listed_wrong c.loop-i.invariant c.skip-next.ensures (omega arith) (λ l. omega arith)
@@ -18,6 +15,3 @@ loop-i-preserved c =
     let next : c.loop-i.i - 1 + 1 ≡ c.loop-i.i = omega arith in
     let behind : c.loop-i.i + 1 - 1 ≡ c.loop-i.i = omega arith in
     rw behind (rw next at (listed_more c.loop-i.invariant c.skip-next.ensures (omega arith) (omega arith)))
-
-pub returns : goal.returns
-returns c = listed_full c.loop-i.invariant (omega arith)

@@ -1,9 +1,6 @@
 -- `open_pair`: identical expressions, else both moved up.
-use Rattle.sides.proofs.OpeningLaws.{open_same, open_moved}
+use Rattle.sides.proofs.OpeningLaws.{open_moved}
 use Rattle.sides.proofs.sides.open_pair.Goals as goal
-
-pub returns-then-same_expression : goal.returns-then-same_expression
-returns-then-same_expression c = open_same c.same_expression.ensures c.if-same_expression.true
 
 pub returns : goal.returns
 returns c =

@@ -1,14 +1,11 @@
 use mathlib.Core.Path.{refl}
 use Rattle.std.proofs.lemmas.Result.{err_from_is_err_and}
-use Rattle.sides.proofs.ProgressLaws.{progress_none, put_in_place}
-use Rattle.sides.proofs.Settling.{sides_under, settled_same, settle_on, settle_ended}
+use Rattle.sides.proofs.ProgressLaws.{put_in_place}
+use Rattle.sides.proofs.Settling.{settled_same, settle_on, settle_ended}
 use Rattle.sides.proofs.sides.settle.Goals as goal
 
 pub returns-in_default : goal.returns-in_default
 returns-in_default c = settled_same c.in_default.ensures refl
-
-pub loop-next-init : goal.loop-next-init
-loop-next-init c = progress_none (sides_under _)
 
 pub returns-in_err-turn : goal.returns-in_err-turn
 returns-in_err-turn c =
