@@ -14,7 +14,7 @@ ghost use Rattle.expressions.specs.Posts.{NameSought, Completed, place_of, used_
 use cells::Scope;
 use completion::{last_left_out, put_in};
 use constants::{CELL_FACTOR, Cell, NESTING, Reason};
-use meanings::{Meaning, binding, meaning_of};
+use meanings::{Lookup, Meaning, binding, meaning_of};
 use symbols::{Name, UsedName};
 
 // How far a walk came. at: the next byte. to: the next cell; one past the store's end, and staying there, where the store had no room
@@ -81,33 +81,19 @@ pub fn bound(line: &[u8], scope: &Scope, u: UsedName) -> Option<usize>
 // fault came before, since it is not asked for then.
 pub fn name_meaning(
     line: &[u8],
-    kinds: &[u8; 256],
-    book: &[u8],
-    table: &[u32],
-    lines: usize,
-    indicator: usize,
+    around: &Lookup,
     w: &[Cell],
     fault: Option<Reason>,
     b: Option<usize>,
     u: UsedName,
 ) -> Result<Meaning, Reason>
     requires { (u.name.start + u.name.len ≤ length line.now) × (title_in u.paragraph + size_in u.paragraph ≤ length line.now) }
-    ensures { NameSought kinds.now line.now (place_in b) book.now table.now lines indicator w.now (fault_in fault) (place_of u) (meaning_in result) }
+    ensures { NameSought around.now.kinds.now line.now (place_in b) around.now.book.now around.now.table.now around.now.lines around.now.indicator w.now (fault_in fault) (place_of u) (meaning_in result) }
 {
     if let Some(reason) = fault {
         return Err(reason);
     }
-    meaning_of(
-        b,
-        book,
-        kinds,
-        table,
-        lines,
-        indicator,
-        w,
-        title(line, u),
-        word(line, u.name),
-    )
+    meaning_of(b, around, w, title(line, u), word(line, u.name))
 }
 
 // The cell of a name that means m; 0 where it means nothing.
@@ -123,8 +109,7 @@ pub fn cell_of(m: Result<Meaning, Reason>) -> Cell
 // The arguments a of a name that means m, at nesting depth `depth`, their cells from `first` on: those left out put in front, with a
 // wrong count as the fault where that cannot be (left_out). It stands at its name, so it goes before a fault in the arguments.
 pub fn completed(
-    table: &[u32],
-    indicator: usize,
+    around: &Lookup,
     w: &mut [Cell],
     first: usize,
     depth: usize,
@@ -132,7 +117,7 @@ pub fn completed(
     m: Result<Meaning, Reason>,
 ) -> Reading
     requires { depth < nesting }
-    ensures { Completed table.now indicator w.old w.new first depth (read_to a) (meaning_in m) (read_to result) }
+    ensures { Completed around.now.table.now around.now.indicator w.old w.new first depth (read_to a) (meaning_in m) (read_to result) }
 {
     let Ok(m) = m else {
         return a;
@@ -148,7 +133,7 @@ pub fn completed(
         return miscounted;
     }
     let v = (m.cell / CELL_FACTOR) as usize;
-    let Some(last) = last_left_out(table, w, indicator, v, a.count) else {
+    let Some(last) = last_left_out(around.table, w, around.indicator, v, a.count) else {
         return miscounted;
     };
     if depth + 1 >= NESTING {
@@ -157,6 +142,6 @@ pub fn completed(
             ..a
         };
     }
-    let to = put_in(table, w, first, a.to, last);
+    let to = put_in(around.table, w, first, a.to, last);
     Reading { to, ..a }
 }

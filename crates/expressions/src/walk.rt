@@ -7,6 +7,7 @@ ghost use Rattle.expressions.specs.Posts.{expression_in, named_in, application_i
 use crate::parts::{Reading, bound, cell_of, completed, name_meaning, opens, put};
 use cells::{Scope, bind, nest};
 use constants::{Cell, NESTING, Reason};
+use meanings::Lookup;
 use symbols::{kind_at, name_at, spaces, symbol, used_plain_first};
 
 // The expression that stands next (an_expression, resolve), with the bindings and the nesting levels around it as the scope.
@@ -15,11 +16,7 @@ use symbols::{kind_at, name_at, spaces, symbol, used_plain_first};
 #[cycle(abstraction_application_arguments_expression_named)]
 pub fn expression(
     line: &[u8],
-    kinds: &[u8; 256],
-    book: &[u8],
-    table: &[u32],
-    lines: usize,
-    indicator: usize,
+    around: &Lookup,
     w: &mut [Cell],
     from: usize,
     to: usize,
@@ -27,11 +24,11 @@ pub fn expression(
     scope: Scope,
 ) -> Result<Reading, Reason>
     requires { (to ≤ length w.old + 1) × (from ≤ length line.now) }
-    ensures { ExpressionRead (expression_in scope) kinds.now line.now scope
-        book.now table.now lines indicator w.old w.new (go_on from to (fault_in fault)) (walked from to result) }
+    ensures { ExpressionRead (expression_in scope) around.now.kinds.now line.now scope
+        around.now.book.now around.now.table.now around.now.lines around.now.indicator w.old w.new (go_on from to (fault_in fault)) (walked from to result) }
 {
     let at = spaces(line, from);
-    let k = kind_at(line, kinds, at);
+    let k = kind_at(line, around.kinds, at);
     if scope.depth >= NESTING {
         if opens(k) {
             return Err(Reason::TooLarge);
@@ -39,15 +36,9 @@ pub fn expression(
         return Err(Reason::Malformed);
     }
     match k {
-        kinds::LESS => application(
-            line, kinds, book, table, lines, indicator, w, from, to, fault, scope,
-        ),
-        kinds::BRACKET => abstraction(
-            line, kinds, book, table, lines, indicator, w, from, to, fault, scope,
-        ),
-        _ => named(
-            line, kinds, book, table, lines, indicator, w, from, to, fault, scope,
-        ),
+        kinds::LESS => application(line, around, w, from, to, fault, scope),
+        kinds::BRACKET => abstraction(line, around, w, from, to, fault, scope),
+        _ => named(line, around, w, from, to, fault, scope),
     }
 }
 
@@ -55,11 +46,7 @@ pub fn expression(
 #[cycle(abstraction_application_arguments_expression_named)]
 fn named(
     line: &[u8],
-    kinds: &[u8; 256],
-    book: &[u8],
-    table: &[u32],
-    lines: usize,
-    indicator: usize,
+    around: &Lookup,
     w: &mut [Cell],
     from: usize,
     to: usize,
@@ -67,31 +54,29 @@ fn named(
     scope: Scope,
 ) -> Result<Reading, Reason>
     requires { (to ≤ length w.old + 1) × (from ≤ length line.now) × (scope.depth < nesting) }
-    ensures { ExpressionRead (named_in scope) kinds.now line.now scope
-        book.now table.now lines indicator w.old w.new (go_on from to (fault_in fault)) (walked from to result) }
+    ensures { ExpressionRead (named_in scope) around.now.kinds.now line.now scope
+        around.now.book.now around.now.table.now around.now.lines around.now.indicator w.old w.new (go_on from to (fault_in fault)) (walked from to result) }
 {
-    let Some(n) = used_plain_first(line, kinds, from) else {
+    let Some(n) = used_plain_first(line, around.kinds, from) else {
         return Err(Reason::Malformed);
     };
     let next = n.name.start + n.name.len;
     let b = bound(line, &scope, n);
-    let m = name_meaning(line, kinds, book, table, lines, indicator, w, fault, b, n);
+    let m = name_meaning(line, around, w, fault, b, n);
     let found = m.err();
     let cell = put(w, to, cell_of(m));
-    let Some(open) = symbol(line, kinds, next, kinds::OPEN) else {
+    let Some(open) = symbol(line, around.kinds, next, kinds::OPEN) else {
         let alone = Reading {
             at: next,
             to: cell,
             fault: found,
             count: 0,
         };
-        return Ok(completed(table, indicator, w, cell, scope.depth, alone, m));
+        return Ok(completed(around, w, cell, scope.depth, alone, m));
     };
     let inner = nest(scope);
-    let a = arguments(
-        line, kinds, book, table, lines, indicator, w, open, cell, found, inner,
-    )?;
-    Ok(completed(table, indicator, w, cell, scope.depth, a, m))
+    let a = arguments(line, around, w, open, cell, found, inner)?;
+    Ok(completed(around, w, cell, scope.depth, a, m))
 }
 
 // One argument or more, up to the `)` (arguments); the scope is theirs.
@@ -99,11 +84,7 @@ fn named(
 #[cycle(abstraction_application_arguments_expression_named)]
 fn arguments(
     line: &[u8],
-    kinds: &[u8; 256],
-    book: &[u8],
-    table: &[u32],
-    lines: usize,
-    indicator: usize,
+    around: &Lookup,
     w: &mut [Cell],
     from: usize,
     to: usize,
@@ -111,21 +92,20 @@ fn arguments(
     inner: Scope,
 ) -> Result<Reading, Reason>
     requires { (to ≤ length w.old + 1) × (from ≤ length line.now) }
-    ensures { ArgumentsRead kinds.now line.now inner book.now table.now lines indicator w.old w.new (go_on from to (fault_in fault)) (walked from to result) }
+    ensures { ArgumentsRead around.now.kinds.now line.now inner
+        around.now.book.now around.now.table.now around.now.lines around.now.indicator w.old w.new (go_on from to (fault_in fault)) (walked from to result) }
 {
     let mut at = from;
     let mut cell = to;
     let mut found = fault;
     let mut count = 0;
     loop {
-        let a = expression(
-            line, kinds, book, table, lines, indicator, w, at, cell, found, inner,
-        )?;
+        let a = expression(line, around, w, at, cell, found, inner)?;
         cell = a.to;
         found = a.fault;
         count += 1;
-        let Some(comma) = symbol(line, kinds, a.at, kinds::COMMA) else {
-            let Some(close) = symbol(line, kinds, a.at, kinds::CLOSE) else {
+        let Some(comma) = symbol(line, around.kinds, a.at, kinds::COMMA) else {
+            let Some(close) = symbol(line, around.kinds, a.at, kinds::CLOSE) else {
                 return Err(Reason::Malformed);
             };
             return Ok(Reading {
@@ -142,11 +122,7 @@ fn arguments(
 #[cycle(abstraction_application_arguments_expression_named)]
 fn application(
     line: &[u8],
-    kinds: &[u8; 256],
-    book: &[u8],
-    table: &[u32],
-    lines: usize,
-    indicator: usize,
+    around: &Lookup,
     w: &mut [Cell],
     from: usize,
     to: usize,
@@ -154,34 +130,26 @@ fn application(
     scope: Scope,
 ) -> Result<Reading, Reason>
     requires { (to ≤ length w.old + 1) × (from ≤ length line.now) × (scope.depth < nesting) }
-    ensures { ExpressionRead (application_in scope) kinds.now line.now scope
-        book.now table.now lines indicator w.old w.new (go_on from to (fault_in fault)) (walked from to result) }
+    ensures { ExpressionRead (application_in scope) around.now.kinds.now line.now scope
+        around.now.book.now around.now.table.now around.now.lines around.now.indicator w.old w.new (go_on from to (fault_in fault)) (walked from to result) }
 {
-    let Some(open) = symbol(line, kinds, from, kinds::LESS) else {
+    let Some(open) = symbol(line, around.kinds, from, kinds::LESS) else {
         return Err(Reason::Malformed);
     };
     let cell = put(w, to, 4);
     let inner = nest(scope);
-    let a = expression(
-        line, kinds, book, table, lines, indicator, w, open, cell, fault, inner,
-    )?;
-    let Some(close) = symbol(line, kinds, a.at, kinds::GREATER) else {
+    let a = expression(line, around, w, open, cell, fault, inner)?;
+    let Some(close) = symbol(line, around.kinds, a.at, kinds::GREATER) else {
         return Err(Reason::Malformed);
     };
-    expression(
-        line, kinds, book, table, lines, indicator, w, close, a.to, a.fault, inner,
-    )
+    expression(line, around, w, close, a.to, a.fault, inner)
 }
 
 // `[x,A]B` (abstraction): its cell, A, and B with x bound.
 #[cycle(abstraction_application_arguments_expression_named)]
 fn abstraction(
     line: &[u8],
-    kinds: &[u8; 256],
-    book: &[u8],
-    table: &[u32],
-    lines: usize,
-    indicator: usize,
+    around: &Lookup,
     w: &mut [Cell],
     from: usize,
     to: usize,
@@ -189,28 +157,24 @@ fn abstraction(
     scope: Scope,
 ) -> Result<Reading, Reason>
     requires { (to ≤ length w.old + 1) × (from ≤ length line.now) × (scope.depth < nesting) }
-    ensures { ExpressionRead (abstraction_in scope) kinds.now line.now scope
-        book.now table.now lines indicator w.old w.new (go_on from to (fault_in fault)) (walked from to result) }
+    ensures { ExpressionRead (abstraction_in scope) around.now.kinds.now line.now scope
+        around.now.book.now around.now.table.now around.now.lines around.now.indicator w.old w.new (go_on from to (fault_in fault)) (walked from to result) }
 {
-    let Some(open) = symbol(line, kinds, from, kinds::BRACKET) else {
+    let Some(open) = symbol(line, around.kinds, from, kinds::BRACKET) else {
         return Err(Reason::Malformed);
     };
-    let Some(x) = name_at(line, kinds, open) else {
+    let Some(x) = name_at(line, around.kinds, open) else {
         return Err(Reason::Malformed);
     };
-    let Some(comma) = symbol(line, kinds, x.start + x.len, kinds::COMMA) else {
+    let Some(comma) = symbol(line, around.kinds, x.start + x.len, kinds::COMMA) else {
         return Err(Reason::Malformed);
     };
     let cell = put(w, to, 5);
     let level = nest(scope);
-    let a = expression(
-        line, kinds, book, table, lines, indicator, w, comma, cell, fault, level,
-    )?;
-    let Some(close) = symbol(line, kinds, a.at, kinds::UNBRACKET) else {
+    let a = expression(line, around, w, comma, cell, fault, level)?;
+    let Some(close) = symbol(line, around.kinds, a.at, kinds::UNBRACKET) else {
         return Err(Reason::Malformed);
     };
     let inner = bind(scope, x.start, x.len);
-    expression(
-        line, kinds, book, table, lines, indicator, w, close, a.to, a.fault, inner,
-    )
+    expression(line, around, w, close, a.to, a.fault, inner)
 }

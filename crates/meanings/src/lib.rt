@@ -5,4 +5,4 @@ mod contexts;
 mod meanings;
 
 pub use contexts::{in_context, note_context};
-pub use meanings::{Meaning, Sought, binding, look_up, meaning_of};
+pub use meanings::{Lookup, Meaning, Sought, binding, look_up, meaning_of};

@@ -27,6 +27,17 @@ pub fn binding(line: &[u8], scope: &Scope, word: &[u8]) -> Option<usize>
     None
 }
 
+// What the names of a line are looked up in: the book, with the kinds of its bytes, the rows of the earlier lines, and the line of the
+// line's own indicator.
+#[derive(Clone, Copy)]
+pub struct Lookup<'a> {
+    pub book: &'a [u8],
+    pub kinds: &'a [u8; 256],
+    pub table: &'a [u32],
+    pub lines: usize,
+    pub indicator: usize,
+}
+
 // What a name that is not bound stands for.
 #[derive(Clone, Copy)]
 pub enum Sought {
@@ -42,28 +53,27 @@ pub enum Sought {
 
 // What a used name that is not bound stands for (look_up), by what w notes of lines, paragraphs and the context. The title is empty for
 // a plain name.
-pub fn look_up(
-    book: &[u8],
-    kinds: &[u8; 256],
-    table: &[u32],
-    lines: usize,
-    indicator: usize,
-    w: &[Cell],
-    title: &[u8],
-    word: &[u8],
-) -> Sought
-    ensures { SoughtFound kinds.now book.now table.now lines indicator w.now title.now word.now result }
+pub fn look_up(around: &Lookup, w: &[Cell], title: &[u8], word: &[u8]) -> Sought
+    ensures { SoughtFound around.now.kinds.now around.now.book.now around.now.table.now around.now.lines around.now.indicator w.now title.now word.now result }
 {
-    let Some(v) = find_plain_first(book, kinds, table, lines, w, title, word) else {
+    let Some(v) = find_plain_first(
+        around.book,
+        around.kinds,
+        around.table,
+        around.lines,
+        w,
+        title,
+        word,
+    ) else {
         return Sought::NoLine;
     };
     if v >= LINE_LIMIT {
         return Sought::NoLine;
     }
-    if field(table, v, KIND) != 0 {
+    if field(around.table, v, KIND) != 0 {
         return Sought::Constant(v);
     }
-    if in_context(table, w, indicator, v) {
+    if in_context(around.table, w, around.indicator, v) {
         return Sought::Variable(v);
     }
     Sought::NotInForce(v)
@@ -79,30 +89,26 @@ pub struct Meaning {
 // The meaning of a used name (meaning) with b as its binding: that, else what stands for it.
 pub fn meaning_of(
     b: Option<usize>,
-    book: &[u8],
-    kinds: &[u8; 256],
-    table: &[u32],
-    lines: usize,
-    indicator: usize,
+    around: &Lookup,
     w: &[Cell],
     title: &[u8],
     word: &[u8],
 ) -> Result<Meaning, Reason>
-    ensures { MeaningFound (place_in b) kinds.now book.now table.now lines indicator w.now title.now word.now (code_in result) (cell_in result) (wanted_in result) }
+    ensures { MeaningFound (place_in b) around.now.kinds.now around.now.book.now around.now.table.now around.now.lines around.now.indicator w.now title.now word.now (code_in result) (cell_in result) (wanted_in result) }
 {
     match b {
         Some(bindings) if bindings < NESTING => Ok(Meaning {
             cell: CELL_FACTOR * (bindings as Cell) + 2,
             wanted: 0,
         }),
-        _ => match look_up(book, kinds, table, lines, indicator, w, title, word) {
+        _ => match look_up(around, w, title, word) {
             Sought::Variable(v) => Ok(Meaning {
                 cell: CELL_FACTOR * (v as Cell) + 1,
                 wanted: 0,
             }),
             Sought::Constant(v) => Ok(Meaning {
                 cell: CELL_FACTOR * (v as Cell) + 3,
-                wanted: field(table, v, CONTEXT_LENGTH),
+                wanted: field(around.table, v, CONTEXT_LENGTH),
             }),
             Sought::NoLine => Err(Reason::UnknownName),
             Sought::NotInForce(_) => Err(Reason::NotInContext),

@@ -6,6 +6,7 @@ ghost use Rattle.reader.specs.Posts.{number_of, body_in, MiddleKind, MiddleRead,
 
 use constants::{Cell, Reason};
 use expressions::{Reading, expression, put};
+use meanings::Lookup;
 use symbols::{spaces, symbol, word_end};
 
 // The kind of a line, by its middle: EB, PN, or an expression.
@@ -49,27 +50,21 @@ pub fn middle_kind(line: &[u8], kinds: &[u8; 256], at: usize) -> LineKind
 // The middle (a_middle), its cells from index `to` on. EB or PN: past the word, no cells.
 fn middle(
     line: &[u8],
-    kinds: &[u8; 256],
-    book: &[u8],
-    table: &[u32],
-    lines: usize,
-    indicator: usize,
+    around: &Lookup,
     w: &mut [Cell],
     at: usize,
     to: usize,
     kind: LineKind,
 ) -> Result<Reading, Reason>
     requires { (at ≤ length line.now) × (to ≤ length w.old) }
-    ensures { MiddleRead kinds.now line.now book.now table.now lines indicator w.old w.new at to (number_of kind) (walked at to result) }
+    ensures { MiddleRead around.now.kinds.now line.now around.now.book.now around.now.table.now around.now.lines around.now.indicator w.old w.new at to (number_of kind) (walked at to result) }
 {
     if let LineKind::Abbreviation = kind {
         let scope = cells::no_bindings();
-        return expression(
-            line, kinds, book, table, lines, indicator, w, at, to, None, scope,
-        );
+        return expression(line, around, w, at, to, None, scope);
     }
     let start = spaces(line, at);
-    let end = word_end(line, kinds, start);
+    let end = word_end(line, around.kinds, start);
     Ok(Reading {
         at: end,
         to,
@@ -81,21 +76,17 @@ fn middle(
 // The written category (an_expression at its end) from byte `from` on, its cells from index `to` on, with the first fault so far.
 fn category(
     line: &[u8],
-    kinds: &[u8; 256],
-    book: &[u8],
-    table: &[u32],
-    lines: usize,
-    indicator: usize,
+    around: &Lookup,
     w: &mut [Cell],
     from: usize,
     to: usize,
     fault: Option<Reason>,
 ) -> Result<Reading, Reason>
     requires { (to ≤ length w.old + 1) × (from ≤ length line.now) }
-    ensures { CategoryRead kinds.now line.now book.now table.now lines indicator w.old w.new (go_on from to (fault_in fault)) (walked from to result) }
+    ensures { CategoryRead around.now.kinds.now line.now around.now.book.now around.now.table.now around.now.lines around.now.indicator w.old w.new (go_on from to (fault_in fault)) (walked from to result) }
 {
     let start = spaces(line, from);
-    let end = word_end(line, kinds, start);
+    let end = word_end(line, around.kinds, start);
     if &line[start..end] == b"type".as_slice() {
         let next = put(w, to, 0);
         return Ok(Reading {
@@ -106,9 +97,7 @@ fn category(
         });
     }
     let scope = cells::no_bindings();
-    expression(
-        line, kinds, book, table, lines, indicator, w, from, to, fault, scope,
-    )
+    expression(line, around, w, from, to, fault, scope)
 }
 
 // What was read of middle and category: the cells behind those of each, and the first fault of a name.
@@ -123,27 +112,21 @@ pub struct BodyCells {
 // behind them.
 pub fn body(
     line: &[u8],
-    kinds: &[u8; 256],
-    book: &[u8],
-    table: &[u32],
-    lines: usize,
-    indicator: usize,
+    around: &Lookup,
     w: &mut [Cell],
     at: usize,
     to: usize,
     kind: LineKind,
 ) -> Result<BodyCells, Reason>
     requires { (at ≤ length line.now) × (to ≤ length w.old) }
-    ensures { BodyRead kinds.now line.now book.now table.now lines indicator w.old w.new at to (number_of kind) (body_in line.now at to result) }
+    ensures { BodyRead around.now.kinds.now line.now around.now.book.now around.now.table.now around.now.lines around.now.indicator w.old w.new at to (number_of kind) (body_in line.now at to result) }
 {
-    let m = middle(line, kinds, book, table, lines, indicator, w, at, to, kind)?;
-    let Some(colon) = symbol(line, kinds, m.at, kinds::COLON) else {
+    let m = middle(line, around, w, at, to, kind)?;
+    let Some(colon) = symbol(line, around.kinds, m.at, kinds::COLON) else {
         return Err(Reason::Malformed);
     };
-    let c = category(
-        line, kinds, book, table, lines, indicator, w, colon, m.to, m.fault,
-    )?;
-    let Some(next) = symbol(line, kinds, c.at, kinds::NEWLINE) else {
+    let c = category(line, around, w, colon, m.to, m.fault)?;
+    let Some(next) = symbol(line, around.kinds, c.at, kinds::NEWLINE) else {
         return Err(Reason::Malformed);
     };
     if next != line.len() {

@@ -16,7 +16,7 @@ use cells::{LINE_UNIT, READER_UNITS, field};
 use constants::{CONTEXT_LENGTH, Cell, KIND, LINE_LIMIT, Reason};
 use expressions::{title, word};
 use headings::heading;
-use meanings::note_context;
+use meanings::{Lookup, note_context};
 use paragraphs::{current, find_used, is_taken};
 use symbols::UsedName;
 
@@ -92,9 +92,14 @@ fn read_into(
     let indicator = found.unwrap_or(0);
     note_context(table, w, indicator);
     let kind = middle_kind(line, kinds, h.at);
-    let b = body(
-        line, kinds, book, table, lines, indicator, w, h.at, to, kind,
-    )?;
+    let around = Lookup {
+        book,
+        kinds,
+        table,
+        lines,
+        indicator,
+    };
+    let b = body(line, &around, w, h.at, to, kind)?;
     if found.is_none() {
         return Err(Reason::UnknownName);
     }
