@@ -3,6 +3,7 @@ ghost use Rattle.std.specs.Prelude.{◌≡◌, ◌&&◌, [], ◌∷◌, suc, ◌
 ghost use Rattle.std.proofs.lemmas.List.Edits.{sets};
 ghost use Rattle.aut68.specs.Sizes.{line_limit, row_width};
 ghost use Rattle.cells.specs.Cells.{Below};
+ghost use Rattle.reader.specs.Posts.{number_of};
 
 use constants::{LAST_LINE, ROW_WIDTH};
 use copies::whole;
@@ -62,13 +63,13 @@ pub fn put_row(
     category: usize,
     end: usize,
 )
-    ensures { suc lines < line_limit → Below 4294967296 (first ∷ l.len ∷ l.indicator ∷ l.context ∷ l.kind ∷ start ∷ category ∷ end ∷ l.paragraph ∷ []) → table.new ≡ sets table.old (row_width * lines) (first ∷ l.len ∷ l.indicator ∷ l.context ∷ l.kind ∷ start ∷ category ∷ end ∷ l.paragraph ∷ []) }
+    ensures { suc lines < line_limit → Below 4294967296 (first ∷ l.len ∷ l.indicator ∷ l.context ∷ number_of l.kind ∷ start ∷ category ∷ end ∷ l.paragraph ∷ []) → table.new ≡ sets table.old (row_width * lines) (first ∷ l.len ∷ l.indicator ∷ l.context ∷ number_of l.kind ∷ start ∷ category ∷ end ∷ l.paragraph ∷ []) }
 {
     put_field(table, lines, constants::NAME_START, first);
     put_field(table, lines, constants::NAME_LENGTH, l.len);
     put_field(table, lines, constants::INDICATOR, l.indicator);
     put_field(table, lines, constants::CONTEXT_LENGTH, l.context);
-    put_field(table, lines, constants::KIND, l.kind as usize);
+    put_field(table, lines, constants::KIND, l.kind.into());
     put_field(table, lines, constants::MIDDLE_START, start);
     put_field(table, lines, constants::CATEGORY_START, category);
     put_field(table, lines, constants::CATEGORY_END, end);

@@ -1,6 +1,7 @@
 -- `put_row`: nine cells one after the other.
 use mathlib.Core.Path.{◌∙◌}
 use Rattle.cells.specs.Cells.{Below}
+use Rattle.reader.specs.Posts.{number_of}
 use Rattle.storage.proofs.RowLaws.{row_put}
 use Rattle.storage.proofs.rows.put_row.Goals as goal
 
@@ -21,7 +22,7 @@ unfolding Below
 returns c =
     λ h b.
     let a = c.args in
-    row_put a.lines a.first a.l.len a.l.indicator a.l.context a.l.kind a.start a.category a.end a.l.paragraph
+    row_put a.lines a.first a.l.len a.l.indicator a.l.context (number_of a.l.kind) a.start a.category a.end a.l.paragraph
     a.table.now
     c.put_field.new.table c.put_field-2.new.table c.put_field-3.new.table c.put_field-4.new.table c.put_field-5.new.table
     c.put_field-6.new.table c.put_field-7.new.table c.put_field-8.new.table
@@ -30,7 +31,7 @@ returns c =
     (c.put_field-2.ensures h b.1.0)
     (c.put_field-3.ensures h b.1.1.0)
     (c.put_field-4.ensures h b.1.1.1.0)
-    (c.put_field-5.ensures h b.1.1.1.1.0)
+    (rw c.into.ensures at (c.put_field-5.ensures h) b.1.1.1.1.0)
     (c.put_field-6.ensures h b.1.1.1.1.1.0)
     (c.put_field-7.ensures h b.1.1.1.1.1.1.0)
     (c.put_field-8.ensures h b.1.1.1.1.1.1.1.0)
