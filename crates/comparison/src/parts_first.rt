@@ -51,6 +51,7 @@ pub fn compare_parts_first(
 
 // The parts of the sides at l and r, from left to right, one level deeper (compare_parts, by the second comparison): a mismatch where the
 // shapes differ.
+// Kept: beside compare_parts, which calls the first comparison; tried as one function over a trait of both: a cycle through it gets no proof.
 #[cycle(attempt_compare_parts_first)]
 fn attempt(
     table: &[u32],
