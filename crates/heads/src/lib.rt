@@ -1,4 +1,4 @@
-// Which head step an expression has: none, a contraction or an unfolding, and where its redex lies.
+// Which head step an expression has, if any: a contraction or an unfolding, and where its redex lies.
 #![tactic(auto)]
 
 mod heads;

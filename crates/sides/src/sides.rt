@@ -47,6 +47,7 @@ pub fn identical(w: &[Cell], l: usize, n: usize, r: usize, m: usize) -> bool
 }
 
 // Are the expressions at a and b identical? They are compared where they lie.
+// Kept: a walk over both, since their ends and then `==` of slices would pass over the cells twice.
 pub fn same_expression(table: &[u32], w: &[Cell], a: usize, b: usize) -> bool
     ensures { SaysSame table.now w.now a b result }
 {
