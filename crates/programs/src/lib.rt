@@ -2,8 +2,9 @@
 // arguments, and how they tell an error.
 #![tactic(auto)]
 
-ghost use Rattle.std.specs.Prelude.{◌≡◌, ◌<◌, ◌≤◌, length, take, IsNone, IsOk, OnOk};
+ghost use Rattle.std.specs.Prelude.{◌≡◌, ◌<◌, ◌≤◌, length, take, IfOk, IsOk, OnOk};
 ghost use Rattle.std.specs.Io.KnownBytes.{Appends, Consumes, IsAtEnd, Keeps};
+ghost use Rattle.programs.specs.Reads.{bytes_read};
 
 use std::env::FillError;
 use std::io::{Cursor, Read, Write};
@@ -28,68 +29,41 @@ pub fn write_first<W: Write>(to: &mut W, out: &[u8], n: usize) -> io::Result<()>
     ensures all { n ≤ length out.now → OnOk result (Appends (W.contents to.old) (W.contents to.new) (take n out.now)) }
     ensures none { length out.now < n → IsOk result × Keeps (W.contents to.old) (W.contents to.new) }
 {
-    if n <= out.len() {
-        return to.write_all(&out[..n]);
+    match out.get(..n) {
+        Some(first) => to.write_all(first),
+        None => Ok(()),
     }
-    Ok(())
 }
 
-// What was read: so many bytes, up to the end of the input or of the room for them; or a read failed behind them, and why.
+// A read failed behind so many bytes, and why.
 #[derive(Clone, Copy)]
-pub struct Reading {
+pub struct Cut {
     pub bytes: usize,
-    pub failed: Option<io::Error>,
+    pub error: io::Error,
 }
 
-// One read into book.
-fn read_once<R: Read>(from: &mut R, book: &mut [u8]) -> Reading
-    ensures count { result.bytes ≤ length book.new }
-    ensures bytes { Consumes (R.remaining from.old) (R.remaining from.new) (take result.bytes book.new) }
-    ensures end { IsNone result.failed → result.bytes ≡ 0 → 0 < length book.old → IsAtEnd (R.remaining from.new) }
-{
-    match from.read(book) {
-        Ok(n) => Reading {
-            bytes: n,
-            failed: None,
-        },
-        Err(e) => Reading {
-            bytes: 0,
-            failed: Some(e),
-        },
-    }
-}
-
-// Reads until book is full or the input ends.
-pub fn read_book<R: Read>(from: &mut R, book: &mut [u8]) -> Reading
-    ensures count { result.bytes ≤ length book.new }
-    ensures bytes { Consumes (R.remaining from.old) (R.remaining from.new) (take result.bytes book.new) }
-    ensures end { IsNone result.failed → result.bytes < length book.new → IsAtEnd (R.remaining from.new) }
+// Reads until book is full or the input ends. The answer: how many bytes that is.
+pub fn read_book<R: Read>(from: &mut R, book: &mut [u8]) -> Result<usize, Cut>
+    ensures count { bytes_read result ≤ length book.new }
+    ensures bytes { Consumes (R.remaining from.old) (R.remaining from.new) (take (bytes_read result) book.new) }
+    ensures end { IfOk result (λ n. n < length book.new → IsAtEnd (R.remaining from.new)) }
 {
     let mut n = 0;
     while n < book.len() {
-        let more = read_once(from, &mut book[n..]);
-        if more.bytes == 0 {
-            return Reading {
-                bytes: n,
-                failed: more.failed,
-            };
+        match from.read(&mut book[n..]) {
+            Ok(0) => return Ok(n),
+            Ok(more) => n += more,
+            Err(error) => return Err(Cut { bytes: n, error }),
         }
-        n = n + more.bytes;
     }
-    Reading {
-        bytes: n,
-        failed: None,
-    }
+    Ok(n)
 }
 
 // How many arguments there are, the program's name among them.
 pub fn argument_count<E: Env>(rt: &E) -> usize {
-    for i in 0..usize::MAX {
-        if let Err(FillError::NotPresent) = rt.arg(i, &mut []) {
-            return i;
-        }
-    }
-    usize::MAX
+    (0..usize::MAX)
+        .find(|&i| matches!(rt.arg(i, &mut []), Err(FillError::NotPresent)))
+        .unwrap_or(usize::MAX)
 }
 
 // Where the system's number of an error begins in its text.
@@ -98,24 +72,16 @@ const NUMBER: &str = " (os error ";
 // The most bytes of an error's text.
 const REASON: usize = 128;
 
-// The text of an error, at the start of `text`, as much of it as has room. The answer: how many bytes that is.
-fn put_text(error: io::Error, text: &mut [u8]) -> usize
-    ensures { result ≤ length text.new }
-{
-    let room = text.len();
-    let mut to = Cursor::new(text);
-    let _ = write!(to, "{error}");
-    room.min(to.position() as usize)
-}
-
 // Writes a line to standard error: what failed, as the caller names it, a colon and the error's text, without the system's number of it.
 pub fn fail<E: Eprint>(rt: &E, what: &str, error: io::Error) -> io::Result<()> {
     let mut text = [0u8; REASON];
-    let n = put_text(error, &mut text);
-    let whole = str::from_utf8(&text[..n]).unwrap_or("");
-    let reason = match whole.split_once(NUMBER) {
-        Some((reason, _)) => reason,
-        None => whole,
-    };
+    let mut to = Cursor::new(&mut text[..]);
+    let _ = write!(to, "{error}");
+    let n = to.position() as usize;
+    let whole = text
+        .get(..n)
+        .and_then(|t| str::from_utf8(t).ok())
+        .unwrap_or("");
+    let reason = whole.split_once(NUMBER).map_or(whole, |(reason, _)| reason);
     eprintln!(rt; "{what}: {reason}")
 }

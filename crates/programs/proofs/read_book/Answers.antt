@@ -18,6 +18,5 @@ take-put_mid-more a k n xs ys within fits =
 pub loop-n-preserved : goal.loop-n-preserved
 loop-n-preserved g c =
     let n = c.loop-n.n in
-    let more = c.read_once-more in
-    let joined = take-put_mid-more n (length c.loop-n.book - n) more.result.bytes c.loop-n.book more.new.book c.loop-n.invariant.0 more.ensures.count in
-    (search rules, subst (Consumes _ _) (sym joined) (Consumes-trans _ _ _ _ _ c.loop-n.invariant.1 more.ensures.bytes))
+    let joined = take-put_mid-more n (length c.loop-n.book - n) c.in-Ok.more c.loop-n.book c.read.new.buf c.loop-n.invariant.0 c.in-Ok.ensures.bound.0 in
+    (search rules, subst (Consumes _ _) (sym joined) (Consumes-trans _ _ _ _ _ c.loop-n.invariant.1 c.in-Ok.ensures.bytes.0))
