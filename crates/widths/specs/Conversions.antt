@@ -1,13 +1,14 @@
 -- Laws: a source put into a target, over the number of values of the target's cells.
 use Rattle.std.specs.Prelude.{◌≡◌, Bool, ◌&&◌, List, [], ◌∷◌, ◌++◌, ℕ, suc, ◌+◌, ◌<◌, ◌≤◌, min, ltb, length, get_or, take, drop, set}
+use Rattle.std.specs.Prelude.{slice_index_or}
 use Rattle.std.proofs.Math.Path.{refl}
-use Rattle.std.proofs.Common.{sym, ap, ap₂, ◌∙◌, add-one, length-set, take-suc, drop-cons, length-take-le}
+use Rattle.std.proofs.Common.{sym, ap, ap₂, ◌∙◌, add-one, length-set, take-suc, drop-cons, length-take-le, take-append-drop, get_or-take}
 use Rattle.std.proofs.Math.Bool.{true, false}
 use Rattle.std.proofs.Math.Option.{none, some}
 use native.Mathlib.Omega.{arith}
 use Rattle.std.proofs.Math.Dec.{leb}
 use Rattle.std.proofs.Math.Seq.{append_snoc, take-append_seam, take-length}
-use Rattle.std.proofs.lemmas.List.{set_at}
+use Rattle.std.proofs.lemmas.List.{set_at, same_lists}
 use borrow.Author.Tests.{leb-true, le-leb, le-ltb, lt-ltb}
 use Rattle.aut68.specs.Widths.{fits_width, conversion, declined, written, Converts}
 use Rattle.aut68.specs.Procedure.Calls.{Decline, store_too_small, cell_too_large, decline_code}
@@ -54,6 +55,21 @@ module _ {source old : List ℕ} {i : ℕ} {new : List ℕ} (w : Copying source 
   converted_all g =
       let e : i ≡ length source = omega arith in
       w.is ∙ ap (λ (n : ℕ). over (take n source) old) e ∙ ap (λ (s : List ℕ). over s old) (take-length source)
+
+-- the first n cells of the target are what became of those of the source
+abbrev pub EachConverted : {S T : Type 0} → (S → T → Type 0) → List S → List T → ℕ → Type 0
+EachConverted {S} {T} post source new n = (k : ℕ) (d : S) (e : T) → k < n → post (slice_index_or source k d) (slice_index_or new k e)
+
+pub converted_whole : (source old : List ℕ) {new : List ℕ} → length source ≤ length old → length new ≡ length old
+    → ((k d e : ℕ) → k < length source → get_or new k e ≡ get_or source k d) → drop (length source) new ≡ drop (length source) old → new ≡ over source old
+unfolding over
+converted_whole source old {new} h l e b =
+    sym (take-append-drop (length source) new)
+    ∙ ap₂ ◌++◌
+    (same_lists (take (length source) new) source (length-take-le (length source) new (omega arith)) λ k d g.
+    let i : k < length source = omega (arith, length-take-le (length source) new (omega arith)) in
+    get_or-take (length source) new k d i ∙ e k d d i)
+    b
 
 -- ---- which outcome
 

@@ -1,13 +1,13 @@
 // Shelves put into cells of another width; aut68's Widths has what the calls promise (`Converts`).
 #![tactic(auto)]
 
-ghost use Rattle.std.specs.Prelude.{◌≡◌, true, ◌≤◌, ◌<◌, ltb, length, MatchResult};
+ghost use Rattle.std.specs.Prelude.{◌≡◌, ◌≤◌, ◌<◌, ltb, length, drop, All, MatchResult};
 ghost use Rattle.std.specs.List.{list_all};
 ghost use Rattle.aut68.specs.Procedure.Run.{over};
 ghost use Rattle.aut68.specs.Sizes.{cell_values, narrow_values};
 ghost use Rattle.aut68.specs.Widths.{fits_width, Converts};
 ghost use Rattle.outcomes.specs.Answers.{code_of_answer, line_of_answer, steps_of_answer, length_of_answer};
-ghost use Rattle.widths.specs.Conversions.{most_cells, IsTooSmall};
+ghost use Rattle.widths.specs.Conversions.{most_cells, IsTooSmall, EachConverted};
 
 use constants::{Cause, Cell, NARROW_VALUES, NarrowCell};
 use outcomes::{Answer, Given, Unanswered};
@@ -35,23 +35,16 @@ fn fits_narrow(source: &[Cell]) -> bool
     source.iter().all(|cell| *cell < NARROW_VALUES)
 }
 
-// Copies the source over the first cells of the target.
-fn widen_cells(source: &[NarrowCell], target: &mut [Cell])
-    requires { length source.now ≤ length target.old }
-    ensures { target.new ≡ over source.now target.old }
+// Puts what `convert` makes of each cell of the source into the first cells of the target.
+fn convert_cells<S: Copy, T: Copy, F: Fn(S) -> T>(source: &[S], target: &mut [T], convert: &F)
+    requires room { length source.now ≤ length target.old }
+    requires callable { All (F.pre convert.now) source.now }
+    ensures long { length target.new ≡ length target.old }
+    ensures converted { EachConverted (F.post convert.now) source.now target.new (length source.now) }
+    ensures behind { drop (length source.now) target.new ≡ drop (length source.now) target.old }
 {
     for i in 0..source.len() {
-        target[i] = Cell::from(source[i]);
-    }
-}
-
-// The same where each cell fits.
-fn narrow_cells(source: &[Cell], target: &mut [NarrowCell])
-    requires { (length source.now ≤ length target.old) × (fits_width narrow_values source.now ≡ true) }
-    ensures { target.new ≡ over source.now target.old }
-{
-    for i in 0..source.len() {
-        target[i] = source[i] as NarrowCell;
+        target[i] = convert(source[i]);
     }
 }
 
@@ -60,7 +53,7 @@ pub fn widen(source: &[NarrowCell], target: &mut [Cell]) -> Answer
     ensures { Converts cell_values source.now target.old (code_of_answer result) (line_of_answer result) (steps_of_answer result) (length_of_answer result) target.new }
 {
     let length = answer_length(source.len(), target.len())?;
-    widen_cells(source, target);
+    convert_cells(source, target, &|cell| Cell::from(cell));
     Ok(Given { steps: 0, length })
 }
 
@@ -68,6 +61,9 @@ pub fn widen(source: &[NarrowCell], target: &mut [Cell]) -> Answer
 pub fn narrow(source: &[Cell], target: &mut [NarrowCell]) -> Answer
     ensures { Converts narrow_values source.now target.old (code_of_answer result) (line_of_answer result) (steps_of_answer result) (length_of_answer result) target.new }
 {
+    let narrower = |cell: Cell|
+        requires { cell < narrow_values }
+    { cell as NarrowCell };
     let length = answer_length(source.len(), target.len())?;
     if !fits_narrow(source) {
         return Err(Unanswered::Declined {
@@ -75,6 +71,6 @@ pub fn narrow(source: &[Cell], target: &mut [NarrowCell]) -> Answer
             steps: 0,
         });
     }
-    narrow_cells(source, target);
+    convert_cells(source, target, &narrower);
     Ok(Given { steps: 0, length })
 }
