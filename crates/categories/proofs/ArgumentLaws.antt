@@ -29,8 +29,8 @@ use Rattle.categories.proofs.Strings.{ArgumentPost}
 use Rattle.categories.proofs.KindLaws.{finds_known, no_sizes}
 
 module _ {tb ts e : List ℕ} {scope : Scope} {w : List ℕ} {limit budget level wanted base count : ℕ} {starts : List ℕ} where
-  pub argument_none : {code extent rest : ℕ} → length e ≡ 0 → extent ≡ 0 → ArgumentPost tb ts e scope w limit budget level wanted base count starts w code extent rest
-  argument_none h z = record {
+  pub argument_none : {code rest : ℕ} → length e ≡ 0 → ArgumentPost tb ts e scope w limit budget level wanted base count starts w code 0 rest
+  argument_none h = record {
     frame = λ small. outside_same;
     within = omega arith;
     means = λ x B room A E. absurd (omega (arith, at_inside x E.at, cells_long x));

@@ -1,5 +1,5 @@
 -- The category of an application and of an abstraction, from what the functions below leave.
-use mathlib.Core.Path.{◌≡◌, sym, ◌∙◌}
+use mathlib.Core.Path.{◌≡◌}
 use mathlib.Core.Logic.{◌≢◌}
 use mathlib.Core.List.{List, ◌∷◌}
 use Prim.Native.Nat.{ℕ, ◌+◌, ◌*◌, ◌-◌, ◌≤◌, ◌<◌}
@@ -53,15 +53,13 @@ module _ {tb ts e : List ℕ} {scope : Scope} {w : List ℕ} {limit budget level
       let Y = function_in x y (function_start x y B E) E in
       (C.means y).spans B room Y (came _ z (function_found x y B room E) ((C.means y).finds B room Y))
 
-  pub application_refused : {code n whole rest : ℕ} → code₂ ≢ 0 → code ≡ code₂ → whole ≡ 0 → rest ≡ rest₂ → ApplicationPost tb ts e scope w limit budget level w₂ code n whole rest
-  application_refused {code} {n} {whole} {rest} g p s q = record {
+  pub application_refused : {n : ℕ} → code₂ ≢ 0 → ApplicationPost tb ts e scope w limit budget level w₂ code₂ n 0 rest₂
+  application_refused g = record {
     frame = λ small. frames (omega arith) (C.frame small) (F.frame small);
     within = omega arith;
     means = λ x y. record {
-      finds = λ {ls} {sc} B room E.
-          let r : Finds w₂ limit level code₂ n rest₂ (category68 ls limit sc (app x y) budget) = rw (application_clause ls limit sc budget x y) (then_refused _ g (function_found x y B room E)) in
-          rw (p, q) r;
-      spans = λ B room E z. absurd (g (sym p ∙ z));
+      finds = λ {ls} {sc} B room E. rw (application_clause ls limit sc budget x y) (then_refused _ g (function_found x y B room E));
+      spans = λ B room E z. absurd (g z);
     };
   }
 
@@ -105,15 +103,13 @@ module _ {tb ts e : List ℕ} {scope : Scope} {w : List ℕ} {limit budget level
       let X = domain_in_lem p t E in
       (C.means p).spans B room X (came _ z (domain_type p t B room E) ((C.means p).finds B room X))
 
-  pub abstraction_refused : {code n whole rest : ℕ} → code₂ ≢ 0 → code ≡ code₂ → whole ≡ 0 → rest ≡ rest₂ → AbstractionPost tb ts e scope w limit budget level w₁ code n whole rest
-  abstraction_refused {code} {n} {whole} {rest} g u s q = record {
+  pub abstraction_refused : {n : ℕ} → code₂ ≢ 0 → AbstractionPost tb ts e scope w limit budget level w₁ code₂ n 0 rest₂
+  abstraction_refused g = record {
     frame = C.frame;
     within = omega arith;
     means = λ p t. record {
-      finds = λ {ls} {sc} B room E.
-          let r : Finds w₁ limit level code₂ n rest₂ (category68 ls limit sc (abs p t) budget) = rw (abstraction_clause ls limit sc budget p t) (then_refused _ g (domain_type p t B room E)) in
-          rw (u, q) r;
-      spans = λ B room E z. absurd (g (sym u ∙ z));
+      finds = λ {ls} {sc} B room E. rw (abstraction_clause ls limit sc budget p t) (then_refused _ g (domain_type p t B room E));
+      spans = λ B room E z. absurd (g z);
     };
   }
 

@@ -45,8 +45,8 @@ no_sizes (cons x xs) h = absurd (omega arith)
 module _ {tb ts e : List ℕ} {scope : Scope} {w : List ℕ} {limit budget level : ℕ} where
   -- ---- what no known expression is
 
-  pub category_deep : {code n extent rest : ℕ} → nesting ≤ level → extent ≡ 0 → CategoryPost tb ts e scope w limit budget level w code n extent rest
-  category_deep h z = record {
+  pub category_deep : {code n rest : ℕ} → nesting ≤ level → CategoryPost tb ts e scope w limit budget level w code n 0 rest
+  category_deep h = record {
     frame = λ small. outside_same;
     within = omega arith;
     means = λ x. record {
@@ -55,8 +55,8 @@ module _ {tb ts e : List ℕ} {scope : Scope} {w : List ℕ} {limit budget level
     };
   }
 
-  pub category_empty : {code n extent rest : ℕ} → length e ≡ 0 → extent ≡ 0 → CategoryPost tb ts e scope w limit budget level w code n extent rest
-  category_empty h z = record {
+  pub category_empty : {code n rest : ℕ} → length e ≡ 0 → CategoryPost tb ts e scope w limit budget level w code n 0 rest
+  category_empty h = record {
     frame = λ small. outside_same;
     within = omega arith;
     means = λ x. record {

@@ -219,12 +219,11 @@ module _ {tb ts s : List ℕ} {scope : Scope} {w₀ : List ℕ} {limit budget le
     going = λ B room j c X. turn_more B room j c X z K Q;
   }
 
-  pub turns_stop : {code' extent rest' : ℕ} {starts' : List ℕ} → code ≢ 0 → code' ≡ code → extent ≡ 0 → rest' ≡ rest₁
-      → ArgumentsPost tb ts s scope w₀ limit budget level v w₁ code' extent starts' rest'
-  turns_stop g p z q = record {
+  pub turns_stop : {starts' : List ℕ} → code ≢ 0 → ArgumentsPost tb ts s scope w₀ limit budget level v w₁ code 0 starts' rest₁
+  turns_stop g = record {
     frame = turn_frame;
     within = omega arith;
-    means = λ B room j c X. rw (p, q) (turn_stops B room j c X g);
+    means = λ B room j c X. turn_stops B room j c X g;
   }
 
 join_none : (es fs : Exprs) → count_exprs fs ≡ 0 → join es fs ≡ es

@@ -43,32 +43,11 @@ arguments-fitted t c = (
 
 pub abstraction-returns-in_err-domain : goal.abstraction-returns-in_err-domain
 abstraction-returns-in_err-domain t c =
-    rw (passed_on _ _ c.from_residual.ensures.1) (abstraction_refused c.in_err-domain.ensures (type_refused (refusal_nonzero _)) (refusal_nonzero _) refl refl refl)
+    rw (passed_on _ _ c.from_residual.ensures.1) (abstraction_refused c.in_err-domain.ensures (type_refused (refusal_nonzero _)) (refusal_nonzero _))
 
 pub abstraction-returns-in_err-found_type : goal.abstraction-returns-in_err-found_type
 abstraction-returns-in_err-found_type t c =
-    rw (passed_on _ _ c.from_residual-in_err-found_type.ensures.1) (abstraction_refused c.in_ok-domain.ensures (c.in_err-found_type.ensures _ _) (refusal_nonzero _) refl refl refl)
-
-pub abstraction-overflow_add-t : goal.abstraction-overflow_add-t
-abstraction-overflow_add-t t c =
-    omega (arith, c.in_ok-domain.ensures.within, part_length c.args.e.now 1, c.well_formed, c.requires)
-
-pub abstraction-overflow_sub-start : goal.abstraction-overflow_sub-start
-abstraction-overflow_sub-start t c = omega (arith, c.requires)
-
-pub abstraction-overflow_add-start : goal.abstraction-overflow_add-start
-abstraction-overflow_add-start t c = omega (arith, c.requires)
-
-pub abstraction-offset_bounds-e-t : goal.abstraction-offset_bounds-e-t
-abstraction-offset_bounds-e-t t c =
-    omega (arith, c.requires, c.well_formed, c.in_ok-domain.ensures.within, part_length c.args.e.now 1)
-
-pub abstraction-slice_bounds-category-count-2 : goal.abstraction-slice_bounds-category-count-2
-abstraction-slice_bounds-category-count-2 t c = omega (arith, c.requires, c.in_ok-domain.ensures.within, part_length c.args.e.now 1)
-
-pub abstraction-over_binding-requires : goal.abstraction-over_binding-requires
-abstraction-over_binding-requires t c =
-    (omega (arith, c.requires), omega (arith, c.requires, c.in_ok-found.ensures.within, c.in_ok-domain.ensures.within, part_length c.args.e.now 1))
+    rw (passed_on _ _ c.from_residual-in_err-found_type.ensures.1) (abstraction_refused c.in_ok-domain.ensures (c.in_err-found_type.ensures _ _) (refusal_nonzero _))
 
 pub abstraction-returns-in_err-found : goal.abstraction-returns-in_err-found
 abstraction-returns-in_err-found t c =
@@ -80,47 +59,18 @@ abstraction-returns t c =
     abstraction_made c.in_ok-domain.ensures (c.in_ok-found_type.ensures _ _) c.requires.1 refl
     refl refl c.bind-inner.ensures c.in_ok-found.ensures (c.over_binding.ensures _)
 
-pub application-offset_bounds-e-b : goal.application-offset_bounds-e-b
-application-offset_bounds-e-b t c =
-    omega (arith, c.requires, c.skip-b.ensures.within c.requires.1)
-
-pub application-slice_bounds-category-count : goal.application-slice_bounds-category-count
-application-slice_bounds-category-count t c =
-    omega (arith, c.requires, c.skip-b.ensures.within c.requires.1)
-
-pub application-category-requires : goal.application-category-requires
-application-category-requires t c =
-    (omega (arith, c.requires, c.skip-b.ensures.within c.requires.1), omega (arith, c.requires, c.skip-b.ensures.within c.requires.1))
-
 pub application-returns-in_err-found : goal.application-returns-in_err-found
 application-returns-in_err-found t c =
-    rw (passed_on _ _ c.from_residual.ensures.1) (application_refused c.requires.1 c.skip-b.ensures c.in_err-found.ensures (function_refused {domain = 0} {body = 0} (refusal_nonzero _)) (refusal_nonzero _) refl refl refl)
+    rw (passed_on _ _ c.from_residual.ensures.1) (application_refused c.requires.1 c.skip-b.ensures c.in_err-found.ensures (function_refused {domain = 0} {body = 0} (refusal_nonzero _)) (refusal_nonzero _))
 
 pub application-returns-in_err-function : goal.application-returns-in_err-function
 application-returns-in_err-function t c =
-    rw (passed_on _ _ c.from_residual-in_err-function.ensures.1) (application_refused c.requires.1 c.skip-b.ensures c.in_ok-found.ensures c.in_err-function.ensures (refusal_nonzero _) refl refl refl)
+    rw (passed_on _ _ c.from_residual-in_err-function.ensures.1) (application_refused c.requires.1 c.skip-b.ensures c.in_ok-found.ensures c.in_err-function.ensures (refusal_nonzero _))
 
 pub application-returns-in_err-category : goal.application-returns-in_err-category
 application-returns-in_err-category t c =
     rw (passed_on _ _ c.from_residual-in_err-category.ensures.1) (application_made c.requires.1 c.skip-b.ensures c.in_ok-found.ensures c.in_ok-function.ensures (omega (arith, c.requires))
     refl c.in_err-category.ensures (applied_refused (refusal_nonzero _) refl refl refl))
-
-pub application-slice_bounds-category-count-2 : goal.application-slice_bounds-category-count-2
-application-slice_bounds-category-count-2 t c = omega (arith, c.requires)
-
-pub application-overflow_add-level : goal.application-overflow_add-level
-application-overflow_add-level t c = omega (arith, c.requires)
-
-pub application-category-requires-2 : goal.application-category-requires-2
-application-category-requires-2 t c =
-    (omega (arith, c.requires), omega (arith, c.requires))
-
-pub application-applied-requires : goal.application-applied-requires
-application-applied-requires t c = (
-  omega (arith, c.requires),
-  omega (arith, c.requires, c.skip-b.ensures.within c.requires.1),
-  omega (arith, c.requires, c.skip-b.ensures.within c.requires.1, c.in_ok-found.ensures.within),
-)
 
 pub application-returns : goal.application-returns
 application-returns t c =
@@ -131,56 +81,30 @@ pub arguments-loop-i-init : goal.arguments-loop-i-init
 arguments-loop-i-init t c =
     (omega arith, turns_start c.requires.2 c.requires.3, refl)
 
-pub arguments-context_variable-line-requires : goal.arguments-context_variable-line-requires
-arguments-context_variable-line-requires t c = omega (arith, c.field-count.ensures.1, c.loop-i-test.true)
-
 pub arguments-returns-in_default : goal.arguments-returns-in_default
 arguments-returns-in_default t c =
     turns_stop c.requires.1 c.loop-i.invariant.1 c.field-count.ensures.0 c.loop-i-test.true c.context_of.ensures
     c.context_variable-line.ensures (λ h. c.level_at-base.ensures h (omega (arith, c.requires)))
-    (argument_none (omega (arith, part_length c.args.s.now c.loop-i.at, c.in_default.ensures.lookup.3)) refl) (code_nonzero _)
-    refl refl refl
-
-pub arguments-stored_fits-requires : goal.arguments-stored_fits-requires
-arguments-stored_fits-requires t c =
-    omega (arith, c.requires)
-
-pub arguments-overflow_add-level : goal.arguments-overflow_add-level
-arguments-overflow_add-level t c = omega (arith, c.requires)
-
-pub arguments-category-requires : goal.arguments-category-requires
-arguments-category-requires t c =
-    (omega (arith, c.requires, c.loop-i.invariant), omega (arith, c.requires, c.loop-i.invariant))
-
-pub arguments-argument_fits-requires : goal.arguments-argument_fits-requires
-arguments-argument_fits-requires t c =
-    omega (arith, c.requires)
+    (argument_none (omega (arith, part_length c.args.s.now c.loop-i.at, c.in_default.ensures.lookup.3))) (code_nonzero _)
 
 pub arguments-returns-in_err-stored_fits : goal.arguments-returns-in_err-stored_fits
 arguments-returns-in_err-stored_fits t c =
     rw (passed_on _ _ c.from_residual.ensures.1) (turns_stop c.requires.1 c.loop-i.invariant.1 c.field-count.ensures.0 c.loop-i-test.true c.context_of.ensures
     c.context_variable-line.ensures (λ h. c.level_at-base.ensures h (omega (arith, c.requires)))
     (argument_stored c.in_err-stored_fits.ensures (omega (arith, part_length c.args.s.now c.loop-i.at, c.in-Some.ensures.lookup.3.0))
-    (c.in-Some.ensures.lookup.3.1 0 ∙ sym (part_first c.args.s.now c.loop-i.at)) refl c.is_stored.ensures c.if-is_stored.true) (refusal_nonzero _) refl refl refl)
+    (c.in-Some.ensures.lookup.3.1 0 ∙ sym (part_first c.args.s.now c.loop-i.at)) refl c.is_stored.ensures c.if-is_stored.true) (refusal_nonzero _))
 
 pub arguments-returns-in_err-found : goal.arguments-returns-in_err-found
 arguments-returns-in_err-found t c =
     rw (passed_on _ _ c.from_residual-in_err-found.ensures.1) (turns_stop c.requires.1 c.loop-i.invariant.1 c.field-count.ensures.0 c.loop-i-test.true c.context_of.ensures
     c.context_variable-line.ensures (λ h. c.level_at-base.ensures h (omega (arith, c.requires)))
-    (argument_other c.in_err-found.ensures (fits_refused (refusal_nonzero _))) (refusal_nonzero _) refl refl refl)
+    (argument_other c.in_err-found.ensures (fits_refused (refusal_nonzero _))) (refusal_nonzero _))
 
 pub arguments-returns-in_err-argument_fits : goal.arguments-returns-in_err-argument_fits
 arguments-returns-in_err-argument_fits t c =
     rw (passed_on _ _ c.from_residual-in_err-argument_fits.ensures.1) (turns_stop c.requires.1 c.loop-i.invariant.1 c.field-count.ensures.0 c.loop-i-test.true c.context_of.ensures
     c.context_variable-line.ensures (λ h. c.level_at-base.ensures h (omega (arith, c.requires)))
-    (argument_other c.in_ok-found.ensures c.in_err-argument_fits.ensures) (refusal_nonzero _) refl refl refl)
-
-pub arguments-keep_argument-requires : goal.arguments-keep_argument-requires
-arguments-keep_argument-requires t c = omega (arith, c.loop-i.invariant)
-
-pub arguments-overflow_add-at : goal.arguments-overflow_add-at
-arguments-overflow_add-at t c =
-    omega (arith, (arguments-fitted t (goal.at.arguments-overflow_add-at t c).Joined-is_stored).0.within, part_length c.args.s.now c.loop-i.at, c.loop-i.invariant, c.well_formed.1.1)
+    (argument_other c.in_ok-found.ensures c.in_err-argument_fits.ensures) (refusal_nonzero _))
 
 pub arguments-loop-i-preserved : goal.arguments-loop-i-preserved
 arguments-loop-i-preserved t c = (
@@ -195,35 +119,14 @@ pub arguments-returns : goal.arguments-returns
 arguments-returns t c = turns_end c.field-count.ensures.0 (omega arith) (omega arith) c.loop-i.invariant.0 c.loop-i.invariant.1
 
 pub category-returns-then-level-ge-NESTING : goal.category-returns-then-level-ge-NESTING
-category-returns-then-level-ge-NESTING t c = category_deep c.if-level-ge-NESTING.true refl
+category-returns-then-level-ge-NESTING t c = category_deep c.if-level-ge-NESTING.true
 
 pub category-returns-then-is_empty : goal.category-returns-then-is_empty
-category-returns-then-is_empty t c = category_empty (eqb-true _ _ (sym c.if-is_empty.ensures)) refl
-
-pub category-stored-requires : goal.category-stored-requires
-category-stored-requires t c = omega (arith, c.if-level-ge-NESTING.false)
-
-pub category-bound-requires : goal.category-bound-requires
-category-bound-requires t c = omega (arith, c.if-level-ge-NESTING.false)
+category-returns-then-is_empty t c = category_empty (eqb-true _ _ (sym c.if-is_empty.ensures))
 
 pub category-returns-in-3 : goal.category-returns-in-3
 category-returns-in-3 t c =
     by_alone (omega (arith, eqb-false _ _ (sym c.if-is_empty.ensures))) c.in-3.is refl (sym c.field.ensures.0 ∙ c.if-field-eq0.true) (c.stored-in-3.ensures _)
-
-pub category-arguments-requires : goal.category-arguments-requires
-category-arguments-requires t c =
-    let some = eqb-false _ _ (sym c.if-is_empty.ensures) in
-    (omega (arith, some), (omega (arith, some), omega arith, refl, refl))
-
-pub category-constant-requires : goal.category-constant-requires
-category-constant-requires t c =
-    (omega (arith, c.if-level-ge-NESTING.false), omega (arith, c.in_ok-extent-in-3-2.ensures.within, c.well_formed))
-
-pub category-application-requires : goal.category-application-requires
-category-application-requires t c = (omega arith, (omega arith, omega (arith, eqb-false _ _ (sym c.if-is_empty.ensures)), omega arith))
-
-pub category-abstraction-requires : goal.category-abstraction-requires
-category-abstraction-requires t c = (omega arith, (omega arith, omega (arith, eqb-false _ _ (sym c.if-is_empty.ensures)), omega arith))
 
 pub category-returns-in-1 : goal.category-returns-in-1
 category-returns-in-1 t c =
