@@ -2,12 +2,11 @@
 // standard error, as the listing has them.
 #![tactic(auto)]
 
-use columns::{ROW, put_outcome};
+use columns::OutcomeRow;
 use constants::{Cell, OUT_OF_SPACE, PAGE_ROW, ROW_WIDTH, TEXT_COLUMNS, WORK_UNITS};
 use outcomes::{AnswerNumbers, Numbers};
 use programs::{BUDGET, BYTES, INDEX, LIMIT, LINES, TERMS, fail, read_book, write_first};
 use std::io;
-use std::io::Write;
 
 // Room for the pages of every book of so many bytes and lines.
 const PAGE: usize = PAGE_ROW * (LINES + BYTES / TEXT_COLUMNS);
@@ -36,43 +35,24 @@ fn print(book: &[u8], page: &mut [u8]) -> AnswerNumbers {
         &mut index,
         page,
     );
-    verifier::answer_numbers(a)
-}
-
-// Code, line and steps on standard error.
-fn refuse<W: Write>(to: &mut W, a: AnswerNumbers) -> io::Result<()> {
-    let mut out = [0u8; ROW];
-    let r = Numbers {
-        code: a.code,
-        line: a.line,
-        steps: a.steps,
-    };
-    let n = put_outcome(&mut out, 0, r);
-    write_first(to, &out, n)
-}
-
-// The pages on standard output; of a book that is refused, code, line and steps on standard error.
-fn write_answer<O: Write, E: Write>(
-    out: &mut O,
-    err: &mut E,
-    a: AnswerNumbers,
-    page: &[u8],
-) -> io::Result<()> {
-    if a.code != 0 {
-        return refuse(err, a);
-    }
-    let length = a.length as usize;
-    write_first(out, page, length)
+    AnswerNumbers::from(a)
 }
 
 fn main(rt: HostRuntime) -> io::Result<()> {
     let mut book = [0u8; BYTES + 1];
-    let r = read_book(&mut rt.stdin(), &mut book);
-    if let Some(e) = r.failed {
-        return fail(&rt, "reading the book", e);
-    }
-    let n = r.bytes;
+    let n = match read_book(&mut rt.stdin(), &mut book) {
+        Ok(n) => n,
+        Err(cut) => return fail(&rt, "reading the book", cut.error),
+    };
     let mut page = [0u8; PAGE];
     let a = print(&book[..n], &mut page);
-    write_answer(&mut rt.stdout(), &mut rt.stderr(), a, &page)
+    if a.code != 0 {
+        let r = Numbers {
+            code: a.code,
+            line: a.line,
+            steps: a.steps,
+        };
+        return eprintln!(rt; "{}", OutcomeRow(r));
+    }
+    write_first(&mut rt.stdout(), &page, a.length as usize)
 }
