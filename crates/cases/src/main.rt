@@ -5,13 +5,13 @@
 #![tactic(auto)]
 
 use constants::{Cell, LARGEST_LIMIT, ROW_WIDTH, WORK_UNITS};
-use outcomes::recorded;
-use programs::{argument_count, read_book};
-use reports::header::Header;
-use reports::{arguments, header, report};
+use outcomes::{AnswerNumbers, Numbers, recorded};
+use programs::read_book;
+use reports::header::{Header, Question, Scanner};
+use reports::stores::{Kept, Stores};
+use reports::{arguments, report};
 use std::io;
 use std::io::{Read, Write};
-use std::rt::{Env, Files};
 
 // How many books are listed.
 const LISTED: usize = 3;
@@ -37,32 +37,35 @@ fn report_stores<W: Write>(
     h: Header,
     n: u32,
     book: &[u8],
-    table: &[u32],
-    terms: &[Cell],
-    work: &[Cell],
-    index: &[u32],
+    kept: Kept<'_>,
 ) -> io::Result<()> {
-    let shown = report::least(n, h.last);
-    report::rows(out, book, table, terms, shown)?;
-    report::entries(out, index, n, shown)?;
-    report::other_names(out, book, table, n)?;
-    report::other_cells(out, table, terms, work, n, h.limit)
+    let shown = n.min(h.last);
+    report::rows(out, book, kept, shown)?;
+    report::entries(out, kept, n, shown)?;
+    report::other_names(out, book, kept, n)?;
+    report::other_cells(out, kept, n, h.limit)
 }
 
 // Checks the book and reports.
-fn check<W: Write>(
-    out: &mut W,
-    h: Header,
-    book: &[u8],
-    table: &mut [u32],
-    terms: &mut [Cell],
-    work: &mut [Cell],
-    index: &mut [u32],
-) -> io::Result<()> {
+fn check<W: Write>(out: &mut W, h: Header, book: &[u8], stores: Stores<'_>) -> io::Result<()> {
+    let Stores {
+        table,
+        terms,
+        work,
+        index,
+    } = stores;
     let o = verifier::check_book(book, h.budget, h.limit, table, terms, work, index);
-    let r = verifier::numbers_of(o);
+    let r = Numbers::from(o);
+    let kept = Kept {
+        table,
+        terms,
+        work,
+        index,
+    };
     report::outcome(out, r)?;
-    report_stores(out, h, recorded(r), book, table, terms, work, index)
+    // Kept: `?` and `Ok`. As the last expression this call, over what moved out of a parameter, has no generated proof.
+    report_stores(out, h, recorded(r), book, kept)?;
+    Ok(())
 }
 
 // Asks what a line rests on, and reports.
@@ -71,150 +74,87 @@ fn ask<W: Write>(
     h: Header,
     line: u32,
     book: &[u8],
-    table: &mut [u32],
-    terms: &mut [Cell],
-    work: &mut [Cell],
-    index: &mut [u32],
+    stores: Stores<'_>,
     answer: &mut [u32],
 ) -> io::Result<()> {
-    let a = verifier::rests_on(
-        book, h.budget, h.limit, table, terms, work, index, line, answer,
-    );
-    let r = verifier::answer_numbers(a);
-    report::answer(out, r, answer)?;
-    report_stores(
-        out,
-        h,
-        report::admitted(r, book),
-        book,
+    let Stores {
         table,
         terms,
         work,
         index,
-    )
+    } = stores;
+    let a = verifier::rests_on(
+        book, h.budget, h.limit, table, terms, work, index, line, answer,
+    );
+    let r = AnswerNumbers::from(a);
+    let kept = Kept {
+        table,
+        terms,
+        work,
+        index,
+    };
+    report::answer(out, r, answer)?;
+    // Kept: `?` and `Ok`. As the last expression this call, over what moved out of a parameter, has no generated proof.
+    report_stores(out, h, report::admitted(r, book), book, kept)?;
+    Ok(())
 }
 
-// One of the two calls.
+// One call on the book: the question, or the check where there is none. Its stores are as large as the header gives.
 fn call<W: Write>(
     out: &mut W,
-    asks: bool,
     h: Header,
-    line: u32,
     book: &[u8],
-    table: &mut [u32],
-    terms: &mut [Cell],
-    work: &mut [Cell],
-    index: &mut [u32],
-    answer: &mut [u32],
+    question: Option<Question>,
 ) -> io::Result<()> {
-    if asks {
-        ask(out, h, line, book, table, terms, work, index, answer)
-    } else {
-        check(out, h, book, table, terms, work, index)
-    }
-}
-
-// One of the two calls of a case, with the first cells of these stores, as many as its header gives.
-fn case_of<W: Write>(
-    out: &mut W,
-    asks: bool,
-    text: &[u8],
-    table: &mut [u32],
-    terms: &mut [Cell],
-    work: &mut [Cell],
-    index: &mut [u32],
-    answer: &mut [u32],
-) -> io::Result<()> {
-    let h = header::read(text);
-    let q = header::asked(text, h.next);
-    let start = q.start;
-    let rows = h.table;
-    let cells = h.terms;
-    let room = h.work;
-    let entries = h.index;
-    let list = q.room;
-    if start > text.len() {
-        return Ok(());
-    }
-    if rows > table.len() {
-        return Ok(());
-    }
-    if cells > terms.len() {
-        return Ok(());
-    }
-    if room > work.len() {
-        return Ok(());
-    }
-    if entries > index.len() {
-        return Ok(());
-    }
-    if list > answer.len() {
-        return Ok(());
-    }
-    call(
-        out,
-        asks,
-        h,
-        q.line,
-        &text[start..],
-        &mut table[..rows],
-        &mut terms[..cells],
-        &mut work[..room],
-        &mut index[..entries],
-        &mut answer[..list],
-    )
-}
-
-// The case in these bytes.
-fn run<W: Write>(out: &mut W, asks: bool, text: &[u8]) -> io::Result<()> {
     let mut table = [7u32; TABLE];
     let mut terms: [Cell; TERMS] = [7; TERMS];
     let mut work: [Cell; WORK] = [7; WORK];
     let mut index = [7u32; INDEX];
     let mut answer = [7u32; ANSWER];
-    case_of(
-        out,
-        asks,
-        text,
-        &mut table,
-        &mut terms,
-        &mut work,
-        &mut index,
-        &mut answer,
-    )
+    let all = Stores {
+        table: &mut table,
+        terms: &mut terms,
+        work: &mut work,
+        index: &mut index,
+    };
+    let Some(stores) = all.first(h.sizes) else {
+        return Ok(());
+    };
+    match question {
+        None => check(out, h, book, stores),
+        Some(q) => {
+            let answer = &mut answer[..q.room.min(ANSWER)];
+            ask(out, h, q.line, book, stores, answer)
+        }
+    }
 }
 
-// The case in an open file.
+// The case in an open file: the check of its book, then the question.
 fn case_in<R: Read, W: Write>(from: &mut R, out: &mut W) -> io::Result<()> {
     let mut text = [0u8; TEXT];
-    let n = read_book(from, &mut text).bytes;
-    run(out, false, &text[..n])?;
-    let h = header::read(&text[..n]);
-    let q = header::asked(&text[..n], h.next);
-    if q.asks {
-        run(out, true, &text[..n])?;
+    let n = read_book(from, &mut text).unwrap_or_else(|cut| cut.bytes);
+    let mut numbers = Scanner::new(&text[..n]);
+    let h = Header::read(&mut numbers);
+    let book = numbers.rest;
+    if h.question.is_some_and(|q| q.room > ANSWER) {
+        return Ok(());
+    }
+    call(out, h, book, None)?;
+    if h.question.is_some() {
+        call(out, h, book, h.question)?;
     }
     Ok(())
 }
 
 // The book or the case in the file that argument i names.
-fn argument<R: Env + Files + Print + Eprint>(rt: &R, i: usize) -> io::Result<()> {
-    let Some(mut file) = arguments::open(rt, i)? else {
-        return Ok(());
-    };
+fn argument<R: Print + Eprint, F: Read>(rt: &R, i: usize, file: &mut F) -> io::Result<()> {
     let mut out = io::writer(rt);
     if i > LISTED {
-        return case_in(&mut file, &mut out);
+        return case_in(file, &mut out);
     }
-    listing::list_book(rt, &mut file, &mut out)
+    listing::list_book(rt, file, &mut out)
 }
 
 fn main(rt: HostRuntime) -> io::Result<()> {
-    let n = argument_count(&rt);
-    let mut i = 1;
-    while i < n {
-        argument(&rt, i)?;
-        i = i + 1;
-    }
-    Ok(())
+    arguments::each(&rt, |i, mut file| argument(&rt, i, &mut file))
 }

@@ -1,5 +1,5 @@
 // The files that arguments name.
-use programs::fail;
+use programs::{argument_count, fail};
 use std::env::FillError;
 use std::rt::{Env, Files};
 use std::{fs, io, str};
@@ -8,7 +8,7 @@ use std::{fs, io, str};
 const PATH: usize = 4096;
 
 // Writes argument i, and opens the file that it names. None: it cannot be opened, and standard error says why.
-pub fn open<R: Env + Files + Print + Eprint>(rt: &R, i: usize) -> io::Result<Option<R::File>> {
+fn open<R: Env + Files + Print + Eprint>(rt: &R, i: usize) -> io::Result<Option<R::File>> {
     let mut path = [0u8; PATH];
     let n = match rt.arg(i, &mut path) {
         Ok(n) => n,
@@ -29,4 +29,19 @@ pub fn open<R: Env + Files + Print + Eprint>(rt: &R, i: usize) -> io::Result<Opt
             Ok(None)
         }
     }
+}
+
+// Runs `case` on each argument's index and the file that it names, in their order; a file that cannot be opened is passed over.
+pub fn each<R: Env + Files + Print + Eprint, F: FnMut(usize, R::File) -> io::Result<()>>(
+    rt: &R,
+    mut case: F,
+) -> io::Result<()>
+    requires { F.IsAlwaysCallable case }
+{
+    for i in 1..argument_count(rt) {
+        if let Some(file) = open(rt, i)? {
+            case(i, file)?;
+        }
+    }
+    Ok(())
 }

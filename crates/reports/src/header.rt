@@ -1,141 +1,107 @@
 // The header of a case: decimal numbers, each ended by one byte that is no digit. There are seven, and two more, a question, where the
 // seventh is ended by a space.
 
-ghost use Rattle.std.specs.Prelude.{◌≤◌};
+// The numbers of a text, read from its front. last: the byte before those that are left.
+#[derive(Clone, Copy)]
+pub struct Scanner<'a> {
+    pub rest: &'a [u8],
+    last: Option<u8>,
+}
 
-// budget, limit: of the check. table, terms, work, index: cells of the four stores. last: the seventh number, which each test program has
-// for itself. next: the index behind it.
+impl<'a> Scanner<'a> {
+    pub fn new(text: &'a [u8]) -> Scanner<'a> {
+        Scanner {
+            rest: text,
+            last: None,
+        }
+    }
+
+    // The next number: its first ten digits, leading zeros aside; 0 where no text is left.
+    pub fn number(&mut self) -> u64 {
+        let mut value = 0;
+        while let Some((&b, rest)) = self.rest.split_first() {
+            self.rest = rest;
+            self.last = Some(b);
+            if !b.is_ascii_digit() || value > 999_999_999 {
+                break;
+            }
+            value = 10 * value + u64::from(b - b'0');
+        }
+        value
+    }
+
+    // The next number, if it is below 2^32; 2^32 - 1 for a larger one.
+    pub fn narrow(&mut self) -> u32 {
+        u32::try_from(self.number()).unwrap_or(u32::MAX)
+    }
+
+    // The next number as a length.
+    pub fn length(&mut self) -> usize {
+        self.number() as usize
+    }
+
+    // The next numbers, one for each cell.
+    pub fn fill(&mut self, cells: &mut [u32]) {
+        for cell in cells {
+            *cell = self.narrow();
+        }
+    }
+
+    fn is_behind_space(&self) -> bool {
+        self.last == Some(b' ')
+    }
+}
+
+// budget, limit: of the check. sizes: the cells of the stores. last: the seventh number, which each test program has for itself.
 #[derive(Clone, Copy)]
 pub struct Header {
     pub budget: u32,
     pub limit: u32,
+    pub sizes: Sizes,
+    pub last: u32,
+    pub question: Option<Question>,
+}
+
+#[derive(Clone, Copy)]
+pub struct Sizes {
     pub table: usize,
     pub terms: usize,
     pub work: usize,
     pub index: usize,
-    pub last: u32,
-    pub next: usize,
 }
 
-// asks: it is asked what `line` rests on, with `room` cells for the answer. start: where the book begins.
+// It is asked what `line` rests on, with `room` cells for the answer.
 #[derive(Clone, Copy)]
 pub struct Question {
-    pub asks: bool,
     pub line: u32,
     pub room: usize,
-    pub start: usize,
 }
 
-// A number, and the index behind the byte that ends it.
-#[derive(Clone, Copy)]
-pub struct Scanned {
-    pub value: u64,
-    pub next: usize,
-}
-
-// The value of a digit; 0 for any other byte.
-fn digit(b: u8) -> u64
-    ensures { result ≤ 9 }
-{
-    if b < 48 {
-        return 0;
-    }
-    if b > 57 {
-        return 0;
-    }
-    (b - 48) as u64
-}
-
-// The number that starts at index `at` of the text: its first ten digits.
-pub fn number(text: &[u8], at: usize) -> Scanned {
-    let mut value: u64 = 0;
-    let mut i = at;
-    while i < text.len() {
-        let b = text[i];
-        i = i + 1;
-        if b < 48 {
-            return Scanned {
-                value: value,
-                next: i,
-            };
+impl Header {
+    pub fn read(numbers: &mut Scanner<'_>) -> Header {
+        Header {
+            budget: numbers.narrow(),
+            limit: numbers.narrow(),
+            sizes: Sizes {
+                table: numbers.length(),
+                terms: numbers.length(),
+                work: numbers.length(),
+                index: numbers.length(),
+            },
+            last: numbers.narrow(),
+            question: Question::read(numbers),
         }
-        if b > 57 {
-            return Scanned {
-                value: value,
-                next: i,
-            };
+    }
+}
+
+impl Question {
+    fn read(numbers: &mut Scanner<'_>) -> Option<Question> {
+        if !numbers.is_behind_space() {
+            return None;
         }
-        if value > 999999999 {
-            return Scanned {
-                value: value,
-                next: i,
-            };
-        }
-        value = 10 * value + digit(b);
-    }
-    Scanned {
-        value: value,
-        next: i,
-    }
-}
-
-// A number below 2^32; 2^32 - 1 for a larger one.
-pub fn narrow(x: u64) -> u32 {
-    if x > 4294967295 {
-        return 4294967295;
-    }
-    x as u32
-}
-
-// Is the byte ahead of index `at` a space?
-fn behind_space(text: &[u8], at: usize) -> bool {
-    if at == 0 {
-        return false;
-    }
-    if at > text.len() {
-        return false;
-    }
-    text[at - 1] == b' '
-}
-
-// The seven numbers.
-pub fn read(text: &[u8]) -> Header {
-    let budget = number(text, 0);
-    let limit = number(text, budget.next);
-    let table = number(text, limit.next);
-    let terms = number(text, table.next);
-    let work = number(text, terms.next);
-    let index = number(text, work.next);
-    let last = number(text, index.next);
-    Header {
-        budget: narrow(budget.value),
-        limit: narrow(limit.value),
-        table: table.value as usize,
-        terms: terms.value as usize,
-        work: work.value as usize,
-        index: index.value as usize,
-        last: narrow(last.value),
-        next: last.next,
-    }
-}
-
-// The question at index `at`, which is behind the seventh number.
-pub fn asked(text: &[u8], at: usize) -> Question {
-    let asks = behind_space(text, at);
-    let mut line: u64 = 0;
-    let mut room: u64 = 0;
-    let mut start = at;
-    if asks {
-        let v = number(text, start);
-        let cells = number(text, v.next);
-        line = v.value;
-        room = cells.value;
-        start = cells.next;
-    }
-    Question {
-        asks: asks,
-        line: narrow(line),
-        room: room as usize,
-        start: start,
+        Some(Question {
+            line: numbers.narrow(),
+            room: numbers.length(),
+        })
     }
 }
