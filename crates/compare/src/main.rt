@@ -5,21 +5,20 @@
 // else.
 #![tactic(auto)]
 
-ghost use Rattle.std.specs.Prelude.{◌≤◌, length};
+ghost use Rattle.std.specs.Prelude.{◌≤◌, IfOk, length};
 
 use books::check_linked;
 use cells::line_at;
-use columns::{ROW, put_number, put_outcome};
-use constants::{Cell, DUPLICATE, OUT_OF_SPACE, ROW_WIDTH, TOO_LARGE, WORK_UNITS};
+use columns::OutcomeRow;
+use constants::{Cell, ROW_WIDTH, Reason, WORK_UNITS};
 use copies::load;
 use kinds::kinds_of_bytes;
-use outcomes::Numbers;
-use programs::{
-    BUDGET, BYTES, INDEX, LIMIT, LINES, TERMS, argument_count, fail, read_book, write_first,
-};
-use reader::{Line, read_line};
+use outcomes::{AnswerNumbers, Numbers};
+use programs::{BUDGET, BYTES, INDEX, LIMIT, LINES, TERMS, argument_count, fail, read_book};
+use reader::read_line;
 use std::env::FillError;
 use std::io;
+use std::io::Write;
 use std::rt::Env;
 
 // The most bytes of an argument.
@@ -41,10 +40,7 @@ const LAST: usize = EXPRESSION + TEXT;
 const LINE: usize = LAST + 1;
 
 // The signs of the line.
-fn put_signs(line: &mut [u8]) {
-    if line.len() < LINE {
-        return;
-    }
+fn put_signs(line: &mut [u8; LINE]) {
     line[STAR..EXPRESSION].copy_from_slice(b"*     0:=PN:");
     line[LAST] = b'\n';
 }
@@ -55,64 +51,47 @@ fn put_argument<E: Env>(rt: &E, i: usize, text: &mut [u8]) {
 }
 
 // The texts of the line for argument i: its indicator and its expression.
-fn put_texts<E: Env>(rt: &E, line: &mut [u8], i: usize) {
-    if line.len() < LINE {
-        return;
-    }
+fn put_texts<E: Env>(rt: &E, line: &mut [u8; LINE], i: usize) {
     put_argument(rt, 3, &mut line[INDICATOR..STAR]);
     put_argument(rt, i, &mut line[EXPRESSION..LAST]);
+}
+
+// The line as it is read behind the book, with x for its identifier: how many cells it has, or why it is refused.
+fn read_as(
+    line: &mut [u8; LINE],
+    x: usize,
+    kinds: &[u8; 256],
+    book: &[u8],
+    table: &[u32],
+    lines: usize,
+    work: &mut [Cell],
+) -> Result<usize, Reason> {
+    let mut number = &mut line[NUMBER..NUMBER + NUMBER_WIDTH];
+    let _ = write!(number, "{x:>6}");
+    let l = read_line(line, kinds, book, table, lines, work, LIMIT)?;
+    Ok(l.size)
 }
 
 // The line as it is read behind the book, with the first number for its identifier that no line and no paragraph has. A book of BYTES bytes
 // has fewer of them.
 fn read_numbered(
-    line: &mut [u8],
+    line: &mut [u8; LINE],
     book: &[u8],
     table: &[u32],
     lines: usize,
     work: &mut [Cell],
-) -> Line {
+) -> Result<usize, Reason> {
     let kinds = kinds_of_bytes();
-    let mut x = 0;
-    loop {
-        put_number(line, NUMBER, NUMBER_WIDTH, x);
-        let l = read_line(line, &kinds, book, table, lines, work, LIMIT);
-        if l.code != DUPLICATE {
-            return l;
+    for x in 0..BYTES {
+        let r = read_as(line, x, &kinds, book, table, lines, work);
+        if r != Err(Reason::Duplicate) {
+            return r;
         }
-        if x >= BYTES {
-            return l;
-        }
-        x = x + 1;
     }
+    read_as(line, BYTES, &kinds, book, table, lines, work)
 }
 
-// An expression that was read: 0 and how many cells it has, or the code of its refusal.
-#[derive(Clone, Copy)]
-struct Read {
-    code: u32,
-    size: usize,
-}
-
-// The cells of the line that was read, at the start of `string`.
-fn store(l: Line, work: &[Cell], string: &mut [Cell]) -> Read
-    ensures { result.size ≤ length string.new }
-{
-    let size = l.size;
-    if size > string.len() {
-        return Read {
-            code: TOO_LARGE,
-            size: 0,
-        };
-    }
-    load(work, line_at(LIMIT), size, string, 0);
-    Read {
-        code: l.code,
-        size: size,
-    }
-}
-
-// The expression that is argument i, its cells at the start of `string`.
+// The expression that is argument i, its cells at the start of `string`: how many they are, or why it is refused.
 fn read_argument<E: Env>(
     rt: &E,
     i: usize,
@@ -121,14 +100,18 @@ fn read_argument<E: Env>(
     lines: usize,
     work: &mut [Cell],
     string: &mut [Cell],
-) -> Read
-    ensures { result.size ≤ length string.new }
+) -> Result<usize, Reason>
+    ensures { IfOk result (λ size. size ≤ length string.new) }
 {
     let mut line = [b' '; LINE];
     put_signs(&mut line);
     put_texts(rt, &mut line, i);
-    let l = read_numbered(&mut line, book, table, lines, work);
-    store(l, work, string)
+    let size = read_numbered(&mut line, book, table, lines, work)?;
+    if size > string.len() {
+        return Err(Reason::TooLarge);
+    }
+    load(work, line_at(LIMIT), size, string, 0);
+    Ok(size)
 }
 
 // What the comparison of two strings ends with. A refusal of the book is passed on.
@@ -149,7 +132,7 @@ fn compare_strings(book: &[u8], left: &[Cell], right: &[Cell]) -> Numbers {
         right,
         BUDGET,
     );
-    let r = verifier::answer_numbers(a);
+    let r = AnswerNumbers::from(a);
     Numbers {
         code: r.code,
         line: r.line,
@@ -157,53 +140,36 @@ fn compare_strings(book: &[u8], left: &[Cell], right: &[Cell]) -> Numbers {
     }
 }
 
-// The line that is i behind so many lines.
-fn line_behind(lines: usize, i: usize) -> u32 {
-    if lines > LINES {
-        return 0;
-    }
-    if i > 2 {
-        return 0;
-    }
-    (lines + i) as u32
-}
-
-// An expression is refused at the line that is i behind so many lines.
-fn refused(code: u32, lines: usize, i: usize) -> Numbers {
+// An expression is refused at the line that is i behind so many lines; a book has at most LINES of them.
+fn refused(reason: Reason, lines: usize, i: usize) -> Numbers {
     Numbers {
-        code: code,
-        line: line_behind(lines, i),
+        code: u32::from(reason),
+        line: u32::try_from(lines.saturating_add(i)).unwrap_or(0),
         steps: 0,
     }
 }
 
-// What the comparison of the expressions ends with, over a book of so many lines.
+// What the comparison of the expressions ends with, over a book of so many lines; the error is that of an expression.
 fn compare_behind<E: Env>(
     rt: &E,
     book: &[u8],
     table: &[u32],
     lines: usize,
     work: &mut [Cell],
-) -> Numbers {
+) -> Result<Numbers, Numbers> {
     let mut left: [Cell; LIMIT] = [0; LIMIT];
-    let l = read_argument(rt, 1, book, table, lines, work, &mut left);
-    if l.code != 0 {
-        return refused(l.code, lines, 1);
-    }
     let mut right: [Cell; LIMIT] = [0; LIMIT];
-    let r = read_argument(rt, 2, book, table, lines, work, &mut right);
-    if r.code != 0 {
-        return refused(r.code, lines, 2);
-    }
-    let m = l.size;
-    let n = r.size;
-    compare_strings(book, &left[..m], &right[..n])
+    let m = read_argument(rt, 1, book, table, lines, work, &mut left);
+    let m = m.map_err(|reason| refused(reason, lines, 1))?;
+    let n = read_argument(rt, 2, book, table, lines, work, &mut right);
+    let n = n.map_err(|reason| refused(reason, lines, 2))?;
+    Ok(compare_strings(book, &left[..m], &right[..n]))
 }
 
 // What the comparison of the expressions ends with.
 fn compare<E: Env>(rt: &E, book: &[u8]) -> Numbers {
     if book.len() > BYTES {
-        return refused(OUT_OF_SPACE, 0, 0);
+        return refused(Reason::OutOfSpace, 0, 0);
     }
     let mut table = [0u32; ROW_WIDTH * LINES];
     let mut terms: [Cell; TERMS] = [0; TERMS];
@@ -215,7 +181,7 @@ fn compare<E: Env>(rt: &E, book: &[u8]) -> Numbers {
     if p.code != 0 {
         return compare_strings(book, &[], &[]);
     }
-    compare_behind(rt, book, &table, p.lines, &mut work)
+    compare_behind(rt, book, &table, p.lines, &mut work).unwrap_or_else(|refusal| refusal)
 }
 
 // Is argument i missing, or not too long?
@@ -226,38 +192,16 @@ fn fits<E: Env>(rt: &E, i: usize) -> bool {
 
 // Are there two or three arguments, none too long?
 fn is_usage<E: Env>(rt: &E) -> bool {
-    let n = argument_count(rt);
-    if n < 3 {
-        return false;
-    }
-    if n > 4 {
-        return false;
-    }
-    if fits(rt, 1) {
-        if fits(rt, 2) {
-            return fits(rt, 3);
-        }
-    }
-    false
-}
-
-// Compares the expressions over the book that is on standard input, and writes what that ends with.
-fn compare_input(rt: HostRuntime) -> io::Result<()> {
-    let mut book = [0u8; BYTES + 1];
-    let r = read_book(&mut rt.stdin(), &mut book);
-    if let Some(e) = r.failed {
-        return fail(&rt, "reading the book", e);
-    }
-    let n = r.bytes;
-    let o = compare(&rt, &book[..n]);
-    let mut out = [0u8; ROW];
-    let m = put_outcome(&mut out, 0, o);
-    write_first(&mut rt.stdout(), &out, m)
+    matches!(argument_count(rt), 3 | 4) && (1..=3).all(|i| fits(rt, i))
 }
 
 fn main(rt: HostRuntime) -> io::Result<()> {
-    if is_usage(&rt) {
-        return compare_input(rt);
+    if !is_usage(&rt) {
+        return eprintln!(rt; "usage: compare LEFT RIGHT [INDICATOR] < BOOK");
     }
-    eprintln!(rt; "usage: compare LEFT RIGHT [INDICATOR] < BOOK")
+    let mut book = [0u8; BYTES + 1];
+    match read_book(&mut rt.stdin(), &mut book) {
+        Ok(n) => println!(rt; "{}", OutcomeRow(compare(&rt, &book[..n]))),
+        Err(cut) => fail(&rt, "reading the book", cut.error),
+    }
 }
