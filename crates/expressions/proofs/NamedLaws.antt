@@ -24,7 +24,7 @@ use Rattle.cells.specs.Posts.{Nested}
 use Rattle.meanings.specs.Bindings.{bound_names}
 use Rattle.meanings.specs.Posts.{BindingFound}
 use Rattle.meanings.specs.Meanings.{Meant, MeaningFound}
-use Rattle.meanings.proofs.BindingLaws.{nested_names, bound_none, bound_inside}
+use Rattle.meanings.proofs.BindingLaws.{nested_names, bound_inside}
 use Rattle.constants.specs.declared.codes.Reason.{Reason}
 use Rattle.constants.specs.Refusals.{code_in}
 use Rattle.expressions.specs.Walk.{fault_in, Walked, ReadTo, passed, SameBelow, CellPut, Written}
@@ -56,7 +56,7 @@ pub fault_err : {A : Type 0} (m : Result A Reason) → fault_in (result_err m) �
 fault_err (Ok a) = refl
 fault_err (Err r) = refl
 
--- ---- its binding, asked for only where there is one
+-- ---- its binding
 
 module _ {s : Bytes} {scope : Scope} {b : ℕ} (u : UsedPlace) where
   pub binding_of : {r : ℕ} {word : Bytes} → b ≡ r → word ≡ slice u.start (u.start + u.len) s → u.size ≡ 0 → BindingFound s scope (plain word) r → BindingFound s scope (used_of s u) b
@@ -68,9 +68,6 @@ module _ {s : Bytes} {scope : Scope} {b : ℕ} (u : UsedPlace) where
   binding_pointed e n =
       subst (λ r. BindingFound s scope (used_of s u) r) (sym e)
       (subst (λ x. BindingFound s scope x nesting) (sym (used_inside s u.title u.size u.start u.len n)) bound_inside)
-
-  pub binding_none : b ≡ nesting → scope.bound ≤ 0 → BindingFound s scope (used_of s u) b
-  binding_none e z = subst (λ n. BindingFound s scope (used_of s u) n) (sym e) (bound_none (omega arith))
 
 -- the argument string one level deeper, with the names that are bound around it
 level_arguments : {ks s book tb : List ℕ} {lines indicator : ℕ} {scope next : Scope} {w w' : List ℕ} {r r' : Walked} → Nested scope next → scope.depth < nesting

@@ -9,7 +9,7 @@ use lib.ListN.{length, get_or, set}
 use lib.Seq.{get_or-set_same, get_or-set_other}
 use Rattle.aut68.specs.Lines.{part_of}
 use Rattle.aut68.specs.Bytes.{Bytes, same_bytes}
-use Rattle.aut68.specs.Source.{Used, plain, inside}
+use Rattle.aut68.specs.Source.{plain, inside}
 use Rattle.aut68.specs.Procedure.Resolve.{is_plain, place_from}
 use Rattle.aut68.specs.Sizes.{nesting}
 use Rattle.cells.specs.declared.scope.Scope.{Scope}
@@ -120,9 +120,6 @@ bound_nowhere {s} {scope} {word} {i} h l =
       free = λ d p q. h.rest p ∙ ap (λ k. place_from (scope.bound - i) (plain word) (names_from s scope.starts scope.lens k)) e;
     }
 
-pub bound_too_many : {s : Bytes} {scope : Scope} {word : Bytes} → nesting < scope.bound → BindingFound s scope (plain word) nesting
-bound_too_many l = record { within = omega arith; bound = λ d p q. absurd (omega arith); free = λ d p q. absurd (omega arith) }
-
 -- a name behind a point is never bound
 place_inside : (k : ℕ) (p a : Bytes) (xs : List Bytes) → place_from k (inside p a) xs ≡ none
 unfolding place_from is_plain
@@ -131,8 +128,3 @@ place_inside k p a (x ∷ xs) = place_inside (suc k) p a xs
 
 pub bound_inside : {s : Bytes} {scope : Scope} {p a : Bytes} → BindingFound s scope (inside p a) nesting
 bound_inside {s} {scope} {p} {a} = record { within = omega arith; bound = λ d l q. absurd (omega arith); free = λ d l q. place_inside 0 p a (bound_names s scope) }
-
--- nothing is, where no name is bound
-pub bound_none : {s : Bytes} {scope : Scope} {u : Used} → scope.bound ≡ 0 → BindingFound s scope u nesting
-unfolding place_from
-bound_none {s} {scope} {u} e = record { within = omega arith; bound = λ d l q. absurd (omega arith); free = λ d l q. ap (place_from 0 u) (no_names s scope e) }

@@ -11,8 +11,5 @@ loop-i-preserved c =
     let I = c.loop-i.invariant in
     (up_more I.0 (omega arith) c.field-c.ensures.0, variables_more I.1 (omega arith) (omega arith) (omega arith) I.0 c.variable_cell.ensures)
 
-pub shape_of-w : goal.shape_of-w
-shape_of-w c = c.loop-i.invariant.1.kept.long
-
 pub returns : goal.returns
 returns c = variables_all c.loop-i.invariant.1 (omega arith) (omega arith)

@@ -26,9 +26,6 @@ returns-then-depth-ge-NESTING c =
     rw c.in-Ok.is
     (completed_too_deep _ _ refl refl refl (omega arith) refl c.last_left_out.ensures refl refl c.in-Some.is c.if-depth-ge-NESTING.true)
 
-pub shape_of-w : goal.shape_of-w
-shape_of-w c = c.put_in-to.ensures.kept.long
-
 pub returns : goal.returns
 returns c =
     rw c.in-Ok.is

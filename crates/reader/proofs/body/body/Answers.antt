@@ -15,9 +15,6 @@ pub returns-in_default : goal.returns-in_default
 returns-in_default c =
     body_no_colon c.in_ok-m.ensures refl c.in_default.ensures.past (omega arith) (record { code_is = code_malformed; at_is = refl; to_is = refl })
 
-pub category-requires : goal.category-requires
-category-requires c = omega (arith, c.in-Some.ensures.inside, c.in_ok-m.ensures.small, c.in_ok-m.ensures.below.long)
-
 pub returns-in_err-c : goal.returns-in_err-c
 returns-in_err-c c =
     let p = err_from_is_err_and c.from_residual-in_err-c.result c.from_residual-in_err-c.ensures.1 in

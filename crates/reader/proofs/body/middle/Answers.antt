@@ -2,9 +2,6 @@ use native.Mathlib.Omega.{arith}
 use Rattle.reader.proofs.MiddleLaws.{word_kind, middle_word, middle_expression}
 use Rattle.reader.proofs.body.middle.Goals as goal
 
-pub expression-requires : goal.expression-requires
-expression-requires c = omega arith
-
 pub returns-in-Abbreviation : goal.returns-in-Abbreviation
 returns-in-Abbreviation c =
     rw c.in-Abbreviation.is (middle_expression c.requires.0 (omega arith) c.no_bindings-scope.ensures c.expression.ensures)

@@ -1,5 +1,4 @@
-use mathlib.Core.Path.{refl, ap, ◌∙◌}
-use native.Mathlib.Omega.{arith}
+use mathlib.Core.Path.{refl, ap}
 use Rattle.std.proofs.lemmas.Result.{err_from_is_err_and}
 use Rattle.aut68.specs.Procedure.Answer.{code_of}
 use Rattle.lookup.specs.Answers.{code_nonzero}
@@ -42,15 +41,6 @@ returns-in-Some-fault c =
     (place_some _ _ c.is_none.ensures c.if-is_none.false c.indicator_line-found.ensures.small) c.word.ensures c.is_taken.ensures
     c.if-is_taken.false (rw c.in-Some-fault.is (code_nonzero _)) (rw c.in-Some-fault.is refl)
 
-pub overflow_sub-middle : goal.overflow_sub-middle
-overflow_sub-middle c = omega (arith, c.in_ok-b.ensures.upward refl)
-
-pub overflow_sub-size : goal.overflow_sub-size
-overflow_sub-size c = omega (arith, c.in_ok-b.ensures.upward refl)
-
-pub overflow_sub-size-else-middle-limit : goal.overflow_sub-size-else-middle-limit
-overflow_sub-size-else-middle-limit c = omega (arith, c.in_ok-b.ensures.upward refl)
-
 pub returns-then-middle-limit : goal.returns-then-middle-limit
 unfolding code_of
 returns-then-middle-limit c =
@@ -66,9 +56,6 @@ returns-then-middle-limit c =
           (place_some _ _ c.is_none.ensures c.if-is_none.false c.indicator_line-found.ensures.small) c.word.ensures c.is_taken.ensures
           c.if-is_taken.false (ap fault_in c.in_default-fault.is) w.if-middle-limit.false w.if-size-middle.true refl
     ]
-
-pub shape_of-w : goal.shape_of-w
-shape_of-w c = c.in_ok-b.ensures.below.long ∙ c.note_context.ensures.kept.long
 
 pub returns : goal.returns
 returns c =
