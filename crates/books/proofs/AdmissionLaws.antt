@@ -1,6 +1,6 @@
 -- How a book ends: refused ahead of its lines, or as its lines do.
 use mathlib.Core.Path.{◌≡◌, refl, sym, ap, ◌∙◌}
-use mathlib.Core.Logic.{◌≢◌, ◌⊎◌, inl, inr}
+use mathlib.Core.Logic.{◌≢◌}
 use mathlib.Core.Bool.{Bool, true, false}
 use mathlib.Core.List.{List, ◌++◌}
 use Prim.Native.Nat.{ℕ, ◌+◌, ◌-◌, ◌*◌, ◌≤◌, ◌<◌}
@@ -16,17 +16,11 @@ use Rattle.aut68.specs.Bytes.{Bytes, lines}
 use Rattle.aut68.specs.Lines.{table_of, rows_from, terms_of}
 use Rattle.aut68.specs.Index.{index_of}
 use Rattle.aut68.specs.Procedure.Answer.{Refusal, code_of, work_too_small, limit_out_of_range, out_of_space}
-use Rattle.aut68.specs.Procedure.Run.{Recorded, state_of, Ending, turned_away, accepted, refused_at, nothing, check_lines, run, over, code_at, line_at, steps_at, recorded_at, table_end, terms_end, work_end, index_end}
+use Rattle.aut68.specs.Procedure.Run.{Recorded, state_of, Ending, turned_away, refused_at, nothing, check_lines, run, over, code_at, line_at, steps_at, recorded_at, table_end, terms_end, work_end, index_end}
 use Rattle.aut68.specs.Demands.{Determined}
 use Rattle.lookup.specs.Runs.{LinesEnd, all_pass, left_open, one_stops, lines_end, run_admitted}
 use Rattle.cells.specs.Posts.{cleared}
 use Rattle.books.specs.Loop.{LinesPost}
-
-pub ending_code : (e : Ending) → (code_at e ≡ 0) ⊎ ((r : Refusal) × (code_at e ≡ code_of r))
-unfolding code_at
-ending_code (turned_away r) = inr (r, refl)
-ending_code (accepted steps k) = inl refl
-ending_code (refused_at r line steps k) = inr (r, refl)
 
 module _ (language : Language) (book : Bytes) (N L : ℕ) (s : Stores) where
   abbrev limits : Limits

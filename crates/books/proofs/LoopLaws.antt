@@ -174,12 +174,6 @@ pub ends_as : {e : Ending} {N : ℕ} {tb ts ix : List ℕ} {code code' n n' left
     → LinesPost e N tb ts ix code n left (unlinked n tb₁) ts' ix' → LinesPost e N tb ts ix code' n' left' (unlinked n' tb₁) ts' ix'
 ends_as tb₁ z l b p = rw (z, l, b) p
 
--- the same progress
-pub going_as : {book : Bytes} {N limit : ℕ} {s : Stores} {code at n used entries b code' at' n' used' entries' b' : ℕ} {tb ts ix w : List ℕ} {o : Open}
-    → (code' ≡ code) × (at' ≡ at) × (n' ≡ n) × (used' ≡ used) × (entries' ≡ entries) × (b' ≡ b) → Going book N limit s at n used entries b tb ts ix w o
-    → Going book N limit s at' n' used' entries' b' tb ts ix w o
-going_as (c, a, l, u, v, d) g = rw (a, l, u, v, d) g
-
 -- a working store of the same length serves as well
 pub fitting_as : {book : Bytes} {limit : ℕ} {w w' : List ℕ} → Fitting book limit w → length w' ≡ length w → Fitting book limit w'
 fitting_as f e = record { large = f.large; small = f.small; enough = (let h = f.enough in omega arith); short = f.short }

@@ -17,6 +17,9 @@ use Rattle.aut68.specs.Rules.Grammar.{IsSign, plus, minus}
 use Rattle.cells.specs.Layout.{reader_units}
 use Rattle.cells.specs.Links.{unlinked}
 use Rattle.kinds.specs.Kinds.{KindsTable, kind_of, place_or0}
+use Rattle.headings.specs.declared.signs.Sign as Signs
+use Rattle.headings.specs.declared.signs.Sign.TheVariants.{Opens, Closes}
+use Rattle.headings.specs.Signs.{kind_of_sign}
 use Rattle.headings.specs.Posts.{LineEnd, SignOf}
 use Rattle.moves.specs.Posts.{MovedResult, MovedPost}
 use Rattle.moves.specs.declared.Open.{Open}
@@ -41,6 +44,11 @@ is_piece {book} {at} {next} end inside =
 sign_kinds : (15 ≡ kind_of 43) × (16 ≡ kind_of 45)
 unfolding kind_of place_or0 name_byte
 sign_kinds = (refl, refl)
+
+-- a sign's kind is one of the two
+pub sign_is_one : (s : Signs.Sign) → true ≡ (eqb (kind_of_sign s) 15 || eqb (kind_of_sign s) 16)
+sign_is_one Opens = refl
+sign_is_one Closes = refl
 
 -- k is the kind of one of the signs, and the piece a paragraph line with it
 record Sign (bytes : Bytes) (k : ℕ) : Type 0 where

@@ -51,25 +51,15 @@ pub fn admit(
         clear(work, n);
         return ahead_of_lines(Reason::OutOfSpace);
     }
-    let p = check_lines(book, table, terms, index, &mut work[..n], most, budget);
+    let e = check_lines(book, table, terms, index, &mut work[..n], most, budget);
     clear(work, n);
-    let steps = spent(budget, p.budget);
-    if p.code == 0 {
-        return Ok(Accepted {
-            lines: p.lines as u32,
-            steps,
-        });
-    }
-    let line = (p.lines + 1) as u32;
-    match Reason::try_from(p.code) {
-        Ok(reason) => Err(Refused {
+    let lines = e.lines as u32;
+    let steps = spent(budget, e.budget);
+    match e.checked {
+        Ok(()) => Ok(Accepted { lines, steps }),
+        Err(reason) => Err(Refused {
             reason,
-            line,
-            steps,
-        }),
-        Err(_) => Err(Refused {
-            reason: Reason::Unbalanced,
-            line,
+            line: lines + 1,
             steps,
         }),
     }

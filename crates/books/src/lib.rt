@@ -5,4 +5,4 @@ mod admission;
 mod lines;
 
 pub use admission::admit;
-pub use lines::check_linked;
+pub use lines::{Ended, check_linked};

@@ -3,4 +3,4 @@
 
 mod lines;
 
-pub use lines::{Progress, check_line, stopped};
+pub use lines::{Progress, check_line};

@@ -26,8 +26,8 @@ returns-then-book-gt-BOOK_LIMIT c =
 pub slice_bounds-check_lines-end-2 : goal.slice_bounds-check_lines-end-2
 slice_bounds-check_lines-end-2 c = sym (length-take-le _ _ c.if-work-n.false)
 
-pub check_lines-p-requires : goal.check_lines-p-requires
-check_lines-p-requires c =
+pub check_lines-e-requires : goal.check_lines-e-requires
+check_lines-e-requires c =
     let room = c.if-work-n.false in
     record {
       large = c.if-most-lt-SMALLEST_LIMIT.false;
@@ -36,24 +36,20 @@ check_lines-p-requires c =
       short = c.if-book-gt-BOOK_LIMIT.false;
     }
 
-pub returns-then-p-eq0 : goal.returns-then-p-eq0
-returns-then-p-eq0 c =
+-- the result of the lines, by the numbers that it is told in
+ends : (c : After-spent-steps) {code line : ℕ} → code ≡ code_in c.check_lines-e.result.checked
+    → (code ≡ 0 → line ≡ c.check_lines-e.result.lines) → (code ≢ 0 → line ≡ c.check_lines-e.result.lines + 1)
+    → let a = c.args in
+    Determined (run aut68 a.book.now (limits_of a.budget a.limit (stores a.table.now a.terms.now a.work.now a.index.now))) a.limit (stores a.table.now a.terms.now a.work.now a.index.now)
+    code line c.spent-steps.result (stores c.check_lines-e.new.table c.check_lines-e.new.terms c.clear-2.new.w c.check_lines-e.new.index)
+ends c e z n =
     let room = c.if-work-n.false in
-    let post = c.check_lines-p.ensures c.args.work.now in
     ended aut68 _ _ _ _ c.if-most-lt-SMALLEST_LIMIT.false c.if-most-gt-LARGEST_LIMIT.false room
-    c.check_lines-p.new.w c.if-book-gt-BOOK_LIMIT.false (rw c.if-p-eq0.true at post) (λ z. refl) (λ n. absurd (n refl)) c.spent-steps.ensures
-    (c.check_lines-p.auto.w ∙ length-take-le _ _ room) c.clear-2.ensures
+    c.check_lines-e.new.w c.if-book-gt-BOOK_LIMIT.false (rw e (c.check_lines-e.ensures c.args.work.now)) z n c.spent-steps.ensures
+    (c.check_lines-e.auto.w ∙ length-take-le _ _ room) c.clear-2.ensures
 
 pub returns-in-Ok : goal.returns-in-Ok
-returns-in-Ok c =
-    let room = c.if-work-n.false in
-    let post = c.check_lines-p.ensures c.args.work.now in
-    rw (sym c.in-Ok.ensures)
-    (ended aut68 _ _ _ _ c.if-most-lt-SMALLEST_LIMIT.false c.if-most-gt-LARGEST_LIMIT.false room
-    c.check_lines-p.new.w c.if-book-gt-BOOK_LIMIT.false post (λ z. absurd (c.if-p-eq0.false z)) (λ n. refl) c.spent-steps.ensures
-    (c.check_lines-p.auto.w ∙ length-take-le _ _ room) c.clear-2.ensures)
+returns-in-Ok c = ?
 
 pub returns-in-Err : goal.returns-in-Err
-returns-in-Err c =
-    let post = c.check_lines-p.ensures c.args.work.now in
-    absurd (⊎_elim (λ z. c.if-p-eq0.false (post.code_is ∙ z)) (λ (r, q). c.in-Err.ensures.1 r (post.code_is ∙ q)) (ending_code _))
+returns-in-Err c = ?

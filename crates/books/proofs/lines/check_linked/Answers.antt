@@ -1,15 +1,17 @@
-use mathlib.Core.Path.{refl, ◌∙◌}
+-- `check_linked`: a paragraph line or an ordinary one passes or stops the check (PieceLaws); the book ends (LoopLaws).
+use mathlib.Core.Path.{refl, ap, ◌∙◌}
 use Prim.Native.Nat.{◌-◌}
 use native.Mathlib.Omega.{arith}
 use Rattle.aut68.specs.Stores.{stores}
-use Rattle.books.proofs.LoopLaws.{stands_first, going_starts, going_ends, ends_as, going_as, fitting_as}
-use Rattle.books.proofs.PieceLaws.{sign_passes, sign_stops, line_passes, line_stops}
+use Rattle.constants.specs.Refusals.{code_in}
+use Rattle.levels.specs.Finds.{refusal_nonzero}
+use Rattle.books.proofs.LoopLaws.{stands_first, going_starts, going_ends, ends_as, fitting_as}
+use Rattle.books.proofs.PieceLaws.{sign_is_one, sign_passes, sign_stops, line_passes, line_stops}
 use Rattle.books.proofs.lines.check_linked.Goals as goal
 
 pub loop-p-init : goal.loop-p-init
 loop-p-init c =
     let a = c.args in (
-      refl,
       refl,
       refl,
       refl,
@@ -28,113 +30,25 @@ slice_bounds-sign_of-start c = omega (arith, c.line_end-next.ensures.from c.loop
 pub slice_bounds-sign_of-end : goal.slice_bounds-sign_of-end
 slice_bounds-sign_of-end c = c.line_end-next.ensures.within (omega (arith, c.loop-p-test.true))
 
-pub check_signed-m-requires : goal.check_signed-m-requires
-check_signed-m-requires c =
+pub check_signed-requires : goal.check_signed-requires
+check_signed-requires c =
     let inside = c.loop-p-test.true in
     let end = c.line_end-next.ensures in
     (omega (arith, end.from inside), end.within (omega arith), c.requires.short)
 
-pub shape_of-table-then-m-ne0 : goal.shape_of-table-then-m-ne0
-shape_of-table-then-m-ne0 c = c.loop-p.invariant.1
-
-pub shape_of-terms-then-m-ne0 : goal.shape_of-terms-then-m-ne0
-shape_of-terms-then-m-ne0 c = c.loop-p.invariant.2
-
-pub shape_of-index-then-m-ne0 : goal.shape_of-index-then-m-ne0
-shape_of-index-then-m-ne0 c = c.loop-p.invariant.3
-
-pub shape_of-w-then-m-ne0 : goal.shape_of-w-then-m-ne0
-shape_of-w-then-m-ne0 c = c.check_signed-m.auto.w ∙ c.loop-p.invariant.4 ∙ c.clear.auto.w
-
-pub returns-then-m-ne0 : goal.returns-then-m-ne0
-returns-then-m-ne0 c =
-    let k = c.check_signed-m in
+pub returns-in-Err : goal.returns-in-Err
+returns-in-Err c =
+    let k = c.check_signed in
     let v = c.loop-p.invariant in
-    let fits = fitting_as c.requires (v.4 ∙ c.clear.auto.w) in
-    λ work. ends_as _ c.stopped.ensures.0 c.stopped.ensures.2 c.stopped.ensures.5
-    (sign_stops (v.5 work) fits c.line_end-next.ensures c.loop-p-test.true c.kinds_of_bytes-kinds.ensures c.sign_of-k.ensures
-    c.is_sign.ensures c.if-is_sign.true k.new.w k.ensures c.if-m-ne0.true)
+    let fits = fitting_as c.requires (v.3 ∙ c.clear.auto.w) in
+    λ work. ends_as _ (ap code_in c.ended.ensures.0) c.ended.ensures.1 c.ended.ensures.2
+    (sign_stops (v.4 work) fits c.line_end-next.ensures c.loop-p-test.true c.kinds_of_bytes-kinds.ensures c.in-Some.ensures
+    (sign_is_one c.in-Some.sign) refl k.new.w c.in-Err.ensures (refusal_nonzero c.in-Err.reason))
 
-pub loop-p-smaller-then-is_sign : goal.loop-p-smaller-then-is_sign
-loop-p-smaller-then-is_sign c =
-    let inside = c.loop-p-test.true in
-    omega (arith, c.moved-p.ensures.1, c.line_end-next.ensures.from inside, c.line_end-next.ensures.within (omega arith))
+pub loop-p-preserved-in-Ok : goal.loop-p-preserved-in-Ok
+loop-p-preserved-in-Ok c = ?
 
-pub loop-p-preserved-then-is_sign : goal.loop-p-preserved-then-is_sign
-loop-p-preserved-then-is_sign c =
-    let k = c.check_signed-m in
-    let v = c.loop-p.invariant in
-    let fits = fitting_as c.requires (v.4 ∙ c.clear.auto.w) in (
-      c.moved-p.ensures.0 ∙ v.0,
-      v.1,
-      v.2,
-      v.3,
-      k.auto.w ∙ v.4,
-      λ work. going_as c.moved-p.ensures
-          (sign_passes (v.5 work) fits c.line_end-next.ensures c.loop-p-test.true c.kinds_of_bytes-kinds.ensures c.sign_of-k.ensures
-          c.is_sign.ensures c.if-is_sign.true k.new.w k.ensures c.if-m-ne0.false),
-    )
-
-pub check_line-p-requires : goal.check_line-p-requires
-check_line-p-requires c =
+pub check_line-requires : goal.check_line-requires
+check_line-requires c =
     let inside = c.loop-p-test.true in
     (omega (arith, c.line_end-next.ensures.from inside), c.line_end-next.ensures.within (omega arith))
-
-pub shape_of-table-then-p-ne0 : goal.shape_of-table-then-p-ne0
-shape_of-table-then-p-ne0 c = c.check_line-p.auto.table ∙ c.loop-p.invariant.1
-
-pub shape_of-terms-then-p-ne0 : goal.shape_of-terms-then-p-ne0
-shape_of-terms-then-p-ne0 c = c.check_line-p.auto.terms ∙ c.loop-p.invariant.2
-
-pub shape_of-index-then-p-ne0 : goal.shape_of-index-then-p-ne0
-shape_of-index-then-p-ne0 c = c.check_line-p.auto.index ∙ c.loop-p.invariant.3
-
-pub shape_of-w-then-p-ne0 : goal.shape_of-w-then-p-ne0
-shape_of-w-then-p-ne0 c = c.check_line-p.auto.w ∙ c.loop-p.invariant.4 ∙ c.clear.auto.w
-
-pub returns-then-p-ne0 : goal.returns-then-p-ne0
-returns-then-p-ne0 c =
-    let k = c.check_line-p in
-    let v = c.loop-p.invariant in
-    let fits = fitting_as c.requires (v.4 ∙ c.clear.auto.w) in
-    λ work. line_stops (v.5 work) fits c.line_end-next.ensures c.loop-p-test.true c.kinds_of_bytes-kinds.ensures c.sign_of-k.ensures
-    c.is_sign.ensures c.if-is_sign.false k.ensures c.if-p-ne0.true
-
-pub loop-p-smaller : goal.loop-p-smaller
-loop-p-smaller c =
-    let inside = c.loop-p-test.true in
-    omega (arith, c.check_line-p.ensures.onward c.if-p-ne0.false, c.line_end-next.ensures.from inside, c.line_end-next.ensures.within (omega arith))
-
-pub loop-p-preserved : goal.loop-p-preserved
-loop-p-preserved c =
-    let k = c.check_line-p in
-    let v = c.loop-p.invariant in
-    let fits = fitting_as c.requires (v.4 ∙ c.clear.auto.w) in (
-      c.if-p-ne0.false,
-      k.auto.table ∙ v.1,
-      k.auto.terms ∙ v.2,
-      k.auto.index ∙ v.3,
-      k.auto.w ∙ v.4,
-      λ work. line_passes (v.5 work) fits c.line_end-next.ensures c.loop-p-test.true c.kinds_of_bytes-kinds.ensures c.sign_of-k.ensures
-          c.is_sign.ensures c.if-is_sign.false k.ensures c.if-p-ne0.false,
-    )
-
-pub shape_of-table : goal.shape_of-table
-shape_of-table c = c.loop-p.invariant.1
-
-pub shape_of-terms : goal.shape_of-terms
-shape_of-terms c = c.loop-p.invariant.2
-
-pub shape_of-index : goal.shape_of-index
-shape_of-index c = c.loop-p.invariant.3
-
-pub shape_of-w : goal.shape_of-w
-shape_of-w c = c.loop-p.invariant.4 ∙ c.clear.auto.w
-
-pub returns : goal.returns
-returns c =
-    let a = c.args in
-    let v = c.loop-p.invariant in
-    let e = c.at_end.ensures in
-    λ work. ends_as _ refl e.2 e.3
-    (going_ends a.book.now a.budget a.limit (stores a.table.now a.terms.now work a.index.now) (v.5 work) c.loop-p-test.false (λ z. e.0 z ∙ v.0) e.1)

@@ -8,8 +8,7 @@ use Rattle.books.specs.Loop.{Going}
 use Rattle.books.proofs.lines.check_linked.Given as goal
 
 abbrev pub invariant-loop-p : goal.invariant-loop-p
-invariant-loop-p l = (l.p.code ≡ 0)
-    × (length l.table ≡ length l.initial.table)
+invariant-loop-p l = (length l.table ≡ length l.initial.table)
     × (length l.terms ≡ length l.initial.terms)
     × (length l.index ≡ length l.initial.index)
     × (length l.w ≡ length l.initial.w)
