@@ -31,7 +31,7 @@ pub struct Ended {
 }
 
 // They end where the check is.
-fn ended(p: Progress, checked: Result<(), Reason>) -> Ended
+fn end_of(p: Progress, checked: Result<(), Reason>) -> Ended
     ensures { (result.checked ≡ checked) × (result.lines ≡ p.lines) × (result.budget ≡ p.budget) }
 {
     Ended {
@@ -66,6 +66,7 @@ fn check_signed(
 }
 
 // The end of the book, with so many paragraphs open.
+#[tactic(auto, unfolding(aut68::specs::Procedure::Answer::code_of))]
 fn at_end(depth: usize) -> Result<(), Reason>
     ensures { (depth ≡ 0 → code_in result ≡ 0) × (depth ≢ 0 → code_in result ≡ 17) }
 {
@@ -106,16 +107,16 @@ pub fn check_linked(
         if let Some(sign) = sign_of(&book[at..next], &kinds) {
             match check_signed(book, &kinds, table, p.lines, w, limit, at, next, sign, o) {
                 Ok(more) => o = more,
-                Err(reason) => return ended(p, Err(reason)),
+                Err(reason) => return end_of(p, Err(reason)),
             }
             p.at = next;
         } else if let Err(reason) = check_line(
             book, &kinds, table, terms, index, w, limit, &mut p, next,
         ) {
-            return ended(p, Err(reason));
+            return end_of(p, Err(reason));
         }
     }
-    ended(p, at_end(o.depth))
+    end_of(p, at_end(o.depth))
 }
 
 // The lines of the book, one after the other, up to the first that is refused (check_lines).

@@ -33,7 +33,10 @@ use Rattle.cells.specs.Forests.{size_is_length}
 use Rattle.cells.specs.Links.{link_factor, unlinked, unlinked_long}
 use Rattle.cells.specs.Results.{Result}
 use Rattle.kinds.specs.Kinds.{KindsTable}
-use Rattle.reader.specs.Posts.{LineReadTo}
+use Rattle.std.specs.Prelude.{Result as Tried, Ok, Err}
+use Rattle.constants.specs.declared.codes.Reason.{Reason}
+use Rattle.constants.specs.Refusals.{code_in}
+use Rattle.reader.specs.Posts.{LineReadTo, number_of}
 use Rattle.reader.specs.Posts as Reader
 use Rattle.reader.specs.declared.lines.Line.{Line}
 use Rattle.categories.specs.Places.{LineCells}
@@ -44,18 +47,11 @@ use Rattle.records.specs.Reached.{Reached, HasRoom, room_is, reached_more, slice
 use Rattle.records.specs.Indexed.{Indexed, indexed_more}
 use Rattle.records.specs.Bounds.{reached_table, used_small, line_cells_fit, size_small, stored_cells, row_small, name_short}
 use Rattle.entries.specs.Posts.{NamesPut, NamesPost, EntryPost}
-use Rattle.checking.specs.Progress.{Fitting, IsPiece, StandsIn, ToStore, StoredPost, NotedLine, LineResult, LinePost}
+use Rattle.checking.specs.Progress.{Fitting, IsPiece, StandsIn, ToStore, StoredPost, NotedLine, LineResult}
 use Rattle.checking.specs.Progress as P
 use Rattle.checking.proofs.EntryLaws.{read_still, below_names, entry_long, entry_put}
 use Rattle.checking.proofs.HintLaws.{second_cell, stands_on, row_on}
 use Rattle.checking.proofs.ReadLaws.{result_done, result_stop, not_read, no_room, by_categories}
-
--- where a line ends, and what is recorded, under other names
-pub line_as : {book ks : Bytes} {limit at next n used entries budget : ℕ} {tb ts ix w : List ℕ} {code at' n' used' entries' left : ℕ} {tb' ts' ix' w' : List ℕ} {c a l u v b : ℕ}
-    → (c ≡ code) × (a ≡ at') × (l ≡ n') × (u ≡ used') × (v ≡ entries') × (b ≡ left)
-    → LinePost book ks limit at next n used entries budget tb ts ix w code at' n' used' entries' left tb' ts' ix' w'
-    → LinePost book ks limit at next n used entries budget tb ts ix w c a l u v b tb' ts' ix' w'
-line_as (p, q, r, s, t, u) h = rw (p, q, r, s, t, u) h
 
 reached_as : {book : Bytes} {N limit : ℕ} {s : Stores} {k : Recorded} {at n u u' : ℕ} {tb tb' ts ts' : List ℕ} → u' ≡ u → tb' ≡ tb → ts' ≡ ts
     → Reached aut68 book N limit s k at n u tb ts → Reached aut68 book N limit s k at n u' tb' ts'
@@ -92,8 +88,8 @@ module _ {book : Bytes} {N limit : ℕ} {s₀ : Stores} {k : Recorded} {at n use
   -- ---- read
 
   -- what the reader says of it
-  line_result : {bytes ks w w' : List ℕ} {x : Line} → length bytes ≤ length book → Fitting book limit w → KindsTable ks → StandsIn limit (state_of k) book tb n w at
-      → LineReadTo ks bytes book tb n limit w w' x → Result (Reader.LineRead bytes w' (line_unit * limit) x) x.code tt (read_line aut68 (state_of k) limit bytes tt)
+  line_result : {bytes ks w w' : List ℕ} {x : Tried Line Reason} → length bytes ≤ length book → Fitting book limit w → KindsTable ks → StandsIn limit (state_of k) book tb n w at
+      → LineReadTo ks bytes book tb n limit w w' x → Result (Reader.ReadAs bytes w' (line_unit * limit) x) (code_in x) tt (read_line aut68 (state_of k) limit bytes tt)
   line_result part f ks stands post =
       post.read (state_of k) ks (reached_known tb h) (let s = f.short in omega arith) f.large (let e = f.enough in omega arith) stands.noted
 
@@ -138,23 +134,23 @@ module _ {book : Bytes} {N limit : ℕ} {s₀ : Stores} {k : Recorded} {at n use
 
   module _ (budget : ℕ) {next : ℕ} (from : at ≤ next) (within : next ≤ length book) {ks w w' bytes : List ℕ} (f : Fitting book limit w) (table : KindsTable ks) (piece : IsPiece book at next bytes)
       (opens : signed 43 bytes ≡ false) (closes : signed 45 bytes ≡ false) (stands : StandsIn limit (state_of k) book tb n w at)
-      {x : Line} (post : LineReadTo ks (take (next - at) (drop at book)) book tb n limit w w' x) where
+      {r : Tried Line Reason} (post : LineReadTo ks (take (next - at) (drop at book)) book tb n limit w w' r) where
     part : length bytes ≤ length book
     part = omega (arith, within, piece.next_is)
 
-    reads : LineReadTo ks bytes book tb n limit w w' x
-    reads = subst (λ (s : Bytes). LineReadTo ks s book tb n limit w w' x) (slice_is at next book from ∙ sym piece.bytes_are) post
+    reads : LineReadTo ks bytes book tb n limit w w' r
+    reads = subst (λ (s : Bytes). LineReadTo ks s book tb n limit w w' r) (slice_is at next book from ∙ sym piece.bytes_are) post
 
     stops : {r : Refusal} {left : ℕ} → check_line aut68 (state_of k) limits bytes budget ≡ stop r left → check_piece aut68 (state_of k) limits bytes budget ≡ stop r left
     stops e = check_line_lem aut68 (state_of k) limits bytes budget opens closes ∙ stop_then _ e
 
     -- the reading refuses it
-    pub ends_unread : x.code ≢ 0 → {used' entries' : ℕ} {w'' : List ℕ} → LineResult book N limit s₀ k at next bytes n budget tb ts ix x.code n used' entries' budget tb ts ix w''
+    pub ends_unread : code_in r ≢ 0 → {used' entries' : ℕ} {w'' : List ℕ} → LineResult book N limit s₀ k at next bytes n budget tb ts ix (code_in r) n used' entries' budget tb ts ix w''
     ends_unread c =
-        let (r, e, q) = result_stop c (line_result part f table stands reads) in
+        let (_, e, q) = result_stop c (line_result part f table stands reads) in
         P.refused (stops (not_read aut68 (state_of k) limits bytes budget e)) q refl refl refl refl
 
-    module _ (read : x.code ≡ 0) {count : ℕ} {w₁ : List ℕ} (names : NamesPost limit x.size x.indicator w' w₁ count) where
+    module _ {x : Line} (read : r ≡ Ok x) {count : ℕ} {w₁ : List ℕ} (names : NamesPost limit x.size x.indicator w' w₁ count) where
       abbrev Is : Passed → Type 0
       Is p = Reader.LineRead bytes w₁ (line_unit * limit) x p
 
@@ -170,7 +166,11 @@ module _ {book : Bytes} {N limit : ℕ} {s₀ : Stores} {k : Recorded} {at n use
 
       here : Line-here
       here =
-          let (p, d, a) = result_done read (line_result part f table stands reads) in
+          let (p, d, a) =
+          result_done refl
+          (subst (λ (l : Tried Line Reason). Result (Reader.ReadAs bytes w' (line_unit * limit) l) (code_in l) tt (read_line aut68 (state_of k) limit bytes tt)) read
+          (line_result part f table stands reads))
+          in
           let R = is_read d in
           let z = a.size_is in
           let i = a.indicator_is in
@@ -215,9 +215,9 @@ module _ {book : Bytes} {N limit : ℕ} {s₀ : Stores} {k : Recorded} {at n use
 
         module _ {start left code' : ℕ} {tb' ts' w₂ : List ℕ} (sum : at + x.first < 4294967296 → start ≡ at + x.first)
             (checked : StoredPost limit n used x.middle x.size
-            (start ∷ x.len ∷ x.indicator ∷ x.context ∷ x.kind ∷ used ∷ (used + x.middle) ∷ (used + x.size) ∷ x.paragraph ∷ []) budget tb ts w₁ tb' ts' w₂ code' left) where
+            (start ∷ x.len ∷ x.indicator ∷ x.context ∷ number_of x.kind ∷ used ∷ (used + x.middle) ∷ (used + x.size) ∷ x.paragraph ∷ []) budget tb ts w₁ tb' ts' w₂ code' left) where
           abbrev row : List ℕ
-          row = start ∷ x.len ∷ x.indicator ∷ x.context ∷ x.kind ∷ used ∷ (used + x.middle) ∷ (used + x.size) ∷ x.paragraph ∷ []
+          row = start ∷ x.len ∷ x.indicator ∷ x.context ∷ number_of x.kind ∷ used ∷ (used + x.middle) ∷ (used + x.size) ∷ x.paragraph ∷ []
 
           -- its categories refuse it
           pub ends_refused : code' ≢ 0 → {used' entries' : ℕ} {w'' : List ℕ} → LineResult book N limit s₀ k at next bytes n budget tb ts ix code' n used' entries' left tb' ts' ix w''

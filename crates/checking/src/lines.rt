@@ -1,6 +1,7 @@
 // An ordinary line of a book: read, stored, checked, recorded.
 ghost use Rattle.std.specs.Prelude.{[], ◌∷◌, ◌+◌, ◌≤◌, length};
 ghost use Rattle.constants.specs.Refusals.{code_in};
+ghost use Rattle.reader.specs.Posts.{number_of};
 ghost use Rattle.checking.specs.Progress.{StoredPost, NotedLine, LinePost};
 
 use categories::check_cells;
@@ -37,7 +38,7 @@ fn check_stored(
     budget: &mut u32,
 ) -> Result<(), Reason>
     requires { used + l.size ≤ length terms.old }
-    ensures { StoredPost limit lines used l.middle l.size (first ∷ l.len ∷ l.indicator ∷ l.context ∷ l.kind ∷ used ∷ (used + l.middle) ∷ (used + l.size) ∷ l.paragraph ∷ []) budget.old table.old terms.old w.old table.new terms.new w.new (code_in result) budget.new }
+    ensures { StoredPost limit lines used l.middle l.size (first ∷ l.len ∷ l.indicator ∷ l.context ∷ number_of l.kind ∷ used ∷ (used + l.middle) ∷ (used + l.size) ∷ l.paragraph ∷ []) budget.old table.old terms.old w.old table.new terms.new w.new (code_in result) budget.new }
 {
     let size = l.size;
     let to = line_at(limit);
@@ -56,7 +57,10 @@ fn check_stored(
 fn note_line(book: &[u8], table: &mut [u32], lines: usize, w: &mut [Cell], limit: usize)
     ensures { NotedLine book.now table.old table.new lines limit w.old w.new }
 {
-    if lines >= LAST_LINE || limit > w.len() / READER_UNITS {
+    if lines >= LAST_LINE {
+        return;
+    }
+    if limit > w.len() / READER_UNITS {
         return;
     }
     let n = READER_UNITS * limit;

@@ -1,10 +1,10 @@
 -- `admit`: the tests ahead of the lines, the lines, zeros in the working store.
 use mathlib.Core.Path.{refl, sym, ◌∙◌}
-use mathlib.Core.Logic.{⊎_elim}
 use native.Mathlib.Omega.{arith}
 use lib.Seq.{length-take-le}
 use Rattle.aut68.specs.Language.{aut68}
-use Rattle.books.proofs.AdmissionLaws.{low_limit, high_limit, little_work, long_book, ended, ending_code}
+use Rattle.lookup.specs.Answers.{code_nonzero}
+use Rattle.books.proofs.AdmissionLaws.{low_limit, high_limit, little_work, long_book, ended}
 use Rattle.books.proofs.admission.admit.Goals as goal
 
 pub returns-then-most-lt-SMALLEST_LIMIT : goal.returns-then-most-lt-SMALLEST_LIMIT
@@ -36,20 +36,19 @@ check_lines-e-requires c =
       short = c.if-book-gt-BOOK_LIMIT.false;
     }
 
--- the result of the lines, by the numbers that it is told in
-ends : (c : After-spent-steps) {code line : ℕ} → code ≡ code_in c.check_lines-e.result.checked
-    → (code ≡ 0 → line ≡ c.check_lines-e.result.lines) → (code ≢ 0 → line ≡ c.check_lines-e.result.lines + 1)
-    → let a = c.args in
-    Determined (run aut68 a.book.now (limits_of a.budget a.limit (stores a.table.now a.terms.now a.work.now a.index.now))) a.limit (stores a.table.now a.terms.now a.work.now a.index.now)
-    code line c.spent-steps.result (stores c.check_lines-e.new.table c.check_lines-e.new.terms c.clear-2.new.w c.check_lines-e.new.index)
-ends c e z n =
-    let room = c.if-work-n.false in
-    ended aut68 _ _ _ _ c.if-most-lt-SMALLEST_LIMIT.false c.if-most-gt-LARGEST_LIMIT.false room
-    c.check_lines-e.new.w c.if-book-gt-BOOK_LIMIT.false (rw e (c.check_lines-e.ensures c.args.work.now)) z n c.spent-steps.ensures
-    (c.check_lines-e.auto.w ∙ length-take-le _ _ room) c.clear-2.ensures
+pub overflow_cast-lines : goal.overflow_cast-lines
+overflow_cast-lines c = (let n = (c.check_lines-e.ensures c.args.work.now).few in omega arith)
 
 pub returns-in-Ok : goal.returns-in-Ok
-returns-in-Ok c = ?
+returns-in-Ok c =
+    let room = c.if-work-n.false in
+    ended aut68 _ _ _ _ c.if-most-lt-SMALLEST_LIMIT.false c.if-most-gt-LARGEST_LIMIT.false room
+    c.check_lines-e.new.w c.if-book-gt-BOOK_LIMIT.false (rw c.in-Ok.is at (c.check_lines-e.ensures c.args.work.now)) (λ z. refl) (λ n. absurd (n refl)) c.spent-steps.ensures
+    (c.check_lines-e.auto.w ∙ length-take-le _ _ room) c.clear-2.ensures
 
 pub returns-in-Err : goal.returns-in-Err
-returns-in-Err c = ?
+returns-in-Err c =
+    let room = c.if-work-n.false in
+    ended aut68 _ _ _ _ c.if-most-lt-SMALLEST_LIMIT.false c.if-most-gt-LARGEST_LIMIT.false room
+    c.check_lines-e.new.w c.if-book-gt-BOOK_LIMIT.false (rw c.in-Err.is at (c.check_lines-e.ensures c.args.work.now)) (λ z. absurd (code_nonzero _ z)) (λ n. refl) c.spent-steps.ensures
+    (c.check_lines-e.auto.w ∙ length-take-le _ _ room) c.clear-2.ensures
