@@ -4,12 +4,13 @@
 ghost use Rattle.std.specs.Prelude.{true, false};
 ghost use Rattle.aut68.specs.Stores.{stores};
 ghost use Rattle.aut68.specs.Desk.{ComparesStrings};
+ghost use Rattle.judging.specs.Posts.{second_in};
 ghost use Rattle.outcomes.specs.Answers.{code_of_answer, line_of_answer, steps_of_answer, length_of_answer};
 
 use books::admit;
 use constants::{Cell, WORK_UNITS};
 use copies::clear;
-use judging::judge;
+use judging::{Comparison, judge};
 use outcomes::Answer;
 
 // The first comparison of two strings of cells, or the second, over the lines of a book.
@@ -24,9 +25,9 @@ fn compare_over(
     left: &[Cell],
     right: &[Cell],
     own: u32,
-    second: bool,
+    comparison: Comparison,
 ) -> Answer
-    ensures { ComparesStrings second book.now budget limit (stores table.old terms.old work.old index.old) left.now right.now own (code_of_answer result) (line_of_answer result) (steps_of_answer result) (length_of_answer result) (stores table.new terms.new work.new index.new) }
+    ensures { ComparesStrings (second_in comparison) book.now budget limit (stores table.old terms.old work.old index.old) left.now right.now own (code_of_answer result) (line_of_answer result) (steps_of_answer result) (length_of_answer result) (stores table.new terms.new work.new index.new) }
 {
     let a = admit(book, budget, limit, table, terms, work, index)?;
     let most = limit as usize;
@@ -41,7 +42,7 @@ fn compare_over(
         left,
         right,
         own,
-        second,
+        comparison,
     );
     clear(work, n);
     r
@@ -64,7 +65,17 @@ pub fn compare_strings(
     ensures { ComparesStrings false book.now budget limit (stores table.old terms.old work.old index.old) left.now right.now own (code_of_answer result) (line_of_answer result) (steps_of_answer result) (length_of_answer result) (stores table.new terms.new work.new index.new) }
 {
     compare_over(
-        book, budget, limit, table, terms, work, index, left, right, own, false,
+        book,
+        budget,
+        limit,
+        table,
+        terms,
+        work,
+        index,
+        left,
+        right,
+        own,
+        Comparison::First,
     )
 }
 
@@ -84,6 +95,16 @@ pub fn compare_strings_parts_first(
     ensures { ComparesStrings true book.now budget limit (stores table.old terms.old work.old index.old) left.now right.now own (code_of_answer result) (line_of_answer result) (steps_of_answer result) (length_of_answer result) (stores table.new terms.new work.new index.new) }
 {
     compare_over(
-        book, budget, limit, table, terms, work, index, left, right, own, true,
+        book,
+        budget,
+        limit,
+        table,
+        terms,
+        work,
+        index,
+        left,
+        right,
+        own,
+        Comparison::PartsFirst,
     )
 }

@@ -7,7 +7,7 @@ ghost use Rattle.aut68.specs.Sizes.{work_units};
 ghost use Rattle.pairs.specs.Posts.{NotWhole, PairPost, PairsPost};
 
 use constants::{Cause, Cell, WORK_UNITS};
-use judging::judge;
+use judging::{Comparison, judge};
 use outcomes::{AnswerNumbers, Unanswered};
 
 // Two strings in one lent slice of cells, by the start and the length of each, and the budget for their comparison; C callers lend them so.
@@ -55,7 +55,7 @@ pub fn compare_pair(
         &cells[left..left_end],
         &cells[right..right_end],
         p.budget,
-        false,
+        Comparison::First,
     );
     AnswerNumbers::from(a)
 }
