@@ -175,13 +175,13 @@ fn compare<E: Env>(rt: &E, book: &[u8]) -> Numbers {
     let mut terms: [Cell; TERMS] = [0; TERMS];
     let mut work: [Cell; WORK_UNITS * LIMIT] = [0; WORK_UNITS * LIMIT];
     let mut index = [0u32; INDEX];
-    let p = check_linked(
+    let e = check_linked(
         book, &mut table, &mut terms, &mut index, &mut work, LIMIT, BUDGET,
     );
-    if p.code != 0 {
+    if e.checked.is_err() {
         return compare_strings(book, &[], &[]);
     }
-    compare_behind(rt, book, &table, p.lines, &mut work).unwrap_or_else(|refusal| refusal)
+    compare_behind(rt, book, &table, e.lines, &mut work).unwrap_or_else(|refusal| refusal)
 }
 
 // Is argument i missing, or not too long?
