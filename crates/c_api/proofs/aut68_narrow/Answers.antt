@@ -1,6 +1,5 @@
--- `c_api::aut68_narrow` promises what `narrow` does: the numbers of its answer are those of the outcome.
-use Rattle.c_api.proofs.EqualNumbers.{equal_numbers}
+-- `c_api::aut68_narrow` promises what `narrow` does, of the numbers of its answer.
 use Rattle.c_api.proofs.aut68_narrow.Goals as goal
 
 pub returns : goal.returns
-returns c = equal_numbers c.answer_numbers.ensures c.narrow-a.ensures
+returns c = let n = c.from.ensures in rw (n.0, n.1, n.2, n.3) c.narrow-a.ensures

@@ -1,18 +1,5 @@
--- `c_api::aut68_rests_on` promises what `rests_on` does: the numbers of its answer are those of the outcome.
-use mathlib.Core.Path.{◌≡◌}
-use Prim.Native.Nat.{ℕ}
-use mathlib.Core.List.{List}
-use Rattle.aut68.specs.Language.{aut68}
-use Rattle.aut68.specs.Stores.{Stores}
-use Rattle.aut68.specs.Resting.{TellsRests}
+-- `c_api::aut68_rests_on` promises what `rests_on` does, of the numbers of its answer.
 use Rattle.c_api.proofs.aut68_rests_on.Goals as goal
 
--- the promise, said of equal numbers
-equal_numbers : {book : List ℕ} {N L : ℕ} {s s' : Stores} {v : ℕ} {old new : List ℕ} {code line steps count code' line' steps' count' : ℕ}
-    → (code' ≡ code) × (line' ≡ line) × (steps' ≡ steps) × (count' ≡ count)
-    → TellsRests aut68 book N L s v old code line steps count s' new
-    → TellsRests aut68 book N L s v old code' line' steps' count' s' new
-equal_numbers (c, l, n, k) promise = rw (c, l, n, k) promise
-
 pub returns : goal.returns
-returns c = equal_numbers c.answer_numbers.ensures c.rests_on-a.ensures
+returns c = let n = c.from.ensures in rw (n.0, n.1, n.2, n.3) c.rests_on-a.ensures
