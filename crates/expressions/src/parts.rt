@@ -1,5 +1,5 @@
 // The parts of a walk over an expression that call no other: how far it came, a cell written, a name looked up, its arguments
-// completed.
+// completed. They are inlined, since a call hands an answer through memory.
 ghost use Rattle.std.specs.Prelude.{◌≡◌, ◌≢◌, ◌+◌, ◌≤◌, ◌<◌, length, IfSome};
 ghost use Rattle.std.proofs.Math.Seq.{slice};
 ghost use Rattle.aut68.specs.Sizes.{nesting};
@@ -28,6 +28,7 @@ pub struct Reading {
 }
 
 // Does a byte of this kind open an expression (opens_expression)?
+#[inline(always)]
 pub fn opens(k: u8) -> bool
     ensures { result ≡ opens_kind k }
 {
@@ -36,6 +37,7 @@ pub fn opens(k: u8) -> bool
 
 // Writes the cell x at index `to`, and gives the next index; one past the store's end where there is no room.
 // Kept: the walk hands this index on at each cell, so an Option would be taken apart at each of them.
+#[inline(always)]
 pub fn put(w: &mut [Cell], to: usize, x: Cell) -> usize
     ensures { CellPut w.old w.new to x result }
 {
@@ -47,6 +49,7 @@ pub fn put(w: &mut [Cell], to: usize, x: Cell) -> usize
 }
 
 // The bytes of a name.
+#[inline(always)]
 pub fn word(line: &[u8], n: Name) -> &[u8]
     requires { n.start + n.len ≤ length line.now }
     ensures { result.now ≡ slice n.start (n.start + n.len) line.now }
@@ -55,6 +58,7 @@ pub fn word(line: &[u8], n: Name) -> &[u8]
 }
 
 // Those of the paragraph's name ahead of the point; none if there is no point.
+#[inline(always)]
 pub fn title(line: &[u8], u: UsedName) -> &[u8]
     requires { title_in u.paragraph + size_in u.paragraph ≤ length line.now }
     ensures { result.now ≡ slice (title_in u.paragraph) (title_in u.paragraph + size_in u.paragraph) line.now }
@@ -66,6 +70,7 @@ pub fn title(line: &[u8], u: UsedName) -> &[u8]
 }
 
 // The binding of the used name u. A name behind a point has none.
+#[inline(always)]
 pub fn bound(line: &[u8], scope: &Scope, u: UsedName) -> Option<usize>
     requires within { u.name.start + u.name.len ≤ length line.now }
     requires titled { IfSome u.paragraph (λ p. p.len ≢ 0) }
@@ -79,6 +84,7 @@ pub fn bound(line: &[u8], scope: &Scope, u: UsedName) -> Option<usize>
 
 // The meaning of the used name u whose binding is b, by what w notes of lines, paragraphs and the context. It is not looked up where a
 // fault came before, since it is not asked for then.
+#[inline(always)]
 pub fn name_meaning(
     line: &[u8],
     around: &Lookup,
@@ -97,6 +103,7 @@ pub fn name_meaning(
 }
 
 // The cell of a name that means m; 0 where it means nothing.
+#[inline(always)]
 pub fn cell_of(m: Result<Meaning, Reason>) -> Cell
     ensures { result ≡ cell_in m }
 {
@@ -108,6 +115,7 @@ pub fn cell_of(m: Result<Meaning, Reason>) -> Cell
 
 // The arguments a of a name that means m, at nesting depth `depth`, their cells from `first` on: those left out put in front, with a
 // wrong count as the fault where that cannot be (left_out). It stands at its name, so it goes before a fault in the arguments.
+#[inline(always)]
 pub fn completed(
     around: &Lookup,
     w: &mut [Cell],

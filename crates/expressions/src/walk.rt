@@ -1,4 +1,5 @@
-// The walk over an expression: functions that call each other, one for each form. specs/Posts has the contracts.
+// The walk over an expression: functions that call each other, one for each form. specs/Posts has the contracts. All but one are inlined,
+// since a call hands a scope and an answer through memory.
 ghost use Rattle.std.specs.Prelude.{◌+◌, ◌-◌, ◌≤◌, ◌<◌, length};
 ghost use Rattle.aut68.specs.Sizes.{nesting};
 ghost use Rattle.expressions.specs.Walk.{fault_in, walked};
@@ -44,6 +45,7 @@ pub fn expression(
 
 // A name with its arguments, if any (named): the name's meaning, its cell, the arguments, those left out.
 #[cycle(abstraction_application_arguments_expression_named)]
+#[inline(always)]
 fn named(
     line: &[u8],
     around: &Lookup,
@@ -82,6 +84,7 @@ fn named(
 // One argument or more, up to the `)` (arguments); the scope is theirs.
 // Falls: NESTING + 1 - depth; in the loop the bytes ahead.
 #[cycle(abstraction_application_arguments_expression_named)]
+#[inline(always)]
 fn arguments(
     line: &[u8],
     around: &Lookup,
@@ -120,6 +123,7 @@ fn arguments(
 
 // `<A>B` (application): its cell, A, and B.
 #[cycle(abstraction_application_arguments_expression_named)]
+#[inline(always)]
 fn application(
     line: &[u8],
     around: &Lookup,
@@ -147,6 +151,7 @@ fn application(
 
 // `[x,A]B` (abstraction): its cell, A, and B with x bound.
 #[cycle(abstraction_application_arguments_expression_named)]
+#[inline(always)]
 fn abstraction(
     line: &[u8],
     around: &Lookup,
