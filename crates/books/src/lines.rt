@@ -30,7 +30,7 @@ pub struct Ended {
     pub budget: u32,
 }
 
-// They end where the check is.
+// The lines of a book end where the check has come to.
 fn end_of(p: Progress, checked: Result<(), Reason>) -> Ended
     ensures { (result.checked ≡ checked) × (result.lines ≡ p.lines) × (result.budget ≡ p.budget) }
 {

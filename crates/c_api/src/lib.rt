@@ -183,10 +183,8 @@ pub extern "C" fn aut68_identifier(book: &[u8], table: &[u32], line: u32) -> Aut
     ensures { IdentifierPlaced book.now table.now line result.start result.length }
 {
     let p = verifier::identifier_place(book, table, line);
-    let start = p.start as u64;
-    let length = p.len as u64;
     Aut68Part {
-        start: start,
-        length: length,
+        start: p.start as u64,
+        length: p.len as u64,
     }
 }

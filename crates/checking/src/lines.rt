@@ -1,5 +1,5 @@
 // An ordinary line of a book: read, stored, checked, recorded.
-ghost use Rattle.std.specs.Prelude.{[], ◌∷◌, ◌+◌, ◌≤◌, length};
+ghost use Rattle.std.specs.Prelude.{◌≡◌, ◌≢◌, [], ◌∷◌, ◌+◌, ◌≤◌, length};
 ghost use Rattle.constants.specs.Refusals.{code_in};
 ghost use Rattle.reader.specs.Posts.{number_of};
 ghost use Rattle.checking.specs.Progress.{StoredPost, NotedLine, LinePost};
@@ -86,7 +86,8 @@ pub fn check_line(
     next: usize,
 ) -> Result<(), Reason>
     requires { (p.old.at ≤ next) × (next ≤ length book.now) }
-    ensures { LinePost book.now kinds.now limit p.old.at next p.old.lines p.old.used p.old.entries p.old.budget table.old terms.old index.old w.old (code_in result) p.new.at p.new.lines p.new.used p.new.entries p.new.budget table.new terms.new index.new w.new }
+    ensures kept { code_in result ≢ 0 → (p.new.at ≡ p.old.at) × (p.new.lines ≡ p.old.lines) × (p.new.used ≡ p.old.used) × (p.new.entries ≡ p.old.entries) }
+    ensures line { LinePost book.now kinds.now limit p.old.at next p.old.lines p.old.used p.old.entries p.old.budget table.old terms.old index.old w.old (code_in result) p.new.at p.new.lines p.new.used p.new.entries p.new.budget table.new terms.new index.new w.new }
 {
     let Progress {
         at,

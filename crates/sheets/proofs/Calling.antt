@@ -28,7 +28,7 @@ module _ (book : Bytes) (N L : ℕ) (s : Stores) where
 
   module _ {code line steps : ℕ} {s' : Stores} (d : Determined ending L s code line steps s') {cells : List ℕ} {pairs : List Pair} {old new : List AnswerNumbers} {c l n k : ℕ} where
     -- a refusal is passed on
-    pub sheet_refused : code ≢ 0 → c ≡ code → l ≡ line → n ≡ steps → k ≡ 0 → new ≡ old → ComparesSheet book N L s cells pairs old c l n k s' new
+    sheet_refused : code ≢ 0 → c ≡ code → l ≡ line → n ≡ steps → k ≡ 0 → new ≡ old → ComparesSheet book N L s cells pairs old c l n k s' new
     sheet_refused r e f g z u =
         record {
           admits_first = admits_refused aut68 book N L s d r e f g z u;
@@ -37,7 +37,7 @@ module _ (book : Bytes) (N L : ℕ) (s : Stores) where
         }
 
     -- the sheet is shorter than the list
-    pub sheet_declined : code ≡ 0 → length old < length pairs → c ≡ decline_code store_too_small → l ≡ 0 → n ≡ 0 → k ≡ 0 → new ≡ old → ComparesSheet book N L s cells pairs old c l n k s' new
+    sheet_declined : code ≡ 0 → length old < length pairs → c ≡ decline_code store_too_small → l ≡ 0 → n ≡ 0 → k ≡ 0 → new ≡ old → ComparesSheet book N L s cells pairs old c l n k s' new
     unfolding decline_code
     sheet_declined a h e f g z u =
         record {
@@ -62,12 +62,29 @@ module _ (book : Bytes) (N L : ℕ) (s : Stores) where
               (u, m.no_line ∙ sym y, v, m.nothing_written ∙ sym y');
         }
 
-  -- the pairs are compared over the lines of an accepted book, and the working store is cleared behind them
-  pub sheet_compared : {code line steps : ℕ} {tb ts w ix : List ℕ} → Determined ending L s code line steps (stores tb ts w ix) → code ≡ 0
-      → (cells : List ℕ) (pairs : List Pair) (sheet : List AnswerNumbers) {w₁ w₂ : List ℕ} {sheet' : List AnswerNumbers} {k : ℕ}
-      → length pairs ≤ length sheet → PairsPost tb ts w L line cells pairs sheet (length pairs) w₁ sheet' → length w₁ ≡ length w
-      → w₂ ≡ cleared (work_units * L) w₁ → k ≡ counted (length pairs)
-      → ComparesSheet book N L s cells pairs sheet 0 0 0 k (stores tb ts w₂ ix) sheet'
-  sheet_compared d a cells pairs sheet {w₁} h P e q g =
-      rw (q ∙ work_cleared aut68 book N L s d a w₁ e P.rest_kept)
-      (sheet_marked d a h refl refl refl g (P.means _ (lines_held aut68 book N L s d a) (sym (last_line aut68 book N L s d a))) P.places_kept)
+  -- How the call ends behind the admission, which left the stores s' = (tb, ts, w, ix): the book is refused; or the sheet is shorter than
+  -- the list; or the list is empty; or the pairs are compared over the lines of the book, and the working store is cleared behind them.
+  pub data Ends (code line steps : ℕ) (tb ts w ix cells : List ℕ) (pairs : List Pair) (sheet : List AnswerNumbers) (c l m k : ℕ) (w₂ : List ℕ) (sheet' : List AnswerNumbers) : Type 0 where
+    is_refused : code ≢ 0 → c ≡ code → l ≡ line → m ≡ steps → k ≡ 0 → w₂ ≡ w → sheet' ≡ sheet → Ends code line steps tb ts w ix cells pairs sheet c l m k w₂ sheet'
+    is_short : code ≡ 0 → length sheet < length pairs → c ≡ decline_code store_too_small → l ≡ 0 → m ≡ 0 → k ≡ 0 → w₂ ≡ w → sheet' ≡ sheet
+        → Ends code line steps tb ts w ix cells pairs sheet c l m k w₂ sheet'
+    is_empty : code ≡ 0 → length pairs ≡ 0 → c ≡ 0 → l ≡ 0 → m ≡ 0 → k ≡ 0 → w₂ ≡ w → sheet' ≡ sheet → Ends code line steps tb ts w ix cells pairs sheet c l m k w₂ sheet'
+    is_compared : (w₁ : List ℕ) → code ≡ 0 → length pairs ≤ length sheet → PairsPost tb ts w L line cells pairs sheet (length pairs) w₁ sheet' → length w₁ ≡ length w
+        → w₂ ≡ cleared (work_units * L) w₁ → c ≡ 0 → l ≡ 0 → m ≡ 0 → k ≡ counted (length pairs) → Ends code line steps tb ts w ix cells pairs sheet c l m k w₂ sheet'
+
+  none_counted : {n : ℕ} → n ≡ 0 → 0 ≡ counted n
+  unfolding counted
+  none_counted e = rw e refl
+
+  -- however it ends, the promise is kept
+  pub sheet_compared : {code line steps : ℕ} {tb ts w ix cells : List ℕ} {pairs : List Pair} {sheet : List AnswerNumbers} {c l m k : ℕ} {w₂ : List ℕ} {sheet' : List AnswerNumbers}
+      → Determined ending L s code line steps (stores tb ts w ix) → Ends code line steps tb ts w ix cells pairs sheet c l m k w₂ sheet'
+      → ComparesSheet book N L s cells pairs sheet c l m k (stores tb ts w₂ ix) sheet'
+  unfolding MarkedUpTo
+  sheet_compared d (is_refused n e f g z q u) = rw q (sheet_refused d n e f g z u)
+  sheet_compared d (is_short a h e f g z q u) = rw q (sheet_declined d a h e f g z u)
+  sheet_compared d (is_empty a h e f g z q u) =
+      rw (q, u) (sheet_marked d a (omega arith) e f g (z ∙ none_counted h) (λ i b. absurd (omega arith)) refl)
+  sheet_compared d (is_compared w₁ a h P long q e f g z) =
+      rw (q ∙ work_cleared aut68 book N L s d a w₁ long P.rest_kept)
+      (sheet_marked d a h e f g z (P.means _ (lines_held aut68 book N L s d a) (sym (last_line aut68 book N L s d a))) P.places_kept)

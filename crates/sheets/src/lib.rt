@@ -47,6 +47,12 @@ pub fn compare_sheet(
             steps: 0,
         });
     }
+    if pairs.is_empty() {
+        return Ok(Given {
+            steps: 0,
+            length: 0,
+        });
+    }
     compare_pairs(
         table,
         terms,

@@ -8,9 +8,9 @@ use books::admit;
 use constants::Cell;
 use outcomes::Outcome;
 
-// Checks a book (run). Limit out of range, working store too small: every cell is as
-// it was. Else: the rows, the term cells and the index entries of the lines before the refused one are written, the first
-// WORK_UNITS × limit working cells are zero, and every other cell is as it was.
+// Checks a book (run). Limit out of range, working store too small: every cell is as it was. Else: the rows, the term cells and the
+// index entries of the lines before the refused one are written, the first WORK_UNITS × limit working cells are zero, and every other
+// cell is as it was.
 #[tactic(auto, using(theorems::proofs::Checks::checks))]
 pub fn check_book(
     book: &[u8],

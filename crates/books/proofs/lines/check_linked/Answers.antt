@@ -70,12 +70,12 @@ returns-in-Err-check_line c =
     let e = c.end_of-in-Err-check_line.ensures in
     λ work. ends_as _ (ap code_in e.0) e.1 e.2
     (line_stops (v.4 work) fits c.line_end-next.ensures c.loop-p-test.true c.kinds_of_bytes-kinds.ensures c.in_default.ensures
-    refl refl c.in-Err-check_line.ensures (code_nonzero _))
+    refl refl c.in-Err-check_line.ensures.line (code_nonzero _))
 
 pub loop-p-smaller : goal.loop-p-smaller
 loop-p-smaller c =
     let inside = c.loop-p-test.true in
-    omega (arith, c.in_default-check_line.ensures.onward refl, c.line_end-next.ensures.from inside, c.line_end-next.ensures.within (omega arith))
+    omega (arith, c.in_default-check_line.ensures.line.onward refl, c.line_end-next.ensures.from inside, c.line_end-next.ensures.within (omega arith))
 
 pub loop-p-preserved : goal.loop-p-preserved
 loop-p-preserved c =
@@ -87,7 +87,7 @@ loop-p-preserved c =
       k.auto.index ∙ v.2,
       k.auto.w ∙ v.3,
       λ work. line_passes (v.4 work) fits c.line_end-next.ensures c.loop-p-test.true c.kinds_of_bytes-kinds.ensures c.in_default.ensures
-          refl refl c.in_default-check_line.ensures refl,
+          refl refl c.in_default-check_line.ensures.line refl,
     )
 
 pub returns : goal.returns

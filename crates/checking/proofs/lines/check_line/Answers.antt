@@ -35,8 +35,8 @@ slice_bounds-read_line-start c = c.requires.0
 pub slice_bounds-read_line-end : goal.slice_bounds-read_line-end
 slice_bounds-read_line-end c = c.requires.1
 
-pub returns-in_err-l : goal.returns-in_err-l
-returns-in_err-l c =
+pub returns-in_err-l-clause-line : goal.returns-in_err-l-clause-line
+returns-in_err-l-clause-line c =
     let a = c.args in
     let r = c.read_line in
     let p = err_from_is_err_and c.from_residual.result c.from_residual.ensures.1 in
@@ -46,9 +46,9 @@ returns-in_err-l c =
       means = λ f t i o z h j g. ends_unread a.table.now h j a.p.now.budget c.requires.0 c.requires.1 f t i o z g c.in_err-l.ensures (code_nonzero _);
     })
 
-pub returns-then-not-has_room : goal.returns-then-not-has_room
+pub returns-then-not-has_room-clause-line : goal.returns-then-not-has_room-clause-line
 unfolding code_of
-returns-then-not-has_room c =
+returns-then-not-has_room-clause-line c =
     let a = c.args in
     record {
       onward = λ z. absurd (omega arith);
@@ -60,8 +60,8 @@ returns-then-not-has_room c =
 pub check_stored-requires : goal.check_stored-requires
 check_stored-requires c = (room-here (goal.at.check_stored-requires c).Else-not-has_room).2
 
-pub returns-in_err-check_stored : goal.returns-in_err-check_stored
-returns-in_err-check_stored c =
+pub returns-in_err-check_stored-clause-line : goal.returns-in_err-check_stored-clause-line
+returns-in_err-check_stored-clause-line c =
     let a = c.args in
     let p = err_from_is_err_and c.from_residual-in_err-check_stored.result c.from_residual-in_err-check_stored.ensures.1 in
     rw (p.1, p.2)
@@ -84,8 +84,8 @@ overflow_add-p-3 c = omega (arith, (room-here (goal.at.overflow_add-p-3 c).Else-
 pub overflow_add-p-4 : goal.overflow_add-p-4
 overflow_add-p-4 c = omega (arith, (room-here (goal.at.overflow_add-p-4 c).Else-not-has_room).3)
 
-pub returns : goal.returns
-returns c =
+pub returns-clause-line : goal.returns-clause-line
+returns-clause-line c =
     let a = c.args in
     record {
       onward = λ z. refl;
