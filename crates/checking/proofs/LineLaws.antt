@@ -13,7 +13,6 @@ use Rattle.aut68.specs.Language.{aut68}
 use Rattle.aut68.specs.Sizes.{line_limit, row_width, at_name_length, largest_limit, work_units}
 use Rattle.aut68.specs.Stores.{Stores, Limits, limits_of}
 use Rattle.aut68.specs.Bytes.{Bytes}
-use Rattle.aut68.specs.Expr.{size, cells}
 use Rattle.aut68.specs.Lines.{kind_cells, line_cells, terms_of, row_of, row_cell}
 use Rattle.aut68.specs.Lines as Lines
 use Rattle.aut68.specs.Index.{entry_of, index_of}
@@ -33,7 +32,7 @@ use Rattle.cells.specs.Forests.{size_is_length}
 use Rattle.cells.specs.Links.{link_factor, unlinked, unlinked_long}
 use Rattle.cells.specs.Results.{Result}
 use Rattle.kinds.specs.Kinds.{KindsTable}
-use Rattle.std.specs.Prelude.{Result as Tried, Ok, Err}
+use Rattle.std.specs.Prelude.{Result as Tried, Ok}
 use Rattle.constants.specs.declared.codes.Reason.{Reason}
 use Rattle.constants.specs.Refusals.{code_in}
 use Rattle.reader.specs.Posts.{LineReadTo, number_of}

@@ -1,5 +1,6 @@
 -- `compare_sheet`: each of its four ends is one of Calling.
-use mathlib.Core.Path.{refl}
+use mathlib.Core.Path.{refl, sym}
+use borrow.Author.Tests.{eqb-true}
 use native.Mathlib.Omega.{arith}
 use Rattle.aut68.specs.Language.{aut68}
 use Rattle.aut68.specs.Procedure.Calls.{decline_code}
@@ -19,7 +20,8 @@ unfolding decline_code
 returns-then-sheet-pairs c = sheet_compared _ _ _ _ c.in_ok-a.ensures (is_short refl c.if-sheet-pairs.true refl refl refl refl refl refl)
 
 pub returns-then-is_empty : goal.returns-then-is_empty
-returns-then-is_empty c = ?
+returns-then-is_empty c =
+    sheet_compared _ _ _ _ c.in_ok-a.ensures (is_empty refl (eqb-true _ _ (sym c.if-is_empty.ensures)) refl refl refl refl refl refl)
 
 pub compare_pairs-requires : goal.compare_pairs-requires
 compare_pairs-requires c = (λ _. work_fits aut68 _ _ _ _ c.in_ok-a.ensures refl, omega arith, c.if-sheet-pairs.false)

@@ -1,5 +1,4 @@
 -- `check_lines`: what `check_linked` leaves, without the links.
-use mathlib.Core.Path.{◌∙◌}
 use Rattle.books.proofs.LoopLaws.{ends_unlinked}
 use Rattle.books.proofs.lines.check_lines.Goals as goal
 

@@ -1,6 +1,5 @@
 -- `check_linked`: a paragraph line or an ordinary one passes or stops the check (PieceLaws); the book ends (LoopLaws).
 use mathlib.Core.Path.{refl, ap, ◌∙◌}
-use Prim.Native.Nat.{◌-◌}
 use native.Mathlib.Omega.{arith}
 use Rattle.aut68.specs.Stores.{stores}
 use Rattle.constants.specs.Refusals.{code_in}

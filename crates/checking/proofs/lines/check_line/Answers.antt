@@ -1,5 +1,5 @@
 -- `check_line`: each of its four ends is one of LineLaws.
-use mathlib.Core.Path.{ap, refl, ◌∙◌}
+use mathlib.Core.Path.{ap, refl}
 use mathlib.Core.Bool.{not}
 use Prim.Native.Nat.{suc, ◌+◌, ◌*◌, ◌≤◌, ◌<◌}
 use native.Mathlib.Omega.{arith}
