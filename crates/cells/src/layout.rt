@@ -43,6 +43,7 @@ pub fn line_at(limit: usize) -> usize
 }
 
 // Where the lines that the line names start: there are at most 2 × limit + 1 of them. 0 where there are no units.
+// Kept: as in unit_at.
 pub fn names_at(limit: usize) -> usize
     ensures { 1 ≤ limit → limit ≤ largest_limit → result ≡ names_at limit }
 {

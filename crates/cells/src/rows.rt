@@ -62,6 +62,7 @@ pub fn skip(table: &[u32], s: &[Cell], from: usize, n: usize) -> usize
 }
 
 // The size of the expression at index `at` of s; 0 where `at` is past the end.
+// Kept: the number 0, since open_pair moves so many cells, none of them past the end.
 pub fn extent(table: &[u32], s: &[Cell], at: usize) -> usize
     ensures { Extent table.now s.now at result }
 {

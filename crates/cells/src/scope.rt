@@ -7,7 +7,6 @@ use constants::NESTING;
 
 // `bound` bindings, the outermost first, at nesting depth `depth`. The reader has where a bound name is in the line, the
 // categories where its domain is in the term store.
-// Kept: two arrays, since the contracts of both speak of `starts` and of `lens`.
 #[derive(Clone, Copy)]
 pub struct Scope {
     pub starts: [u32; NESTING],

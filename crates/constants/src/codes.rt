@@ -1,4 +1,4 @@
-// The codes of refusals, and the reasons that they stand for; 0 stands for no refusal. aut68's Answer has the same for the contracts.
+// The codes of refusals, as C callers get them, and the reasons that they stand for; 0 stands for no refusal. aut68's Answer has the same for the contracts.
 ghost use Rattle.std.specs.Prelude.{◌≡◌};
 ghost use Rattle.aut68.specs.Procedure.Answer.{code_of};
 ghost use Rattle.aut68.specs.Procedure.Calls.{decline_code};

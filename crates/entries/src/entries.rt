@@ -6,7 +6,7 @@ use cells::{level_at, line_at, names_at};
 use constants::{Cell, LARGEST_LIMIT, LINE_LIMIT, SMALLEST_LIMIT, WORK_UNITS};
 use sorting::sort;
 
-// The lines that a line names (namesOf), from its indicator and the `size` cells in its units of w, ascending, each once, ahead of these
+// The lines that a line names (names_of), from its indicator and the `size` cells in its units of w, ascending, each once, ahead of these
 // units; how many they are. Where w does not have the units, or a number is too large for them, nothing is written.
 // Kept: 0 for no units, since the caller has seen to them, and takes the number with no test.
 pub fn line_names(w: &mut [Cell], limit: usize, size: usize, indicator: usize) -> usize
@@ -27,7 +27,7 @@ pub fn line_names(w: &mut [Cell], limit: usize, size: usize, indicator: usize) -
     sort(w, at, count, spare)
 }
 
-// Writes an entry behind the first `used` cells of the index (entryOf): n, and the n cells of w from `at` on.
+// Writes an entry behind the first `used` cells of the index (entry_of): n, and the n cells of w from `at` on.
 pub fn put_entry(index: &mut [u32], used: usize, w: &[Cell], at: usize, n: usize)
     ensures { EntryPost index.old used w.now at n index.new }
 {

@@ -3,7 +3,7 @@ use mathlib.Core.Path.{◌≡◌, refl, sym, ap, ◌∙◌, subst}
 use mathlib.Core.Logic.{◌≢◌}
 use mathlib.Core.Bool.{true, false}
 use mathlib.Core.List.{[], ◌∷◌}
-use Prim.Native.Nat.{ℕ, suc, ◌≤◌, ◌<◌}
+use Prim.Native.Nat.{ℕ, zero, suc}
 use native.Mathlib.Omega.{arith}
 use lib.ListN.{length, drop}
 use borrow.Author.Tests.{eq-eqb, ne_eqb, le-leb, lt-leb}
@@ -79,17 +79,10 @@ unfolding starts first_kind opens_kind
 starts_opens [] = refl
 starts_opens (b ∷ bs) = opens_of_kind b
 
-pub opens_low : (k : ℕ) → k ≡ 0 → opens_kind k ≡ false
+pub opens_closed : (k : ℕ) → k ≢ 1 → k ≢ 2 → k ≢ 3 → opens_kind k ≡ false
 unfolding opens_kind
-opens_low k e = rw (lt-leb 1 k (omega arith))
-
-pub opens_high : (k : ℕ) → 3 < k → opens_kind k ≡ false
-unfolding opens_kind
-opens_high k l = rw (le-leb 1 k (omega arith), lt-leb k 3 l)
-
-pub opens_between : (k : ℕ) → k ≢ 0 → k ≤ 3 → opens_kind k ≡ true
-unfolding opens_kind
-opens_between k n l = rw (le-leb 1 k (omega arith), le-leb k 3 l)
+opens_closed zero n m l = refl
+opens_closed (suc k) n m l = rw (le-leb 1 (suc k) (omega arith), lt-leb (suc k) 3 (omega arith))
 
 -- ---- commas and argument strings
 

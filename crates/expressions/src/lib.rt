@@ -1,7 +1,7 @@
 // Expressions of a line: form, names and cells in one walk over the bytes.
 //
-// The form comes first in what is answered: the walk goes on behind a name that means nothing, and only remembers it; 3 and 10
-// of the form end it at once.
+// The form comes first in what is answered: the walk goes on behind a name that means nothing, and only remembers it; a form
+// that is malformed or nested too deep ends it at once.
 #![tactic(auto)]
 
 mod parts;

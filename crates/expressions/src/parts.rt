@@ -4,6 +4,7 @@ ghost use Rattle.std.specs.Prelude.{◌≡◌, ◌≢◌, ◌+◌, ◌≤◌, �
 ghost use Rattle.std.proofs.Math.Seq.{slice};
 ghost use Rattle.aut68.specs.Sizes.{nesting};
 ghost use Rattle.kinds.specs.Kinds.{opens_kind};
+ghost use Rattle.kinds.specs.Numbers.{number, numbers};
 ghost use Rattle.symbols.specs.Symbols.{title_in, size_in};
 ghost use Rattle.meanings.specs.Bindings.{place_in};
 ghost use Rattle.meanings.specs.Meanings.{cell_in};
@@ -14,6 +15,7 @@ ghost use Rattle.expressions.specs.Posts.{NameSought, Completed, place_of, used_
 use cells::Scope;
 use completion::{last_left_out, put_in};
 use constants::{CELL_FACTOR, Cell, NESTING, Reason};
+use kinds::Kind;
 use meanings::{Lookup, Meaning, binding, meaning_of};
 use symbols::{Name, UsedName};
 
@@ -29,10 +31,10 @@ pub struct Reading {
 
 // Does a byte of this kind open an expression (opens_expression)?
 #[inline(always)]
-pub fn opens(k: u8) -> bool
-    ensures { result ≡ opens_kind k }
+pub fn opens(k: Kind) -> bool
+    ensures { result ≡ opens_kind (number k) }
 {
-    matches!(k, kinds::NAME | kinds::LESS | kinds::BRACKET)
+    matches!(k, Kind::Name | Kind::Less | Kind::Bracket)
 }
 
 // Writes the cell x at index `to`, and gives the next index; one past the store's end where there is no room.
@@ -94,7 +96,7 @@ pub fn name_meaning(
     u: UsedName,
 ) -> Result<Meaning, Reason>
     requires { (u.name.start + u.name.len ≤ length line.now) × (title_in u.paragraph + size_in u.paragraph ≤ length line.now) }
-    ensures { NameSought around.now.kinds.now line.now (place_in b) around.now.book.now around.now.table.now around.now.lines around.now.indicator w.now (fault_in fault) (place_of u) (meaning_in result) }
+    ensures { NameSought (numbers around.now.kinds.now) line.now (place_in b) around.now.book.now around.now.table.now around.now.lines around.now.indicator w.now (fault_in fault) (place_of u) (meaning_in result) }
 {
     if let Some(reason) = fault {
         return Err(reason);

@@ -2,12 +2,14 @@
 // since a call hands a scope and an answer through memory.
 ghost use Rattle.std.specs.Prelude.{◌+◌, ◌-◌, ◌≤◌, ◌<◌, length};
 ghost use Rattle.aut68.specs.Sizes.{nesting};
+ghost use Rattle.kinds.specs.Numbers.{numbers};
 ghost use Rattle.expressions.specs.Walk.{fault_in, walked};
 ghost use Rattle.expressions.specs.Posts.{expression_in, named_in, application_in, abstraction_in, go_on, ExpressionRead, ArgumentsRead};
 
 use crate::parts::{Reading, bound, cell_of, completed, name_meaning, opens, put};
 use cells::{Scope, bind, nest};
 use constants::{Cell, NESTING, Reason};
+use kinds::Kind;
 use meanings::Lookup;
 use symbols::{kind_at, name_at, spaces, symbol, used_plain_first};
 
@@ -25,7 +27,7 @@ pub fn expression(
     scope: Scope,
 ) -> Result<Reading, Reason>
     requires { (to ≤ length w.old + 1) × (from ≤ length line.now) }
-    ensures { ExpressionRead (expression_in scope) around.now.kinds.now line.now scope
+    ensures { ExpressionRead (expression_in scope) (numbers around.now.kinds.now) line.now scope
         around.now.book.now around.now.table.now around.now.lines around.now.indicator w.old w.new (go_on from to (fault_in fault)) (walked from to result) }
 {
     let at = spaces(line, from);
@@ -37,8 +39,8 @@ pub fn expression(
         return Err(Reason::Malformed);
     }
     match k {
-        kinds::LESS => application(line, around, w, from, to, fault, scope),
-        kinds::BRACKET => abstraction(line, around, w, from, to, fault, scope),
+        Kind::Less => application(line, around, w, from, to, fault, scope),
+        Kind::Bracket => abstraction(line, around, w, from, to, fault, scope),
         _ => named(line, around, w, from, to, fault, scope),
     }
 }
@@ -56,7 +58,7 @@ fn named(
     scope: Scope,
 ) -> Result<Reading, Reason>
     requires { (to ≤ length w.old + 1) × (from ≤ length line.now) × (scope.depth < nesting) }
-    ensures { ExpressionRead (named_in scope) around.now.kinds.now line.now scope
+    ensures { ExpressionRead (named_in scope) (numbers around.now.kinds.now) line.now scope
         around.now.book.now around.now.table.now around.now.lines around.now.indicator w.old w.new (go_on from to (fault_in fault)) (walked from to result) }
 {
     let Some(n) = used_plain_first(line, around.kinds, from) else {
@@ -67,7 +69,7 @@ fn named(
     let m = name_meaning(line, around, w, fault, b, n);
     let found = m.err();
     let cell = put(w, to, cell_of(m));
-    let Some(open) = symbol(line, around.kinds, next, kinds::OPEN) else {
+    let Some(open) = symbol(line, around.kinds, next, Kind::Open) else {
         let alone = Reading {
             at: next,
             to: cell,
@@ -95,7 +97,7 @@ fn arguments(
     inner: Scope,
 ) -> Result<Reading, Reason>
     requires { (to ≤ length w.old + 1) × (from ≤ length line.now) }
-    ensures { ArgumentsRead around.now.kinds.now line.now inner
+    ensures { ArgumentsRead (numbers around.now.kinds.now) line.now inner
         around.now.book.now around.now.table.now around.now.lines around.now.indicator w.old w.new (go_on from to (fault_in fault)) (walked from to result) }
 {
     let mut at = from;
@@ -107,8 +109,8 @@ fn arguments(
         cell = a.to;
         found = a.fault;
         count += 1;
-        let Some(comma) = symbol(line, around.kinds, a.at, kinds::COMMA) else {
-            let Some(close) = symbol(line, around.kinds, a.at, kinds::CLOSE) else {
+        let Some(comma) = symbol(line, around.kinds, a.at, Kind::Comma) else {
+            let Some(close) = symbol(line, around.kinds, a.at, Kind::Close) else {
                 return Err(Reason::Malformed);
             };
             return Ok(Reading {
@@ -134,16 +136,16 @@ fn application(
     scope: Scope,
 ) -> Result<Reading, Reason>
     requires { (to ≤ length w.old + 1) × (from ≤ length line.now) × (scope.depth < nesting) }
-    ensures { ExpressionRead (application_in scope) around.now.kinds.now line.now scope
+    ensures { ExpressionRead (application_in scope) (numbers around.now.kinds.now) line.now scope
         around.now.book.now around.now.table.now around.now.lines around.now.indicator w.old w.new (go_on from to (fault_in fault)) (walked from to result) }
 {
-    let Some(open) = symbol(line, around.kinds, from, kinds::LESS) else {
+    let Some(open) = symbol(line, around.kinds, from, Kind::Less) else {
         return Err(Reason::Malformed);
     };
     let cell = put(w, to, 4);
     let inner = nest(scope);
     let a = expression(line, around, w, open, cell, fault, inner)?;
-    let Some(close) = symbol(line, around.kinds, a.at, kinds::GREATER) else {
+    let Some(close) = symbol(line, around.kinds, a.at, Kind::Greater) else {
         return Err(Reason::Malformed);
     };
     expression(line, around, w, close, a.to, a.fault, inner)
@@ -162,22 +164,22 @@ fn abstraction(
     scope: Scope,
 ) -> Result<Reading, Reason>
     requires { (to ≤ length w.old + 1) × (from ≤ length line.now) × (scope.depth < nesting) }
-    ensures { ExpressionRead (abstraction_in scope) around.now.kinds.now line.now scope
+    ensures { ExpressionRead (abstraction_in scope) (numbers around.now.kinds.now) line.now scope
         around.now.book.now around.now.table.now around.now.lines around.now.indicator w.old w.new (go_on from to (fault_in fault)) (walked from to result) }
 {
-    let Some(open) = symbol(line, around.kinds, from, kinds::BRACKET) else {
+    let Some(open) = symbol(line, around.kinds, from, Kind::Bracket) else {
         return Err(Reason::Malformed);
     };
     let Some(x) = name_at(line, around.kinds, open) else {
         return Err(Reason::Malformed);
     };
-    let Some(comma) = symbol(line, around.kinds, x.start + x.len, kinds::COMMA) else {
+    let Some(comma) = symbol(line, around.kinds, x.start + x.len, Kind::Comma) else {
         return Err(Reason::Malformed);
     };
     let cell = put(w, to, 5);
     let level = nest(scope);
     let a = expression(line, around, w, comma, cell, fault, level)?;
-    let Some(close) = symbol(line, around.kinds, a.at, kinds::UNBRACKET) else {
+    let Some(close) = symbol(line, around.kinds, a.at, Kind::Unbracket) else {
         return Err(Reason::Malformed);
     };
     let inner = bind(scope, x.start, x.len);

@@ -35,12 +35,6 @@ sign_is_lem {ks} {s} {start} {k} p q =
     first : KindsTable ks → k ≡ first_kind (spaces s)
     first t = q.kind t ∙ ap first_kind p.rest
 
-pub sign_opens : {ks s : Bytes} {k : ℕ} → SignOf ks s k → k ≡ 15 → SignOf ks s 15
-sign_opens {ks} {s} h e = subst (SignOf ks s) e h
-
-pub sign_closes : {ks s : Bytes} {k : ℕ} → SignOf ks s k → k ≡ 16 → SignOf ks s 16
-sign_closes {ks} {s} h e = subst (SignOf ks s) e h
-
 pub sign_other : {ks s : Bytes} {k : ℕ} → SignOf ks s k → k ≢ 15 → k ≢ 16 → SignOf ks s 0
 sign_other {ks} {s} {k} h n m = record { opens = λ t. h.opens t ∙ ne_eqb k 15 n; closes = λ t. h.closes t ∙ ne_eqb k 16 m }
 

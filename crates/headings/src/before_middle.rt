@@ -1,6 +1,8 @@
 // `indicator*identifier:=`.
+ghost use Rattle.kinds.specs.Numbers.{numbers};
 ghost use Rattle.headings.specs.Posts.{PrefixFound, HeadFound};
 
+use kinds::Kind;
 use symbols::{Name, UsedName, kind_at, name_at, spaces, symbol, used_at};
 
 // The indicator (None: it is empty), and the byte behind it.
@@ -11,11 +13,11 @@ pub struct Prefix {
 }
 
 // The indicator, if a name stands at the line's start (an_indicator); None where it is malformed.
-fn prefix_of(line: &[u8], kinds: &[u8; 256]) -> Option<Prefix>
-    ensures { PrefixFound kinds.now line.now result }
+fn prefix_of(line: &[u8], kinds: &[Kind; 256]) -> Option<Prefix>
+    ensures { PrefixFound (numbers kinds.now) line.now result }
 {
     let start = spaces(line, 0);
-    if kind_at(line, kinds, start) != kinds::NAME {
+    if kind_at(line, kinds, start) != Kind::Name {
         return Some(Prefix {
             at: 0,
             indicator: None,
@@ -37,14 +39,14 @@ pub struct Head {
 }
 
 // `indicator*identifier:=`, up to the byte behind it; None where it is malformed.
-pub fn heading(line: &[u8], kinds: &[u8; 256]) -> Option<Head>
-    ensures { HeadFound kinds.now line.now result }
+pub fn heading(line: &[u8], kinds: &[Kind; 256]) -> Option<Head>
+    ensures { HeadFound (numbers kinds.now) line.now result }
 {
     let prefix = prefix_of(line, kinds)?;
-    let star = symbol(line, kinds, prefix.at, kinds::STAR)?;
+    let star = symbol(line, kinds, prefix.at, Kind::Star)?;
     let identifier = name_at(line, kinds, star)?;
-    let colon = symbol(line, kinds, identifier.start + identifier.len, kinds::COLON)?;
-    if kind_at(line, kinds, colon) != kinds::EQUALS {
+    let colon = symbol(line, kinds, identifier.start + identifier.len, Kind::Colon)?;
+    if kind_at(line, kinds, colon) != Kind::Equals {
         return None;
     }
     Some(Head {

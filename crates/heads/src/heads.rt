@@ -21,6 +21,7 @@ pub struct Head {
 }
 
 // The head step of an expression that is no application, by its first cell x: an abbreviation is unfolded.
+// Kept: kinds of cells and of lines as numbers, as the term store and the rows, which C callers read, have them.
 fn step_of_cell(table: &[u32], x: Cell) -> Option<HeadStep>
     ensures { CellStep table.now x (kind_of_step result) (line_of_step result) }
 {

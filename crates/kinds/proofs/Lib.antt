@@ -1,2 +1,3 @@
--- What the proofs of this crate share.
+-- What the proofs of this crate share, and how the tests of kinds read.
 mod Every
+pub mod Tests

@@ -5,11 +5,13 @@ ghost use Rattle.std.specs.Prelude.{List, [], ℕ, ◌+◌, ◌≤◌, ◌<◌, 
 ghost use Rattle.aut68.specs.Bytes.{Bytes};
 ghost use Rattle.aut68.specs.Sizes.{cell_values, book_limit, open_limit};
 ghost use Rattle.constants.specs.Refusals.{code_in};
+ghost use Rattle.kinds.specs.Numbers.{numbers};
 ghost use Rattle.headings.specs.Signs.{kind_of_sign};
 ghost use Rattle.moves.specs.Posts.{OpenNamed, OneOpened, InnermostTold, open_in, NamePost, MovedPost};
 
 use constants::{Cell, OPEN_LIMIT, Reason};
 use headings::{Sign, sign_line};
+use kinds::Kind;
 use names::part_is;
 use noting::{note_closing, note_opening};
 use paragraphs::is_taken;
@@ -67,7 +69,7 @@ fn is_innermost(book: &[u8], o: Open, word: &[u8]) -> bool
 // The line opens the paragraph whose name is that part of the book (check_opening).
 fn open_line(
     book: &[u8],
-    kinds: &[u8; 256],
+    kinds: &[Kind; 256],
     table: &[u32],
     lines: usize,
     w: &mut [Cell],
@@ -77,7 +79,7 @@ fn open_line(
     o: Open,
 ) -> Result<Open, Reason>
     requires { (start + len ≤ length book.now) × (next ≤ length book.now) × (length book.now ≤ book_limit) }
-    ensures { NamePost 43 kinds.now book.now table.now lines w.old w.new start len next o (code_in result) (open_in o result) }
+    ensures { NamePost 43 (numbers kinds.now) book.now table.now lines w.old w.new start len next o (code_in result) (open_in o result) }
 {
     let end = start + len;
     if is_taken(book, kinds, table, lines, w, &book[start..end]) {
@@ -116,7 +118,7 @@ fn close_line(
 // follows it.
 pub fn paragraph_line(
     book: &[u8],
-    kinds: &[u8; 256],
+    kinds: &[Kind; 256],
     table: &[u32],
     lines: usize,
     w: &mut [Cell],
@@ -126,7 +128,7 @@ pub fn paragraph_line(
     o: Open,
 ) -> Result<Open, Reason>
     requires { (at ≤ next) × (next ≤ length book.now) × (length book.now ≤ book_limit) }
-    ensures { MovedPost kinds.now book.now table.now lines w.old w.new at next (kind_of_sign sign) o (code_in result) (open_in o result) }
+    ensures { MovedPost (numbers kinds.now) book.now table.now lines w.old w.new at next (kind_of_sign sign) o (code_in result) (open_in o result) }
 {
     let Some(name) = sign_line(&book[at..next], kinds, sign) else {
         return Err(Reason::Malformed);

@@ -47,7 +47,7 @@ fn link_of(table: &[u32], v: usize) -> usize
     field(table, v, NAME_LENGTH) / LINK_FACTOR
 }
 
-// The line, of the first `lines` of the table, whose identifier is the word, of the hash h, and whose paragraph is q (numberIn), by
+// The line, of the first `lines` of the table, whose identifier is the word, of the hash h, and whose paragraph is q (number_in), by
 // the hints in w.
 pub fn find(
     book: &[u8],

@@ -35,6 +35,7 @@ pub const PLACE_FACTOR: usize = 16777216;
 pub const CHAIN_FACTOR: usize = 65536;
 
 // The i-th cell behind the middle of the store; 0 where there is none.
+// Kept: 0, as a cell of the lent store that notes nothing has it.
 pub fn cell_at(w: &[Cell], i: usize) -> usize
     ensures { (result ≡ get_or w.now (length w.now / 2 + i) 0) × (result < cell_values) }
 {
@@ -118,6 +119,7 @@ fn entry_is(book: &[u8], w: &[Cell], k: usize, word: &[u8], q: usize) -> bool
 }
 
 // The next entry of the chain of paragraph k; 0: none.
+// Kept: 0, as the cells of the lent store have it.
 #[tactic(auto, using(crate::proofs::EntryLaws::next_is_lem))]
 fn next_at(w: &[Cell], k: usize) -> usize
     ensures { k ≤ capacity (length w.now) → result ≡ next_at w.now k }

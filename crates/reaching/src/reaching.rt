@@ -13,6 +13,7 @@ use constants::{CATEGORY_END, CELL_FACTOR, Cell, INDICATOR, KIND, MIDDLE_START};
 use marks::{is_marked, mark};
 
 // The kind of a `PN` line.
+// Kept: a number, as the row in the table, which C callers read, has it.
 const PRIMITIVE: usize = 1;
 
 // Marks the line that the cell x names, if it names one.

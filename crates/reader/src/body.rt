@@ -1,11 +1,13 @@
 // `middle:category` and byte 10.
 ghost use Rattle.std.specs.Prelude.{◌≡◌, ◌+◌, ◌≤◌, length};
+ghost use Rattle.kinds.specs.Numbers.{numbers};
 ghost use Rattle.expressions.specs.Walk.{fault_in, walked};
 ghost use Rattle.expressions.specs.Posts.{go_on};
 ghost use Rattle.reader.specs.Posts.{number_of, body_in, MiddleKind, MiddleRead, CategoryRead, BodyRead};
 
 use constants::{Cell, Reason};
 use expressions::{Reading, expression, put};
+use kinds::Kind;
 use meanings::Lookup;
 use symbols::{spaces, symbol, word_end};
 
@@ -31,9 +33,9 @@ impl From<LineKind> for usize {
 }
 
 // The middle's kind by the word that stands next (a_middle).
-pub fn middle_kind(line: &[u8], kinds: &[u8; 256], at: usize) -> LineKind
+pub fn middle_kind(line: &[u8], kinds: &[Kind; 256], at: usize) -> LineKind
     requires { at ≤ length line.now }
-    ensures { MiddleKind kinds.now line.now at (number_of result) }
+    ensures { MiddleKind (numbers kinds.now) line.now at (number_of result) }
 {
     let start = spaces(line, at);
     let end = word_end(line, kinds, start);
@@ -57,7 +59,7 @@ fn middle(
     kind: LineKind,
 ) -> Result<Reading, Reason>
     requires { (at ≤ length line.now) × (to ≤ length w.old) }
-    ensures { MiddleRead around.now.kinds.now line.now around.now.book.now around.now.table.now around.now.lines around.now.indicator w.old w.new at to (number_of kind) (walked at to result) }
+    ensures { MiddleRead (numbers around.now.kinds.now) line.now around.now.book.now around.now.table.now around.now.lines around.now.indicator w.old w.new at to (number_of kind) (walked at to result) }
 {
     if let LineKind::Abbreviation = kind {
         let scope = cells::no_bindings();
@@ -83,7 +85,7 @@ fn category(
     fault: Option<Reason>,
 ) -> Result<Reading, Reason>
     requires { (to ≤ length w.old + 1) × (from ≤ length line.now) }
-    ensures { CategoryRead around.now.kinds.now line.now around.now.book.now around.now.table.now around.now.lines around.now.indicator w.old w.new (go_on from to (fault_in fault)) (walked from to result) }
+    ensures { CategoryRead (numbers around.now.kinds.now) line.now around.now.book.now around.now.table.now around.now.lines around.now.indicator w.old w.new (go_on from to (fault_in fault)) (walked from to result) }
 {
     let start = spaces(line, from);
     let end = word_end(line, around.kinds, start);
@@ -119,14 +121,14 @@ pub fn body(
     kind: LineKind,
 ) -> Result<BodyCells, Reason>
     requires { (at ≤ length line.now) × (to ≤ length w.old) }
-    ensures { BodyRead around.now.kinds.now line.now around.now.book.now around.now.table.now around.now.lines around.now.indicator w.old w.new at to (number_of kind) (body_in line.now at to result) }
+    ensures { BodyRead (numbers around.now.kinds.now) line.now around.now.book.now around.now.table.now around.now.lines around.now.indicator w.old w.new at to (number_of kind) (body_in line.now at to result) }
 {
     let m = middle(line, around, w, at, to, kind)?;
-    let Some(colon) = symbol(line, around.kinds, m.at, kinds::COLON) else {
+    let Some(colon) = symbol(line, around.kinds, m.at, Kind::Colon) else {
         return Err(Reason::Malformed);
     };
     let c = category(line, around, w, colon, m.to, m.fault)?;
-    let Some(next) = symbol(line, around.kinds, c.at, kinds::NEWLINE) else {
+    let Some(next) = symbol(line, around.kinds, c.at, Kind::Newline) else {
         return Err(Reason::Malformed);
     };
     if next != line.len() {

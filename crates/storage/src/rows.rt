@@ -52,7 +52,7 @@ fn put_field(table: &mut [u32], lines: usize, k: usize, x: usize)
     }
 }
 
-// Writes the row of a line behind the first `lines` rows (rowOf): its identifier's first byte in the book, and the indices
+// Writes the row of a line behind the first `lines` rows (row_of): its identifier's first byte in the book, and the indices
 // where its cells start, where those of its category do, and where they end.
 pub fn put_row(
     table: &mut [u32],

@@ -14,6 +14,7 @@ use cells::{field, kids};
 use constants::{CELL_FACTOR, Cell, KIND};
 
 // The kind of a line whose middle is `EB`.
+// Kept: a number, as the row in the table, which C callers read, has it.
 const EB: usize = 0;
 
 // Do more than n bindings stand around the cell at index i of s? Walking back, `have` counts the whole expressions between cell j and cell

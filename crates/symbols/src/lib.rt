@@ -4,9 +4,13 @@
 ghost use Rattle.std.specs.Prelude.{◌≡◌, ◌+◌, ◌≤◌, ◌<◌, length, get_or, IfSome};
 ghost use Rattle.aut68.specs.Language.{aut68};
 ghost use Rattle.aut68.specs.Bytes.{same_bytes, reserved};
+ghost use Rattle.kinds.specs.Numbers.{number, numbers};
 ghost use Rattle.symbols.specs.Symbols.{PastSpaces, KindAt, PastSymbol, past_in, WordEnd, four_at, NameFound, UsedFound};
 
+use kinds::Kind;
+
 // The first byte from `at` on that is no space; the line's length where there is none (spaces).
+#[inline(always)]
 pub fn spaces(line: &[u8], at: usize) -> usize
     ensures { PastSpaces line.now at result }
 {
@@ -18,19 +22,21 @@ pub fn spaces(line: &[u8], at: usize) -> usize
     at.max(line.len())
 }
 
-// The kind of the byte at `at`; OTHER behind the line's end.
-pub fn kind_at(line: &[u8], kinds: &[u8; 256], at: usize) -> u8
-    ensures { KindAt kinds.now line.now at result }
+// The kind of the byte at `at`; Other behind the line's end.
+#[inline(always)]
+pub fn kind_at(line: &[u8], kinds: &[Kind; 256], at: usize) -> Kind
+    ensures { KindAt (numbers kinds.now) line.now at (number result) }
 {
     match line.get(at) {
         Some(&b) => kinds::kind_of(kinds, b),
-        None => kinds::OTHER,
+        None => Kind::Other,
     }
 }
 
 // Past the symbol of one byte of kind k that stands next, after spaces (symbol); None where another stands.
-pub fn symbol(line: &[u8], kinds: &[u8; 256], at: usize, k: u8) -> Option<usize>
-    ensures past { PastSymbol kinds.now line.now at k (past_in line.now result) }
+#[inline(always)]
+pub fn symbol(line: &[u8], kinds: &[Kind; 256], at: usize, k: Kind) -> Option<usize>
+    ensures past { PastSymbol (numbers kinds.now) line.now at (number k) (past_in line.now result) }
     ensures inside { IfSome result (λ r. r ≤ length line.now) }
 {
     let i = spaces(line, at);
@@ -44,12 +50,13 @@ pub fn symbol(line: &[u8], kinds: &[u8; 256], at: usize, k: u8) -> Option<usize>
     }
 }
 
-// The end of the longest run of name bytes from `at` on (wordOf, after_word).
-pub fn word_end(line: &[u8], kinds: &[u8; 256], at: usize) -> usize
-    ensures { WordEnd kinds.now line.now at result }
+// The end of the longest run of name bytes from `at` on (word_of, after_word).
+#[inline(always)]
+pub fn word_end(line: &[u8], kinds: &[Kind; 256], at: usize) -> usize
+    ensures { WordEnd (numbers kinds.now) line.now at result }
 {
     for i in at..line.len() {
-        if kinds::kind_of(kinds, line[i]) != kinds::NAME {
+        if kinds::kind_of(kinds, line[i]) != Kind::Name {
             return i;
         }
     }
@@ -109,6 +116,7 @@ pub fn same_bytes(a: &[u8], b: &[u8]) -> bool
 }
 
 // Is the word one of type, PN and EB (reserved)?
+#[inline(always)]
 pub fn is_reserved(word: &[u8]) -> bool
     ensures { result ≡ reserved aut68 word.now }
 {
@@ -123,8 +131,9 @@ pub struct Name {
 }
 
 // The name that stands next, after spaces (a_name): 1 to 32 name bytes and none of the three words.
-pub fn name_at(line: &[u8], kinds: &[u8; 256], at: usize) -> Option<Name>
-    ensures { NameFound kinds.now line.now at result }
+#[inline(always)]
+pub fn name_at(line: &[u8], kinds: &[Kind; 256], at: usize) -> Option<Name>
+    ensures { NameFound (numbers kinds.now) line.now at result }
 {
     if at > line.len() {
         return None;
@@ -149,11 +158,11 @@ pub struct UsedName {
 }
 
 // The name that stands next, with the paragraph's name and the point before it, if any (a_used).
-pub fn used_at(line: &[u8], kinds: &[u8; 256], at: usize) -> Option<UsedName>
-    ensures { UsedFound kinds.now line.now at result }
+pub fn used_at(line: &[u8], kinds: &[Kind; 256], at: usize) -> Option<UsedName>
+    ensures { UsedFound (numbers kinds.now) line.now at result }
 {
     let first = name_at(line, kinds, at)?;
-    let Some(point) = symbol(line, kinds, first.start + first.len, kinds::POINT) else {
+    let Some(point) = symbol(line, kinds, first.start + first.len, Kind::Point) else {
         return Some(UsedName {
             paragraph: None,
             name: first,
@@ -167,11 +176,12 @@ pub fn used_at(line: &[u8], kinds: &[u8; 256], at: usize) -> Option<UsedName>
 }
 
 // The same for the reading of expressions, where most names have no point: those take no second call.
-pub fn used_plain_first(line: &[u8], kinds: &[u8; 256], at: usize) -> Option<UsedName>
-    ensures { UsedFound kinds.now line.now at result }
+#[inline(always)]
+pub fn used_plain_first(line: &[u8], kinds: &[Kind; 256], at: usize) -> Option<UsedName>
+    ensures { UsedFound (numbers kinds.now) line.now at result }
 {
     let name = name_at(line, kinds, at)?;
-    match symbol(line, kinds, name.start + name.len, kinds::POINT) {
+    match symbol(line, kinds, name.start + name.len, Kind::Point) {
         None => Some(UsedName {
             paragraph: None,
             name,

@@ -10,7 +10,7 @@ use Rattle.aut68.specs.Expr.{Expr, Exprs, nil, cons, size, cells, cellss, count_
 use Rattle.aut68.specs.Substitution.{lift, substitute, argument_for, instantiate}
 use Rattle.cells.specs.Cells.{Formed, RightCount, Wf, Wfs, At, Below, Outside}
 
--- The answer where a result has more cells than its room: more than any limit.
+-- What None stands for, a result with more cells than its room: more than any limit.
 unfoldable pub no_room : ℕ
 no_room = cell_values
 

@@ -1,2 +1,2 @@
-// Worked cases of papers 1, 7 and 13 are computed in specs/. No code.
+// Worked cases of arguments left out, paragraphs and AUT-QE are computed in specs/. No code.
 #![tactic(auto)]

@@ -1,8 +1,11 @@
-use mathlib.Core.Path.{refl, sym}
+use mathlib.Core.Path.{refl, sym, ap}
 use Rattle.std.proofs.lemmas.Result.{err_from_is_err_and}
 use Rattle.expressions.proofs.CompletedLaws.{completed_refused}
 use Rattle.lookup.specs.Answers.{code_nonzero}
 use native.Mathlib.Omega.{arith}
+use Rattle.kinds.specs.declared.Kind.TheVariants.{Less, Bracket}
+use Rattle.kinds.specs.Numbers.{number}
+use Rattle.kinds.proofs.Tests.{one_of_number}
 use Rattle.expressions.proofs.ExpressionLaws.{stopped, refused_here, walked_here, code_malformed, code_too_large, expression_too_deep, expression_malformed, expression_application, expression_abstraction, expression_named}
 use Rattle.expressions.proofs.PairLaws.{application_unopened, application_first_refused, application_unclosed, application_read}
 use Rattle.expressions.proofs.PairLaws.{abstraction_unopened, abstraction_unnamed, abstraction_no_comma, abstraction_first_refused, abstraction_unclosed, abstraction_read}
@@ -132,20 +135,20 @@ expression-returns-then-scope-ge-NESTING t c =
     (omega (arith, c.if-scope-ge-NESTING)) c.opens.ensures c.if-opens.false (stopped _ _ _))
     (sym code_malformed) c.requires.1
 
-pub expression-returns-in-2 : goal.expression-returns-in-2
-expression-returns-in-2 t c =
+pub expression-returns-in-Less : goal.expression-returns-in-Less
+expression-returns-in-Less t c =
     expression_application c.spaces-at.ensures c.kind_at-k.ensures c.requires.0 c.requires.1 c.if-scope-ge-NESTING.false
-    c.in-2.is c.application.ensures
+    (ap number c.in-Less.is) c.application.ensures
 
-pub expression-returns-in-3 : goal.expression-returns-in-3
-expression-returns-in-3 t c =
+pub expression-returns-in-Bracket : goal.expression-returns-in-Bracket
+expression-returns-in-Bracket t c =
     expression_abstraction c.spaces-at.ensures c.kind_at-k.ensures c.requires.0 c.requires.1 c.if-scope-ge-NESTING.false
-    c.in-3.is c.abstraction.ensures
+    (ap number c.in-Bracket.is) c.abstraction.ensures
 
 pub expression-returns-in_default : goal.expression-returns-in_default
 expression-returns-in_default t c =
     expression_named c.spaces-at.ensures c.kind_at-k.ensures c.requires.0 c.requires.1 c.if-scope-ge-NESTING.false
-    (λ e. omega arith) (λ e. omega arith) c.named.ensures
+    (λ e. c.in_default.not-Less (one_of_number _ Less e)) (λ e. c.in_default.not-Bracket (one_of_number _ Bracket e)) c.named.ensures
 
 pub named-returns-in_default-symbol : goal.named-returns-in_default-symbol
 named-returns-in_default-symbol t c =

@@ -1,5 +1,7 @@
-use mathlib.Core.Path.{refl}
+use mathlib.Core.Path.{refl, sym}
 use native.Mathlib.Omega.{arith}
+use Rattle.kinds.specs.declared.Kind.TheVariants.{Equals}
+use Rattle.kinds.proofs.Tests.{unequal_number, equal_number}
 use Rattle.headings.proofs.HeadLaws.{head_none, heading_no_indicator, heading_no_star, heading_no_name, heading_no_colon, heading_no_equals, heading_read}
 use Rattle.headings.proofs.before_middle.heading.Goals as goal
 
@@ -21,14 +23,14 @@ returns-in_err-colon c =
     head_none _ c.from_residual-in_err-colon.ensures
     (heading_no_colon c.in_ok-prefix.ensures c.in_ok-star.ensures.past c.in_ok-star.ensures.inside n m c.in_err-colon.ensures.past (omega arith))
 
-pub returns-then-kind_at-ne-EQUALS : goal.returns-then-kind_at-ne-EQUALS
-returns-then-kind_at-ne-EQUALS c =
+pub returns-then-ne : goal.returns-then-ne
+returns-then-ne c =
     let (m, n) = c.in_ok-identifier.ensures in
     heading_no_equals c.in_ok-prefix.ensures c.in_ok-star.ensures.past c.in_ok-star.ensures.inside n m
-    c.in_ok-colon.ensures.past c.in_ok-colon.ensures.inside c.kind_at.ensures c.if-kind_at-ne-EQUALS.true
+    c.in_ok-colon.ensures.past c.in_ok-colon.ensures.inside c.kind_at.ensures (unequal_number _ Equals (sym c.if-ne.ensures))
 
 pub returns : goal.returns
 returns c =
     let (m, n) = c.in_ok-identifier.ensures in
     heading_read c.in_ok-prefix.ensures c.in_ok-star.ensures.past c.in_ok-star.ensures.inside n m
-    c.in_ok-colon.ensures.past c.in_ok-colon.ensures.inside c.kind_at.ensures c.if-kind_at-ne-EQUALS.false
+    c.in_ok-colon.ensures.past c.in_ok-colon.ensures.inside c.kind_at.ensures (equal_number _ Equals (sym c.if-ne.ensures))
