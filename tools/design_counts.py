@@ -15,10 +15,8 @@ def code(line):
     return line.split('//')[0].rstrip()
 
 
-def matches(pattern, skip=()):
+def matches(pattern):
     for path, lines in sources():
-        if path.split('/')[0] in skip:
-            continue
         for i, line in enumerate(lines):
             if re.search(pattern, code(line)):
                 yield f'{path}:{i + 1}: {line.strip()}'
@@ -62,7 +60,7 @@ def loops():
 
 def point_1():
     flags = r'^\s+(?:pub )?(?:code|fault|state|kind|found|same|differ|asks|failed): (?:u8|u32|usize|bool|Option<io::Error>),$'
-    yield 'numbers and flags beside values', [p for p in matches(flags) if 'AnswerNumbers' not in p]
+    yield 'numbers and flags beside values', list(matches(flags))
     yield 'enums of the shape of Option or Result', list(matches(r'^(?:pub )?enum (?:Outcome|Answer|Shape|Sought)\b'))
     numbered = r'^(?:pub )?const (?:LIFTING|SUBSTITUTING|NO_ROOM|PAST|OTHER|NAME|LESS|BRACKET|STAR|COLON|EQUALS|COMMA|OPEN|CLOSE|GREATER|UNBRACKET|SPACE|NEWLINE|POINT|PLUS|MINUS): '
     yield 'constants that number kinds, or mean none', list(matches(numbered))
@@ -101,7 +99,6 @@ def point_4():
     yield 'functions that compare, convert or print by hand', [
         p for p, s, c, b in functions()
         if re.search(r'fn (?:same_\w+|code_of|cause_code|reason_of|numbers_of|answer_numbers|outcome_of|pass_on|digit\w*|figure|put_number|say|number|scan\w*|is_reserved)\b', p)
-        and not re.search(r'fn same_(?:expression|cells|run)\b.*==', p)
     ]
 
 

@@ -11,7 +11,7 @@ use cells::{Scope, bind, nest};
 use constants::{Cell, NESTING, Reason};
 use kinds::Kind;
 use meanings::Lookup;
-use symbols::{kind_at, name_at, spaces, symbol, used_plain_first};
+use symbols::{kind_at, name_at, spaces, symbol, used_at};
 
 // The expression that stands next (an_expression, resolve), with the bindings and the nesting levels around it as the scope.
 // It goes on at byte `from` and cell `to`, with the first fault so far. An error is a refusal of the form, Malformed or TooLarge.
@@ -61,7 +61,7 @@ fn named(
     ensures { ExpressionRead (named_in scope) (numbers around.now.kinds.now) line.now scope
         around.now.book.now around.now.table.now around.now.lines around.now.indicator w.old w.new (go_on from to (fault_in fault)) (walked from to result) }
 {
-    let Some(n) = used_plain_first(line, around.kinds, from) else {
+    let Some(n) = used_at(line, around.kinds, from) else {
         return Err(Reason::Malformed);
     };
     let next = n.name.start + n.name.len;

@@ -158,6 +158,7 @@ pub struct UsedName {
 }
 
 // The name that stands next, with the paragraph's name and the point before it, if any (a_used).
+#[inline(always)]
 pub fn used_at(line: &[u8], kinds: &[Kind; 256], at: usize) -> Option<UsedName>
     ensures { UsedFound (numbers kinds.now) line.now at result }
 {
@@ -173,19 +174,4 @@ pub fn used_at(line: &[u8], kinds: &[Kind; 256], at: usize) -> Option<UsedName>
         paragraph: Some(first),
         name,
     })
-}
-
-// The same for the reading of expressions, where most names have no point: those take no second call.
-#[inline(always)]
-pub fn used_plain_first(line: &[u8], kinds: &[Kind; 256], at: usize) -> Option<UsedName>
-    ensures { UsedFound (numbers kinds.now) line.now at result }
-{
-    let name = name_at(line, kinds, at)?;
-    match symbol(line, kinds, name.start + name.len, Kind::Point) {
-        None => Some(UsedName {
-            paragraph: None,
-            name,
-        }),
-        Some(_) => used_at(line, kinds, at),
-    }
 }
