@@ -9,7 +9,7 @@ use std::process::ExitCode;
 
 mod aut68 {
     /// Table cells for each line.
-    pub const ROW_WIDTH: usize = 8;
+    pub const ROW_WIDTH: usize = 9;
     /// Working cells for each cell of the limit.
     pub const WORK_UNITS: usize = 128;
     /// A cell of the term store and of the working store.
@@ -93,7 +93,7 @@ fn main() -> ExitCode {
     let o = aut68::check(&book, BUDGET, LIMIT as u32, &mut table, &mut terms, &mut work, &mut index);
 
     for (i, row) in table.chunks(aut68::ROW_WIDTH).take(o.recorded()).enumerate() {
-        let [_start, _length, _indicator, variables, kind, middle, category, end] = row.try_into().expect("a whole row");
+        let [_start, _length, _indicator, variables, kind, middle, category, end, _paragraph] = row.try_into().expect("a whole row");
         let name = aut68::identifier(&book, &table, i as u32 + 1);
         println!("{:6}  {}  kind {kind}, {variables} variables, {} and {} cells", i + 1, String::from_utf8_lossy(name), category - middle, end - category);
     }
