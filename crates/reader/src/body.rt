@@ -6,7 +6,7 @@ ghost use Rattle.expressions.specs.Posts.{go_on};
 ghost use Rattle.reader.specs.Posts.{number_of, body_in, MiddleKind, MiddleRead, CategoryRead, BodyRead};
 
 use constants::{Cell, Reason};
-use expressions::{Reading, expression, put};
+use expressions::{Reading, put, read_expression};
 use kinds::Kind;
 use meanings::Lookup;
 use symbols::{spaces, symbol, word_end};
@@ -63,7 +63,7 @@ fn middle(
 {
     if let LineKind::Abbreviation = kind {
         let scope = cells::no_bindings();
-        return expression(line, around, w, at, to, None, scope);
+        return read_expression(line, around, w, at, to, None, scope);
     }
     let start = spaces(line, at);
     let end = word_end(line, around.kinds, start);
@@ -99,7 +99,7 @@ fn category(
         });
     }
     let scope = cells::no_bindings();
-    expression(line, around, w, from, to, fault, scope)
+    read_expression(line, around, w, from, to, fault, scope)
 }
 
 // What was read of middle and category: the cells behind those of each, and the first fault of a name.
