@@ -1,6 +1,5 @@
 // Expressions read where the first fault so far is a number.
 ghost use Rattle.std.specs.Prelude.{◌+◌, ◌≤◌, length};
-ghost use Rattle.kinds.specs.Numbers.{numbers};
 ghost use Rattle.expressions.specs.Walk.{numbered};
 ghost use Rattle.expressions.specs.Posts.{expression_in, go_on, ExpressionRead};
 
@@ -30,7 +29,7 @@ pub fn expression(
     scope: Scope,
 ) -> Result<Numbered, Reason>
     requires { (to ≤ length w.old + 1) × (from ≤ length line.now) }
-    ensures { ExpressionRead (expression_in scope) (numbers around.now.kinds.now) line.now scope
+    ensures { ExpressionRead (expression_in scope) around.now.kinds.now line.now scope
         around.now.book.now around.now.table.now around.now.lines around.now.indicator w.old w.new (go_on from to fault) (numbered from to result) }
 {
     let before = if fault == 0 {
