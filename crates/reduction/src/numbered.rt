@@ -1,4 +1,4 @@
-// The head step whose kind is told by a number.
+// The head step, its kind told by a number.
 ghost use Rattle.reduction.specs.Numbered.{NumberedStepPost};
 
 use crate::steps;

@@ -1,4 +1,4 @@
-// The walk whose change is told by numbers.
+// The walk, its change told by numbers.
 ghost use Rattle.std.specs.Prelude.{◌≤◌, length, take};
 ghost use Rattle.aut68.specs.Sizes.{cell_values};
 ghost use Rattle.terms.specs.Grafts.{Stands, GraftPost};
@@ -8,7 +8,7 @@ use crate::leaves::Change;
 use crate::walk::{self, Ends};
 use constants::Cell;
 
-// The walk of a kind: 0 lifts by `number`, any other puts in the expression at index `number`.
+// The walk of a kind and a number: of kind 0 it lifts by `number`, of any other it puts in the expression at index `number`.
 pub fn graft(
     table: &[u32],
     w: &mut [Cell],
