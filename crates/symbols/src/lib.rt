@@ -1,7 +1,7 @@
 // Symbols and words: what stands at a place of a line. specs/Symbols has the contracts.
 #![tactic(auto)]
 
-ghost use Rattle.std.specs.Prelude.{◌≡◌, ◌+◌, ◌≤◌, ◌<◌, length, get_or, IfSome};
+ghost use Rattle.std.specs.Prelude.{◌≡◌, ◌+◌, ◌≤◌, ◌<◌, eqb, length, get_or, not, position, IfSome};
 ghost use Rattle.aut68.specs.Language.{aut68};
 ghost use Rattle.aut68.specs.Bytes.{same_bytes, reserved};
 ghost use Rattle.kinds.specs.Numbers.{number};
@@ -9,17 +9,24 @@ ghost use Rattle.symbols.specs.Symbols.{PastSpaces, KindAt, PastSymbol, past_in,
 
 use kinds::Kind;
 
+// The first of these bytes that is no space.
+#[inline(always)]
+fn first_other(part: &[u8]) -> Option<usize>
+    ensures { result ≡ position (λ b. not (eqb b 32)) part.now }
+{
+    part.iter().position(|&b| b != b' ')
+}
+
 // The first byte from `at` on that is no space; the line's length where there is none (spaces).
 #[inline(always)]
 pub fn spaces(line: &[u8], at: usize) -> usize
     ensures { PastSpaces line.now at result }
 {
-    for i in at..line.len() {
-        if line[i] != b' ' {
-            return i;
-        }
+    if at >= line.len() {
+        return at;
     }
-    at.max(line.len())
+    let rest = &line[at..];
+    at + first_other(rest).unwrap_or(rest.len())
 }
 
 // The kind of the byte at `at`; Other behind the line's end.
