@@ -105,6 +105,7 @@ skipped (b ∷ bs) = at (eqb b 32) refl (skipped bs)
   where
     suc_is : (n : ℕ) → 1 + n ≡ suc n
     suc_is n = omega arith
+
     at : (t : Bool) → eqb b 32 ≡ t → drop (position_or_len (λ c. not (eqb c 32)) bs) bs ≡ spaces bs
         → drop (cond (not (not t)) (1 + position_or_len (λ c. not (eqb c 32)) bs) 0) (b ∷ bs) ≡ spaces (b ∷ bs)
     at true e h = rw (suc_is (position_or_len (λ c. not (eqb c 32)) bs)) (h ∙ sym (cons_space b bs (eqb-true b 32 e)))
@@ -116,10 +117,13 @@ spaces_found {s} {rest} {at} {o} l d e = split (ltb n (length rest)) refl e
   where
     n : ℕ
     n = position_or_len (λ b. not (eqb b 32)) rest
+
     small : n ≤ length rest
     small = prefix_len-le-length (λ b. not (not (eqb b 32))) rest
+
     long : length rest ≡ length s - at
     long = ap length d ∙ length-drop at s
+
     found : {r : ℕ} → r ≡ n → PastSpaces s at (at + r)
     found k =
         rw k record {
@@ -127,6 +131,7 @@ spaces_found {s} {rest} {at} {o} l d e = split (ltb n (length rest)) refl e
           within = λ b. omega (arith, small, long);
           rest = sym (drop-drop n at s) ∙ ap (drop n) (sym d) ∙ skipped rest ∙ ap spaces d;
         }
+
     split : (t : Bool) → ltb n (length rest) ≡ t → o ≡ cond t (Some n) None → PastSpaces s at (at + unwrap_or o (length rest))
     split true g h = found (ap (λ (q : Option ℕ). unwrap_or q (length rest)) h)
     split false g h = found (ap (λ (q : Option ℕ). unwrap_or q (length rest)) h ∙ omega (arith, ltb-false n (length rest) g, small))
