@@ -52,9 +52,7 @@ pub fn compare_sheet(
 {
     let a = admit(book, budget, limit, table, terms, work, index)?;
     let n = compared(pairs.len(), sheet.len());
-    compare_pairs(
-        table, terms, work, limit, a.lines, cells, pairs, sheet, n,
-    );
+    compare_pairs(table, terms, work, limit, a.lines, cells, pairs, sheet, n);
     if n < pairs.len() {
         return Err(Unanswered::Declined {
             cause: Cause::StoreTooSmall,
