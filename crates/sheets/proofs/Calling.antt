@@ -111,8 +111,8 @@ module _ (book : Bytes) (N L : ℕ) (s : Stores) where
   sheet_compared d (is_short a h e f g z q u) = rw q (sheet_declined d a h e f g z u)
   sheet_compared d (is_empty a h e f g z q u) =
       rw (q, u) (sheet_marked d a (omega arith) e f g (z ∙ none_counted h) (λ i b. absurd (omega arith)) refl)
-  sheet_compared {pairs = pairs} {sheet} {sheet' = sheet'} d (is_compared w₁ n a h all P long q e f g z) =
+  sheet_compared {cells = cells} {pairs} {sheet} {sheet' = sheet'} d (is_compared w₁ n a h all P long q e f g z) =
       rw (q ∙ work_cleared aut68 book N L s d a w₁ long P.rest_kept)
       (sheet_marked d a h e f g (z ∙ ap counted all)
-      (subst (λ (i : ℕ). MarkedUpTo i (recorded_at ending).recorded L _ pairs sheet') all (P.means _ (lines_held aut68 book N L s d a) (sym (last_line aut68 book N L s d a))))
+      (subst (λ (i : ℕ). MarkedUpTo i (recorded_at ending).recorded L cells pairs sheet') all (P.means _ (lines_held aut68 book N L s d a) (sym (last_line aut68 book N L s d a))))
       (subst (λ (i : ℕ). drop i sheet' ≡ drop i sheet) all P.places_kept))
