@@ -8,7 +8,6 @@ ghost use Rattle.aut68.specs.Procedure.Run.{nothing, check_lines};
 ghost use Rattle.cells.specs.Layout.{reader_units};
 ghost use Rattle.cells.specs.Links.{unlinked};
 ghost use Rattle.constants.specs.Refusals.{code_in};
-ghost use Rattle.kinds.specs.Numbers.{numbers};
 ghost use Rattle.headings.specs.Signs.{kind_of_sign};
 ghost use Rattle.moves.specs.Posts.{MovedPost, open_in};
 ghost use Rattle.checking.specs.Progress.{Fitting};
@@ -19,7 +18,7 @@ use checking::{Progress, check_line};
 use constants::{Cell, Reason};
 use copies::clear;
 use headings::{Sign, line_end, sign_of};
-use kinds::{Kind, kinds_of_bytes};
+use kinds::kinds_of_bytes;
 use moves::{Open, none_open, paragraph_line};
 use names::unlink;
 
@@ -46,7 +45,7 @@ fn end_of(p: Progress, checked: Result<(), Reason>) -> Ended
 // lookup).
 fn check_signed(
     book: &[u8],
-    kinds: &[Kind; 256],
+    kinds: &[u8; 256],
     table: &[u32],
     lines: usize,
     w: &mut [Cell],
@@ -57,13 +56,23 @@ fn check_signed(
     o: Open,
 ) -> Result<Open, Reason>
     requires { (at ≤ next) × (next ≤ length book.now) × (length book.now ≤ book_limit) }
-    ensures { reader_units * limit ≤ length w.old → MovedPost (numbers kinds.now) book.now table.now lines (take (reader_units * limit) w.old) (take (reader_units * limit) w.new) at next (kind_of_sign sign) o (code_in result) (open_in o result) }
+    ensures { reader_units * limit ≤ length w.old → MovedPost kinds.now book.now table.now lines (take (reader_units * limit) w.old) (take (reader_units * limit) w.new) at next (kind_of_sign sign) o (code_in result) (open_in o result) }
 {
     if limit > w.len() / READER_UNITS {
         return Err(Reason::OutOfSpace);
     }
     let n = READER_UNITS * limit;
-    paragraph_line(book, kinds, table, lines, &mut w[..n], at, next, sign, o)
+    paragraph_line(
+        book,
+        kinds,
+        table,
+        lines,
+        &mut w[..n],
+        at,
+        next,
+        sign.into(),
+        o,
+    )
 }
 
 // The end of the book, with so many paragraphs open.

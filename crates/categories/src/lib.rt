@@ -115,12 +115,10 @@ fn arguments(
         };
         let n = if is_stored(table, x) {
             let u = (x / CELL_FACTOR) as usize;
-            stored_fits(table, terms, w, limit, budget, level, u, wanted)?;
-            1
+            stored_fits(table, terms, w, limit, budget, level, u, wanted)?
         } else {
-            let found = category(table, terms, &s[at..], scope, w, limit, budget, level + 1)?;
-            argument_fits(table, terms, w, limit, budget, found.size, level, wanted)?;
-            found.extent
+            let found = category(table, terms, &s[at..], scope, w, limit, budget, level + 1);
+            argument_fits(table, terms, w, limit, budget, found, level, wanted)?
         };
         keep_argument(s, at, n, w, base);
         at += n;

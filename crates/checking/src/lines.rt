@@ -1,7 +1,6 @@
 // An ordinary line of a book: read, stored, checked, recorded.
 ghost use Rattle.std.specs.Prelude.{◌≡◌, ◌≢◌, [], ◌∷◌, ◌+◌, ◌≤◌, length};
 ghost use Rattle.constants.specs.Refusals.{code_in};
-ghost use Rattle.kinds.specs.Numbers.{numbers};
 ghost use Rattle.reader.specs.Posts.{number_of};
 ghost use Rattle.checking.specs.Progress.{StoredPost, NotedLine, LinePost};
 
@@ -10,7 +9,6 @@ use cells::{READER_UNITS, field, line_at, names_at};
 use constants::{Cell, LAST_LINE, PARAGRAPH, Reason};
 use copies::exchange;
 use entries::{line_names, put_entry};
-use kinds::Kind;
 use names::{hash, identifier, link, put_head};
 use reader::{Line, read_line};
 use storage::{Room, has_room, put_row, sum};
@@ -78,7 +76,7 @@ fn note_line(book: &[u8], table: &mut [u32], lines: usize, w: &mut [Cell], limit
 // changes. The rows are linked.
 pub fn check_line(
     book: &[u8],
-    kinds: &[Kind; 256],
+    kinds: &[u8; 256],
     table: &mut [u32],
     terms: &mut [Cell],
     index: &mut [u32],
@@ -89,7 +87,7 @@ pub fn check_line(
 ) -> Result<(), Reason>
     requires { (p.old.at ≤ next) × (next ≤ length book.now) }
     ensures kept { code_in result ≢ 0 → (p.new.at ≡ p.old.at) × (p.new.lines ≡ p.old.lines) × (p.new.used ≡ p.old.used) × (p.new.entries ≡ p.old.entries) }
-    ensures line { LinePost book.now (numbers kinds.now) limit p.old.at next p.old.lines p.old.used p.old.entries p.old.budget table.old terms.old index.old w.old (code_in result) p.new.at p.new.lines p.new.used p.new.entries p.new.budget table.new terms.new index.new w.new }
+    ensures line { LinePost book.now kinds.now limit p.old.at next p.old.lines p.old.used p.old.entries p.old.budget table.old terms.old index.old w.old (code_in result) p.new.at p.new.lines p.new.used p.new.entries p.new.budget table.new terms.new index.new w.new }
 {
     let Progress {
         at,

@@ -12,7 +12,7 @@ use cells::line_at;
 use columns::OutcomeRow;
 use constants::{Cell, ROW_WIDTH, Reason, WORK_UNITS};
 use copies::load;
-use kinds::{Kind, kinds_of_bytes};
+use kinds::kinds_of_bytes;
 use outcomes::{AnswerNumbers, Numbers};
 use programs::{BUDGET, BYTES, INDEX, LIMIT, LINES, TERMS, argument_count, fail, read_book};
 use reader::read_line;
@@ -60,7 +60,7 @@ fn put_texts<E: Env>(rt: &E, line: &mut [u8; LINE], i: usize) {
 fn read_as(
     line: &mut [u8; LINE],
     x: usize,
-    kinds: &[Kind; 256],
+    kinds: &[u8; 256],
     book: &[u8],
     table: &[u32],
     lines: usize,

@@ -1,6 +1,6 @@
 // The codes of refusals, as C callers get them, and the reasons that they stand for; 0 stands for no refusal. aut68's Answer has the same for the contracts.
 ghost use Rattle.std.specs.Prelude.{◌≡◌};
-ghost use Rattle.aut68.specs.Procedure.Answer.{code_of};
+ghost use Rattle.aut68.specs.Procedure.Answer.{Refusal, code_of};
 ghost use Rattle.aut68.specs.Procedure.Calls.{decline_code};
 ghost use Rattle.constants.specs.Reasons.{refusal_of, decline_of, Decodes};
 
@@ -143,4 +143,12 @@ impl TryFrom<u32> for Reason {
             _ => Err(UnknownCode(code)),
         }
     }
+}
+
+// The reason with this code; the last one for a number that is no code.
+#[tactic(auto, unfolding(aut68::specs::Procedure::Answer::code_of))]
+pub fn reason_of(code: u32) -> Reason
+    ensures { (x : Refusal) → code ≡ code_of x → refusal_of result ≡ x }
+{
+    Reason::try_from(code).unwrap_or(Reason::Unbalanced)
 }

@@ -8,3 +8,4 @@ pub mod PairLaws
 pub mod CompletedLaws
 pub mod NamedLaws
 pub mod ArgumentLaws
+pub mod NumberedLaws

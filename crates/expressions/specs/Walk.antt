@@ -7,6 +7,7 @@ use Rattle.aut68.specs.Procedure.Resolve.{Naming, found}
 use Rattle.constants.specs.declared.codes.Reason.{Reason}
 use Rattle.constants.specs.Reasons.{refusal_of}
 use Rattle.expressions.specs.declared.parts.Reading.{Reading}
+use Rattle.expressions.specs.declared.numbered.Numbered.{Numbered}
 
 -- How far a walk came, in numbers. code: 0, or that of the refusal of the form that ended it. at, to: the next byte and the next cell.
 -- fault: the code of the first refusal of a name, or 0. count: the arguments read, for an argument string.
@@ -29,6 +30,11 @@ read_to r = record { code = 0; at = r.at; to = r.to; fault = fault_in r.fault; c
 abbrev pub walked : ℕ → ℕ → Result Reading Reason → Walked
 walked at to (Ok r) = read_to r
 walked at to (Err e) = record { code = code_of (refusal_of e); at = at; to = to; fault = 0; count = 0 }
+
+-- the same where the fault is a number
+abbrev pub numbered : ℕ → ℕ → Result Numbered Reason → Walked
+numbered at to (Ok r) = record { code = 0; at = r.at; to = r.to; fault = r.fault; count = r.count }
+numbered at to (Err e) = record { code = code_of (refusal_of e); at = at; to = to; fault = 0; count = 0 }
 
 -- Code 0 where the procedure reads a value, of which R holds, and goes on at place `at` of s; else the code of its refusal.
 pub data ReadTo {A : Type 0} (s : Bytes) (R : A → Type 0) (code at : ℕ) : Answer Bytes A → Type 0 where

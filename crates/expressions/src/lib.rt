@@ -4,8 +4,10 @@
 // that is malformed or nested too deep ends it at once.
 #![tactic(auto)]
 
+mod numbered;
 mod parts;
 mod walk;
 
+pub use numbered::{Numbered, expression};
 pub use parts::{Reading, put, title, word};
-pub use walk::expression;
+pub use walk::expression as read_expression;

@@ -4,7 +4,7 @@ ghost use Rattle.std.specs.Prelude.{◌≡◌, ◌≢◌, ◌+◌, ◌≤◌, �
 ghost use Rattle.std.proofs.Math.Seq.{slice};
 ghost use Rattle.aut68.specs.Sizes.{nesting};
 ghost use Rattle.kinds.specs.Kinds.{opens_kind};
-ghost use Rattle.kinds.specs.Numbers.{number, numbers};
+ghost use Rattle.kinds.specs.Numbers.{number};
 ghost use Rattle.symbols.specs.Symbols.{title_in, size_in};
 ghost use Rattle.meanings.specs.Bindings.{place_in};
 ghost use Rattle.meanings.specs.Meanings.{cell_in};
@@ -96,7 +96,7 @@ pub fn name_meaning(
     u: UsedName,
 ) -> Result<Meaning, Reason>
     requires { (u.name.start + u.name.len ≤ length line.now) × (title_in u.paragraph + size_in u.paragraph ≤ length line.now) }
-    ensures { NameSought (numbers around.now.kinds.now) line.now (place_in b) around.now.book.now around.now.table.now around.now.lines around.now.indicator w.now (fault_in fault) (place_of u) (meaning_in result) }
+    ensures { NameSought around.now.kinds.now line.now (place_in b) around.now.book.now around.now.table.now around.now.lines around.now.indicator w.now (fault_in fault) (place_of u) (meaning_in result) }
 {
     if let Some(reason) = fault {
         return Err(reason);

@@ -2,7 +2,6 @@
 // since a call hands a scope and an answer through memory.
 ghost use Rattle.std.specs.Prelude.{◌+◌, ◌-◌, ◌≤◌, ◌<◌, length};
 ghost use Rattle.aut68.specs.Sizes.{nesting};
-ghost use Rattle.kinds.specs.Numbers.{numbers};
 ghost use Rattle.expressions.specs.Walk.{fault_in, walked};
 ghost use Rattle.expressions.specs.Posts.{expression_in, named_in, application_in, abstraction_in, go_on, ExpressionRead, ArgumentsRead};
 
@@ -27,7 +26,7 @@ pub fn expression(
     scope: Scope,
 ) -> Result<Reading, Reason>
     requires { (to ≤ length w.old + 1) × (from ≤ length line.now) }
-    ensures { ExpressionRead (expression_in scope) (numbers around.now.kinds.now) line.now scope
+    ensures { ExpressionRead (expression_in scope) around.now.kinds.now line.now scope
         around.now.book.now around.now.table.now around.now.lines around.now.indicator w.old w.new (go_on from to (fault_in fault)) (walked from to result) }
 {
     let at = spaces(line, from);
@@ -58,7 +57,7 @@ fn named(
     scope: Scope,
 ) -> Result<Reading, Reason>
     requires { (to ≤ length w.old + 1) × (from ≤ length line.now) × (scope.depth < nesting) }
-    ensures { ExpressionRead (named_in scope) (numbers around.now.kinds.now) line.now scope
+    ensures { ExpressionRead (named_in scope) around.now.kinds.now line.now scope
         around.now.book.now around.now.table.now around.now.lines around.now.indicator w.old w.new (go_on from to (fault_in fault)) (walked from to result) }
 {
     let Some(n) = used_at(line, around.kinds, from) else {
@@ -97,7 +96,7 @@ fn arguments(
     inner: Scope,
 ) -> Result<Reading, Reason>
     requires { (to ≤ length w.old + 1) × (from ≤ length line.now) }
-    ensures { ArgumentsRead (numbers around.now.kinds.now) line.now inner
+    ensures { ArgumentsRead around.now.kinds.now line.now inner
         around.now.book.now around.now.table.now around.now.lines around.now.indicator w.old w.new (go_on from to (fault_in fault)) (walked from to result) }
 {
     let mut at = from;
@@ -136,7 +135,7 @@ fn application(
     scope: Scope,
 ) -> Result<Reading, Reason>
     requires { (to ≤ length w.old + 1) × (from ≤ length line.now) × (scope.depth < nesting) }
-    ensures { ExpressionRead (application_in scope) (numbers around.now.kinds.now) line.now scope
+    ensures { ExpressionRead (application_in scope) around.now.kinds.now line.now scope
         around.now.book.now around.now.table.now around.now.lines around.now.indicator w.old w.new (go_on from to (fault_in fault)) (walked from to result) }
 {
     let Some(open) = symbol(line, around.kinds, from, Kind::Less) else {
@@ -164,13 +163,13 @@ fn abstraction(
     scope: Scope,
 ) -> Result<Reading, Reason>
     requires { (to ≤ length w.old + 1) × (from ≤ length line.now) × (scope.depth < nesting) }
-    ensures { ExpressionRead (abstraction_in scope) (numbers around.now.kinds.now) line.now scope
+    ensures { ExpressionRead (abstraction_in scope) around.now.kinds.now line.now scope
         around.now.book.now around.now.table.now around.now.lines around.now.indicator w.old w.new (go_on from to (fault_in fault)) (walked from to result) }
 {
     let Some(open) = symbol(line, around.kinds, from, Kind::Bracket) else {
         return Err(Reason::Malformed);
     };
-    let Some(x) = name_at(line, around.kinds, open) else {
+    let Ok(x) = name_at(line, around.kinds, open) else {
         return Err(Reason::Malformed);
     };
     let Some(comma) = symbol(line, around.kinds, x.start + x.len, Kind::Comma) else {

@@ -14,7 +14,7 @@ use Rattle.aut68.specs.Bytes.{Bytes, name_byte}
 use Rattle.aut68.specs.Rules.Grammar.{IsSign, plus, minus}
 use Rattle.aut68.specs.Procedure.Answer.{done, stop, malformed}
 use Rattle.aut68.specs.Procedure.Parse.{spaces, symbol, a_sign_line, signed}
-use Rattle.kinds.specs.Kinds.{KindsTable, kind_of, place_or0}
+use Rattle.kinds.specs.Kinds.{KindsTable, kind_of, place_or0, kind_last}
 use Rattle.symbols.specs.Symbols.{first_kind, PastSpaces, KindAt, PastSymbol, NameAt}
 use Rattle.symbols.proofs.NextLaws.{after_stop, after_done, starts_kind}
 use Rattle.headings.specs.Posts.{SignOf, SignRead, SignNamed}
@@ -43,8 +43,14 @@ sign_other {ks} {s} {k} h n m = record { opens = λ t. h.opens t ∙ ne_eqb k 15
 pub sign_none : {ks s : Bytes} {k : ℕ} {r : Option Name} → r ≡ None → SignRead ks s k 0 0 → SignNamed ks s k r
 sign_none {ks} {s} {k} e m = subst (SignNamed ks s k) (sym e) m
 
-pub past_kind : {ks s : Bytes} {at k k' r : ℕ} → k ≡ k' → PastSymbol ks s at k r → PastSymbol ks s at k' r
-past_kind {ks} {s} {at} {k} {k'} {r} e p = subst (λ (k : ℕ). PastSymbol ks s at k r) e p
+-- a kind is that of its number; a number that is no kind's is no sign's
+pub kind_read : {ks s : Bytes} {j k start len : ℕ} → (k ≤ 16 → j ≡ k) → SignRead ks s j start len → SignRead ks s k start len
+kind_read f h =
+    record {
+      within = h.within;
+      read = λ t sign i e n. h.read t sign i (f (omega (arith, kind_last sign)) ∙ e) n;
+      missing = λ t sign i e z. h.missing t sign i (f (omega (arith, kind_last sign)) ∙ e) z;
+    }
 
 sign_kind : {sign : ℕ} → IsSign sign → 2 ≤ kind_of sign
 sign_kind plus = omega (arith, sign_kinds.0)

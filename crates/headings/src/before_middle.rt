@@ -1,5 +1,4 @@
 // `indicator*identifier:=`.
-ghost use Rattle.kinds.specs.Numbers.{numbers};
 ghost use Rattle.headings.specs.Posts.{PrefixFound, HeadFound};
 
 use kinds::Kind;
@@ -13,8 +12,8 @@ pub struct Prefix {
 }
 
 // The indicator, if a name stands at the line's start (an_indicator); None where it is malformed.
-fn prefix_of(line: &[u8], kinds: &[Kind; 256]) -> Option<Prefix>
-    ensures { PrefixFound (numbers kinds.now) line.now result }
+fn prefix_of(line: &[u8], kinds: &[u8; 256]) -> Option<Prefix>
+    ensures { PrefixFound kinds.now line.now result }
 {
     let start = spaces(line, 0);
     if kind_at(line, kinds, start) != Kind::Name {
@@ -39,12 +38,14 @@ pub struct Head {
 }
 
 // `indicator*identifier:=`, up to the byte behind it; None where it is malformed.
-pub fn heading(line: &[u8], kinds: &[Kind; 256]) -> Option<Head>
-    ensures { HeadFound (numbers kinds.now) line.now result }
+pub fn heading(line: &[u8], kinds: &[u8; 256]) -> Option<Head>
+    ensures { HeadFound kinds.now line.now result }
 {
     let prefix = prefix_of(line, kinds)?;
     let star = symbol(line, kinds, prefix.at, Kind::Star)?;
-    let identifier = name_at(line, kinds, star)?;
+    let Ok(identifier) = name_at(line, kinds, star) else {
+        return None;
+    };
     let colon = symbol(line, kinds, identifier.start + identifier.len, Kind::Colon)?;
     if kind_at(line, kinds, colon) != Kind::Equals {
         return None;

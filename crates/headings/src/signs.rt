@@ -1,6 +1,6 @@
 // Paragraph lines: `+p` and `-p`.
 ghost use Rattle.std.specs.Prelude.{◌≡◌};
-ghost use Rattle.kinds.specs.Numbers.{number, numbers};
+ghost use Rattle.kinds.specs.Numbers.{number};
 ghost use Rattle.headings.specs.Signs.{kind_of_sign, kind_in};
 ghost use Rattle.headings.specs.Posts.{SignOf, SignNamed};
 
@@ -25,9 +25,18 @@ impl From<Sign> for Kind {
     }
 }
 
+// The number of that kind.
+impl From<Sign> for u8 {
+    ghost from_gives = { λ sign n. n ≡ kind_of_sign sign };
+
+    fn from(sign: Sign) -> u8 {
+        Kind::from(sign).into()
+    }
+}
+
 // The sign of the line, by its first byte behind spaces (signed); None: it is no paragraph line.
-pub fn sign_of(line: &[u8], kinds: &[Kind; 256]) -> Option<Sign>
-    ensures { SignOf (numbers kinds.now) line.now (kind_in result) }
+pub fn sign_of(line: &[u8], kinds: &[u8; 256]) -> Option<Sign>
+    ensures { SignOf kinds.now line.now (kind_in result) }
 {
     let start = spaces(line, 0);
     match kind_at(line, kinds, start) {
@@ -37,12 +46,14 @@ pub fn sign_of(line: &[u8], kinds: &[Kind; 256]) -> Option<Sign>
     }
 }
 
-// The name of the paragraph line with that sign (a_sign_line); None where it is malformed.
-pub fn sign_line(line: &[u8], kinds: &[Kind; 256], sign: Sign) -> Option<Name>
-    ensures { SignNamed (numbers kinds.now) line.now (kind_of_sign sign) result }
+// The name of the paragraph line with the sign of kind k (a_sign_line); None where it is malformed.
+pub fn sign_line(line: &[u8], kinds: &[u8; 256], k: u8) -> Option<Name>
+    ensures { SignNamed kinds.now line.now k result }
 {
-    let at = symbol(line, kinds, 0, Kind::from(sign))?;
-    let name = name_at(line, kinds, at)?;
+    let at = symbol(line, kinds, 0, Kind::from(k))?;
+    let Ok(name) = name_at(line, kinds, at) else {
+        return None;
+    };
     let end = symbol(line, kinds, name.start + name.len, Kind::Newline)?;
     if end == line.len() { Some(name) } else { None }
 }

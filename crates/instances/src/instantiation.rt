@@ -7,7 +7,7 @@ ghost use Rattle.terms.specs.Grafts.{Instantiates, GraftPost};
 use crate::arguments::argument_for;
 use cells::kids;
 use constants::{CELL_FACTOR, Cell};
-use terms::{Change, Ends, Leaf, graft};
+use terms::{Change, Ends, Leaf, graft_by};
 
 // The expression at `from` of s, from under `cut` bindings, with the arguments put in, at `to`. None where the store ends before the
 // result does.
@@ -69,7 +69,7 @@ pub fn instantiate_in(
                     at += 1;
                 }
                 Leaf::Expression(start) => {
-                    let put = graft(table, w, end, start, at, 0, Change::Lift(cut))?;
+                    let put = graft_by(table, w, end, start, at, 0, Change::Lift(cut))?;
                     i += 1;
                     at = put.to;
                 }

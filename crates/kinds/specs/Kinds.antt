@@ -1,6 +1,6 @@
 -- The kind of a byte: 1 for the bytes of names, a kind of its own for every other symbol of one byte, the space and byte 10,
 -- and 0 for a byte that no line has.
-use Rattle.std.specs.Prelude.{◌≡◌, refl, Bool, true, false, ◌||◌, ◌&&◌, List, [], ◌∷◌, map, ℕ, zero, suc, ◌≤◌, ◌<◌, eqb, leb, get_or}
+use Rattle.std.specs.Prelude.{◌≡◌, refl, Bool, true, false, ◌||◌, ◌&&◌, List, [], ◌∷◌, map, ℕ, zero, suc, ◌≤◌, ◌<◌, eqb, leb, ◌+◌, length, get_or}
 use Rattle.std.proofs.Common.{sym, ap, ◌∙◌, arith, eqb-true, eq-eqb, ne_eqb, le-leb}
 use Rattle.std.proofs.lemmas.Bool.{eqb-false, lt-leb}
 use Rattle.aut68.specs.Bytes.{name_byte, opens_expression}
@@ -74,6 +74,24 @@ kind_of_name b e = rw (e, kind_of)
 pub kind_of_other : (b : ℕ) → name_byte b ≡ false → kind_of b ≡ place_or0 2 symbols b
 unfolding kind_of
 kind_of_other b e = rw (e, kind_of)
+
+-- a place is less than the number that the count ends at
+place_ends : (k : ℕ) (cs : List ℕ) (b : ℕ) → 0 < k → place_or0 k cs b < k + length cs
+unfolding place_or0
+place_ends k [] b h = omega arith
+place_ends k (c ∷ cs) b h = split (eqb b c) refl (place_ends (suc k) cs b (omega arith))
+  where
+    split : (t : Bool) → eqb b c ≡ t → place_or0 (suc k) cs b < suc k + length cs → place_or0 k (c ∷ cs) b < k + length (c ∷ cs)
+    split true e ih = rw (place_here k c cs b e) (omega arith)
+    split false e ih = rw (place_later k c cs b e) (omega arith)
+
+-- there are 17 kinds
+pub kind_last : (b : ℕ) → kind_of b ≤ 16
+kind_last b = split (name_byte b) refl
+  where
+    split : (t : Bool) → name_byte b ≡ t → kind_of b ≤ 16
+    split true e = rw (kind_of_name b e) (omega arith)
+    split false e = rw (kind_of_other b e) (omega (arith, place_ends 2 symbols b (omega arith)))
 
 -- kind 1 is the bytes of names
 pub name_of_kind : (b : ℕ) → kind_of b ≡ 1 → name_byte b ≡ true

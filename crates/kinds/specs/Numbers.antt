@@ -1,5 +1,5 @@
 -- The numbers of the kinds, by which Kinds speaks of them.
-use Rattle.std.specs.Prelude.{List, map, ℕ}
+use Rattle.std.specs.Prelude.{ℕ}
 use Rattle.kinds.specs.declared.Kind.{Kind}
 use Rattle.kinds.specs.declared.Kind.TheVariants.{Other, Name, Less, Bracket, Star, Colon, Equals, Comma, Open, Close, Greater, Unbracket, Space, Newline, Point, Plus, Minus}
 
@@ -21,6 +21,3 @@ number Newline = 13
 number Point = 14
 number Plus = 15
 number Minus = 16
-
-abbrev pub numbers : List Kind → List ℕ
-numbers ks = map number ks

@@ -1,7 +1,6 @@
 // What names mean: bound names, lines, variables of the context. specs/Meanings has the contracts.
 ghost use Rattle.aut68.specs.Source.{plain};
 ghost use Rattle.constants.specs.Refusals.{code_in};
-ghost use Rattle.kinds.specs.Numbers.{numbers};
 ghost use Rattle.meanings.specs.Bindings.{place_in};
 ghost use Rattle.meanings.specs.Posts.{BindingFound};
 ghost use Rattle.meanings.specs.Meanings.{SoughtFound, MeaningFound, cell_in, wanted_in};
@@ -9,7 +8,6 @@ ghost use Rattle.meanings.specs.Meanings.{SoughtFound, MeaningFound, cell_in, wa
 use crate::contexts::in_context;
 use cells::{Scope, field};
 use constants::{CELL_FACTOR, CONTEXT_LENGTH, Cell, KIND, LINE_LIMIT, NESTING, Reason};
-use kinds::Kind;
 use names::part_is;
 use paragraphs::find_plain_first;
 
@@ -34,7 +32,7 @@ pub fn binding(line: &[u8], scope: &Scope, word: &[u8]) -> Option<usize>
 #[derive(Clone, Copy)]
 pub struct Lookup<'a> {
     pub book: &'a [u8],
-    pub kinds: &'a [Kind; 256],
+    pub kinds: &'a [u8; 256],
     pub table: &'a [u32],
     pub lines: usize,
     pub indicator: usize,
@@ -56,7 +54,7 @@ pub enum Sought {
 // What a used name that is not bound stands for (look_up), by what w notes of lines, paragraphs and the context. The title is empty for
 // a plain name.
 pub fn look_up(around: &Lookup, w: &[Cell], title: &[u8], word: &[u8]) -> Sought
-    ensures { SoughtFound (numbers around.now.kinds.now) around.now.book.now around.now.table.now around.now.lines around.now.indicator w.now title.now word.now result }
+    ensures { SoughtFound around.now.kinds.now around.now.book.now around.now.table.now around.now.lines around.now.indicator w.now title.now word.now result }
 {
     let Some(v) = find_plain_first(
         around.book,
@@ -96,7 +94,7 @@ pub fn meaning_of(
     title: &[u8],
     word: &[u8],
 ) -> Result<Meaning, Reason>
-    ensures { MeaningFound (place_in b) (numbers around.now.kinds.now) around.now.book.now around.now.table.now around.now.lines around.now.indicator w.now title.now word.now (code_in result) (cell_in result) (wanted_in result) }
+    ensures { MeaningFound (place_in b) around.now.kinds.now around.now.book.now around.now.table.now around.now.lines around.now.indicator w.now title.now word.now (code_in result) (cell_in result) (wanted_in result) }
 {
     match b {
         Some(bindings) if bindings < NESTING => Ok(Meaning {

@@ -5,13 +5,10 @@ ghost use Rattle.std.specs.Prelude.{List, [], ℕ, ◌+◌, ◌≤◌, ◌<◌, 
 ghost use Rattle.aut68.specs.Bytes.{Bytes};
 ghost use Rattle.aut68.specs.Sizes.{cell_values, book_limit, open_limit};
 ghost use Rattle.constants.specs.Refusals.{code_in};
-ghost use Rattle.kinds.specs.Numbers.{numbers};
-ghost use Rattle.headings.specs.Signs.{kind_of_sign};
 ghost use Rattle.moves.specs.Posts.{OpenNamed, OneOpened, InnermostTold, open_in, NamePost, MovedPost};
 
 use constants::{Cell, OPEN_LIMIT, Reason};
 use headings::{Sign, sign_line};
-use kinds::Kind;
 use names::part_is;
 use noting::{note_closing, note_opening};
 use paragraphs::is_taken;
@@ -69,7 +66,7 @@ fn is_innermost(book: &[u8], o: Open, word: &[u8]) -> bool
 // The line opens the paragraph whose name is that part of the book (check_opening).
 fn open_line(
     book: &[u8],
-    kinds: &[Kind; 256],
+    kinds: &[u8; 256],
     table: &[u32],
     lines: usize,
     w: &mut [Cell],
@@ -79,7 +76,7 @@ fn open_line(
     o: Open,
 ) -> Result<Open, Reason>
     requires { (start + len ≤ length book.now) × (next ≤ length book.now) × (length book.now ≤ book_limit) }
-    ensures { NamePost 43 (numbers kinds.now) book.now table.now lines w.old w.new start len next o (code_in result) (open_in o result) }
+    ensures { NamePost 43 kinds.now book.now table.now lines w.old w.new start len next o (code_in result) (open_in o result) }
 {
     let end = start + len;
     if is_taken(book, kinds, table, lines, w, &book[start..end]) {
@@ -114,28 +111,28 @@ fn close_line(
     Ok(Open { depth: d, ..o })
 }
 
-// The paragraph line from `at` up to `next`, with this sign, behind the first `lines` lines (check_piece): the note of the place
+// The paragraph line from `at` up to `next`, its sign of kind k, behind the first `lines` lines (check_piece): the note of the place
 // follows it.
 pub fn paragraph_line(
     book: &[u8],
-    kinds: &[Kind; 256],
+    kinds: &[u8; 256],
     table: &[u32],
     lines: usize,
     w: &mut [Cell],
     at: usize,
     next: usize,
-    sign: Sign,
+    k: u8,
     o: Open,
 ) -> Result<Open, Reason>
     requires { (at ≤ next) × (next ≤ length book.now) × (length book.now ≤ book_limit) }
-    ensures { MovedPost (numbers kinds.now) book.now table.now lines w.old w.new at next (kind_of_sign sign) o (code_in result) (open_in o result) }
+    ensures { MovedPost kinds.now book.now table.now lines w.old w.new at next k o (code_in result) (open_in o result) }
 {
-    let Some(name) = sign_line(&book[at..next], kinds, sign) else {
+    let Some(name) = sign_line(&book[at..next], kinds, k) else {
         return Err(Reason::Malformed);
     };
     let start = at + name.start;
-    match sign {
-        Sign::Opens => open_line(book, kinds, table, lines, w, start, name.len, next, o),
-        Sign::Closes => close_line(book, w, start, name.len, next, o),
+    if k == u8::from(Sign::Closes) {
+        return close_line(book, w, start, name.len, next, o);
     }
+    open_line(book, kinds, table, lines, w, start, name.len, next, o)
 }

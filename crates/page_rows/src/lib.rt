@@ -24,7 +24,13 @@ fn is_text(b: u8) -> bool
 fn text_length(line: &[u8]) -> usize
     ensures { (result ≡ length (text_of line.now)) × (result ≤ length line.now) }
 {
-    line.iter().filter(|b| is_text(**b)).count()
+    let mut n = 0;
+    for &b in line {
+        if is_text(b) {
+            n += 1;
+        }
+    }
+    n
 }
 
 // How many rows a line has.

@@ -3,13 +3,11 @@
 
 ghost use Rattle.std.specs.Prelude.{◌+◌, length, get_or};
 ghost use Rattle.aut68.specs.Procedure.Lookup.{paragraph_in, closed_in};
-ghost use Rattle.kinds.specs.Numbers.{numbers};
 ghost use Rattle.names.specs.Search.{Gives};
 ghost use Rattle.notes.specs.Note.{depth_cell};
 ghost use Rattle.paragraphs.specs.Posts.{LineInLevel, FoundIn, Outward, ClosedFound, PlainFound, UsedFound, TakenTold, CurrentTold};
 
 use constants::Cell;
-use kinds::Kind;
 use names::{find, hash};
 use notes::{COUNT, DEPTH, UPTO, capacity, cell_at, from_at, is_open, noted_in, number_at};
 use walks::walk;
@@ -40,13 +38,13 @@ fn line_in(
 // that is not noted is looked for in the book.
 fn paragraph_in(
     book: &[u8],
-    kinds: &[Kind; 256],
+    kinds: &[u8; 256],
     w: &[Cell],
     word: &[u8],
     h: usize,
     i: usize,
 ) -> Option<usize>
-    ensures { Gives (FoundIn paragraph_in (numbers kinds.now) book.now w.now word.now h i) result }
+    ensures { Gives (FoundIn paragraph_in kinds.now book.now w.now word.now h i) result }
 {
     let q = number_at(w, i);
     let count = cell_at(w, COUNT);
@@ -63,13 +61,13 @@ fn paragraph_in(
 // The same among closed ones (closed_in).
 fn closed_in(
     book: &[u8],
-    kinds: &[Kind; 256],
+    kinds: &[u8; 256],
     w: &[Cell],
     word: &[u8],
     h: usize,
     i: usize,
 ) -> Option<usize>
-    ensures { Gives (FoundIn closed_in (numbers kinds.now) book.now w.now word.now h i) result }
+    ensures { Gives (FoundIn closed_in kinds.now book.now w.now word.now h i) result }
 {
     let n = paragraph_in(book, kinds, w, word, h, i)?;
     if is_open(w, n) {
@@ -92,8 +90,8 @@ fn seek<F: Fn(usize) -> Option<usize>>(w: &[Cell], found_in: F) -> Option<usize>
 }
 
 // The closed paragraph that a name means, sought outward.
-fn closed(book: &[u8], kinds: &[Kind; 256], w: &[Cell], word: &[u8]) -> Option<usize>
-    ensures { Gives (ClosedFound (numbers kinds.now) book.now w.now word.now) result }
+fn closed(book: &[u8], kinds: &[u8; 256], w: &[Cell], word: &[u8]) -> Option<usize>
+    ensures { Gives (ClosedFound kinds.now book.now w.now word.now) result }
 {
     let h = hash(word);
     seek(w, |i| closed_in(book, kinds, w, word, h, i))
@@ -111,14 +109,14 @@ fn plain(book: &[u8], table: &[u32], lines: usize, w: &[Cell], word: &[u8]) -> O
 // Kept: an empty title for none, since no name is empty; `Some` of an empty one would be a third case.
 pub fn find_used(
     book: &[u8],
-    kinds: &[Kind; 256],
+    kinds: &[u8; 256],
     table: &[u32],
     lines: usize,
     w: &[Cell],
     title: &[u8],
     word: &[u8],
 ) -> Option<usize>
-    ensures { Gives (UsedFound (numbers kinds.now) book.now table.now lines w.now title.now word.now) result }
+    ensures { Gives (UsedFound kinds.now book.now table.now lines w.now title.now word.now) result }
 {
     if title.is_empty() {
         return plain(book, table, lines, w, word);
@@ -131,14 +129,14 @@ pub fn find_used(
 // a function that only hands its slices on would slow down.
 pub fn find_plain_first(
     book: &[u8],
-    kinds: &[Kind; 256],
+    kinds: &[u8; 256],
     table: &[u32],
     lines: usize,
     w: &[Cell],
     title: &[u8],
     word: &[u8],
 ) -> Option<usize>
-    ensures { Gives (UsedFound (numbers kinds.now) book.now table.now lines w.now title.now word.now) result }
+    ensures { Gives (UsedFound kinds.now book.now table.now lines w.now title.now word.now) result }
 {
     if title.is_empty() && cell_at(w, DEPTH) == 0 {
         return find(book, table, lines, w, word, hash(word), 0);
@@ -149,13 +147,13 @@ pub fn find_plain_first(
 // Has a line or a paragraph of the innermost open paragraph the name (unused)?
 pub fn is_taken(
     book: &[u8],
-    kinds: &[Kind; 256],
+    kinds: &[u8; 256],
     table: &[u32],
     lines: usize,
     w: &[Cell],
     word: &[u8],
 ) -> bool
-    ensures { TakenTold (numbers kinds.now) book.now table.now lines w.now word.now result }
+    ensures { TakenTold kinds.now book.now table.now lines w.now word.now result }
 {
     let h = hash(word);
     let i = cell_at(w, DEPTH);

@@ -1,15 +1,14 @@
 // `middle:category` and byte 10.
 ghost use Rattle.std.specs.Prelude.{◌≡◌, ◌+◌, ◌≤◌, length};
-ghost use Rattle.kinds.specs.Numbers.{numbers};
 ghost use Rattle.expressions.specs.Walk.{fault_in, walked};
 ghost use Rattle.expressions.specs.Posts.{go_on};
 ghost use Rattle.reader.specs.Posts.{number_of, body_in, MiddleKind, MiddleRead, CategoryRead, BodyRead};
 
 use constants::{Cell, Reason};
-use expressions::{Reading, expression, put};
+use expressions::{Reading, put, read_expression};
 use kinds::Kind;
 use meanings::Lookup;
-use symbols::{spaces, symbol, word_end};
+use symbols::{same_word, spaces, symbol, word_end};
 
 // The kind of a line, by its middle: EB, PN, or an expression.
 #[derive(Clone, Copy)]
@@ -33,17 +32,17 @@ impl From<LineKind> for usize {
 }
 
 // The middle's kind by the word that stands next (a_middle).
-pub fn middle_kind(line: &[u8], kinds: &[Kind; 256], at: usize) -> LineKind
+pub fn middle_kind(line: &[u8], kinds: &[u8; 256], at: usize) -> LineKind
     requires { at ≤ length line.now }
-    ensures { MiddleKind (numbers kinds.now) line.now at (number_of result) }
+    ensures { MiddleKind kinds.now line.now at (number_of result) }
 {
     let start = spaces(line, at);
     let end = word_end(line, kinds, start);
     let word = &line[start..end];
-    if word == b"EB".as_slice() {
+    if same_word(word, b"EB") {
         return LineKind::Variable;
     }
-    if word == b"PN".as_slice() {
+    if same_word(word, b"PN") {
         return LineKind::Primitive;
     }
     LineKind::Abbreviation
@@ -59,11 +58,11 @@ fn middle(
     kind: LineKind,
 ) -> Result<Reading, Reason>
     requires { (at ≤ length line.now) × (to ≤ length w.old) }
-    ensures { MiddleRead (numbers around.now.kinds.now) line.now around.now.book.now around.now.table.now around.now.lines around.now.indicator w.old w.new at to (number_of kind) (walked at to result) }
+    ensures { MiddleRead around.now.kinds.now line.now around.now.book.now around.now.table.now around.now.lines around.now.indicator w.old w.new at to (number_of kind) (walked at to result) }
 {
     if let LineKind::Abbreviation = kind {
         let scope = cells::no_bindings();
-        return expression(line, around, w, at, to, None, scope);
+        return read_expression(line, around, w, at, to, None, scope);
     }
     let start = spaces(line, at);
     let end = word_end(line, around.kinds, start);
@@ -85,11 +84,11 @@ fn category(
     fault: Option<Reason>,
 ) -> Result<Reading, Reason>
     requires { (to ≤ length w.old + 1) × (from ≤ length line.now) }
-    ensures { CategoryRead (numbers around.now.kinds.now) line.now around.now.book.now around.now.table.now around.now.lines around.now.indicator w.old w.new (go_on from to (fault_in fault)) (walked from to result) }
+    ensures { CategoryRead around.now.kinds.now line.now around.now.book.now around.now.table.now around.now.lines around.now.indicator w.old w.new (go_on from to (fault_in fault)) (walked from to result) }
 {
     let start = spaces(line, from);
     let end = word_end(line, around.kinds, start);
-    if &line[start..end] == b"type".as_slice() {
+    if same_word(&line[start..end], b"type") {
         let next = put(w, to, 0);
         return Ok(Reading {
             at: end,
@@ -99,7 +98,7 @@ fn category(
         });
     }
     let scope = cells::no_bindings();
-    expression(line, around, w, from, to, fault, scope)
+    read_expression(line, around, w, from, to, fault, scope)
 }
 
 // What was read of middle and category: the cells behind those of each, and the first fault of a name.
@@ -121,7 +120,7 @@ pub fn body(
     kind: LineKind,
 ) -> Result<BodyCells, Reason>
     requires { (at ≤ length line.now) × (to ≤ length w.old) }
-    ensures { BodyRead (numbers around.now.kinds.now) line.now around.now.book.now around.now.table.now around.now.lines around.now.indicator w.old w.new at to (number_of kind) (body_in line.now at to result) }
+    ensures { BodyRead around.now.kinds.now line.now around.now.book.now around.now.table.now around.now.lines around.now.indicator w.old w.new at to (number_of kind) (body_in line.now at to result) }
 {
     let m = middle(line, around, w, at, to, kind)?;
     let Some(colon) = symbol(line, around.kinds, m.at, Kind::Colon) else {

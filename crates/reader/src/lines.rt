@@ -7,7 +7,6 @@ ghost use Rattle.aut68.specs.Procedure.Resolve.{indicator_line};
 ghost use Rattle.cells.specs.Layout.{reader_units};
 ghost use Rattle.headings.specs.ReadLine.{indicator_in, IndicatorInside};
 ghost use Rattle.kinds.specs.Kinds.{KindsTable};
-ghost use Rattle.kinds.specs.Numbers.{numbers};
 ghost use Rattle.names.specs.Known.{Known};
 ghost use Rattle.notes.specs.Note.{StateNoted};
 ghost use Rattle.reader.specs.Posts.{place_in, IndicatorFound, LineReadInto, LineReadTo};
@@ -17,7 +16,6 @@ use cells::{LINE_UNIT, READER_UNITS, field};
 use constants::{CONTEXT_LENGTH, Cell, KIND, LINE_LIMIT, Reason};
 use expressions::{title, word};
 use headings::heading;
-use kinds::Kind;
 use meanings::{Lookup, note_context};
 use paragraphs::{current, find_used, is_taken};
 use symbols::UsedName;
@@ -25,7 +23,7 @@ use symbols::UsedName;
 // The indicator's line (indicator_line): 0 if empty; None where it is no EB line.
 fn indicator_line(
     line: &[u8],
-    kinds: &[Kind; 256],
+    kinds: &[u8; 256],
     book: &[u8],
     table: &[u32],
     lines: usize,
@@ -34,7 +32,7 @@ fn indicator_line(
 ) -> Option<usize>
     requires { IndicatorInside line.now indicator }
     ensures small { IfSome result (λ v. v < line_limit) }
-    ensures found { (st : State) → KindsTable (numbers kinds.now) → Known st.earlier book.now table.now lines → StateNoted st book.now table.now lines w.now
+    ensures found { (st : State) → KindsTable kinds.now → Known st.earlier book.now table.now lines → StateNoted st book.now table.now lines w.now
         → IndicatorFound lines (place_in result) (indicator_line st (indicator_in line.now indicator) tt) }
 {
     let Some(u) = indicator else {
@@ -76,7 +74,7 @@ pub struct Line {
 // get the cells of middle and category, the one before them the line's context; what is noted of the state lies below.
 fn read_into(
     line: &[u8],
-    kinds: &[Kind; 256],
+    kinds: &[u8; 256],
     book: &[u8],
     table: &[u32],
     lines: usize,
@@ -84,7 +82,7 @@ fn read_into(
     limit: usize,
 ) -> Result<Line, Reason>
     requires { length w.old ≡ reader_units * limit }
-    ensures { LineReadInto (numbers kinds.now) line.now book.now table.now lines limit w.old w.new result }
+    ensures { LineReadInto kinds.now line.now book.now table.now lines limit w.old w.new result }
 {
     let to = LINE_UNIT * limit;
     let Some(h) = heading(line, kinds) else {
@@ -132,14 +130,14 @@ fn read_into(
 // the state below. Writes these three units alone; where w does not have them, nothing, and the line is too large.
 pub fn read_line(
     line: &[u8],
-    kinds: &[Kind; 256],
+    kinds: &[u8; 256],
     book: &[u8],
     table: &[u32],
     lines: usize,
     w: &mut [Cell],
     limit: usize,
 ) -> Result<Line, Reason>
-    ensures { LineReadTo (numbers kinds.now) line.now book.now table.now lines limit w.old w.new result }
+    ensures { LineReadTo kinds.now line.now book.now table.now lines limit w.old w.new result }
 {
     if limit > w.len() / READER_UNITS {
         return Err(Reason::TooLarge);

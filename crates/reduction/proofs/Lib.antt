@@ -3,3 +3,4 @@ mod ArgumentLaws
 mod PutLaws
 mod StepLaws
 mod FormLaws
+mod NumberedLaws

@@ -3,4 +3,5 @@ pub mod Depths
 pub mod Places
 pub mod Frames
 pub mod Posts
+pub mod Numbered
 pub mod FunctionPosts

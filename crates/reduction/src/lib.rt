@@ -5,7 +5,9 @@
 #![tactic(auto)]
 
 mod functions;
+mod numbered;
 mod steps;
 
 pub use functions::{Function, to_function};
-pub use steps::step;
+pub use numbered::{NumberedHead, step};
+pub use steps::step as take_step;

@@ -38,7 +38,8 @@ impl fmt::Display for Answered {
 
 // The cells from index `from` on, below `to`, each behind a space.
 fn cells_between<W: Write>(out: &mut W, cells: &[u32], from: usize, to: usize) -> io::Result<()> {
-    for x in cells.iter().take(to).skip(from) {
+    let end = to.min(cells.len());
+    for x in cells.get(from..end).unwrap_or(&[]) {
         write!(out, " {x}")?;
     }
     Ok(())

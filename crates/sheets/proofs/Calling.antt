@@ -1,9 +1,10 @@
 -- A call: the book is checked, the pairs are compared over its lines, and the working store is cleared again.
-use mathlib.Core.Path.{◌≡◌, refl, sym, ◌∙◌}
-use mathlib.Core.Logic.{◌≢◌}
+use mathlib.Core.Path.{◌≡◌, refl, sym, ap, ◌∙◌, subst}
+use mathlib.Core.Logic.{◌⊎◌, ◌≢◌, inl, inr, ⊎_elim}
 use mathlib.Core.List.{List}
 use Prim.Native.Nat.{ℕ, ◌*◌, ◌≤◌, ◌<◌}
 use native.Mathlib.Omega.{arith}
+use native.Mathlib.Decide.{dec_lt}
 use lib.ListN.{length, drop}
 use Rattle.aut68.specs.Language.{aut68}
 use Rattle.aut68.specs.Sizes.{work_units}
@@ -19,6 +20,31 @@ use Rattle.pairs.specs.declared.Pair.{Pair}
 use Rattle.pairs.specs.Sheet.{MarkedAt, MarkedUpTo, counted, too_short, marked, ComparesSheet}
 use Rattle.pairs.specs.Posts.{PairsPost}
 use Rattle.cells.specs.Posts.{cleared}
+
+-- ---- how many pairs are compared: all of them, or none
+
+module _ {n pairs places : ℕ} (e : (places < pairs → n ≡ 0) × (pairs ≤ places → n ≡ pairs)) where
+  short_or_not : (places < pairs) ⊎ (pairs ≤ places)
+  short_or_not = split (dec_lt places pairs)
+    where
+      split : Dec (places < pairs) → (places < pairs) ⊎ (pairs ≤ places)
+      split (yes l) = inl l
+      split (no m) = inr (omega (arith, m))
+
+  pub compared_fit : (n ≤ pairs) × (n ≤ places)
+  compared_fit = ⊎_elim (λ l. let z = e.0 l in (omega arith, omega arith)) (λ l. let z = e.1 l in (omega arith, omega arith)) short_or_not
+
+  -- fewer than all are none
+  pub compared_none : n < pairs → (places < pairs) × (n ≡ 0)
+  compared_none m = ⊎_elim (λ l. (l, e.0 l)) (λ l. let z = e.1 l in absurd (omega arith)) short_or_not
+
+  pub compared_all : pairs ≤ n → (pairs ≤ places) × (n ≡ pairs)
+  compared_all m = ⊎_elim (λ l. let z = e.0 l in absurd (omega arith)) (λ l. (l, e.1 l)) short_or_not
+
+-- where none are, nothing is written
+pub none_compared : {tb ts w cells w' : List ℕ} {limit lines n : ℕ} {pairs : List Pair} {sheet sheet' : List AnswerNumbers}
+    → PairsPost tb ts w limit lines cells pairs sheet n w' sheet' → n ≡ 0 → (w' ≡ w) × (sheet' ≡ sheet)
+none_compared {sheet = sheet} {sheet'} P z = (P.untouched z, subst (λ (i : ℕ). drop i sheet' ≡ drop i sheet) z P.places_kept)
 
 module _ (book : Bytes) (N L : ℕ) (s : Stores) where
   abbrev ending : Ending
@@ -69,8 +95,8 @@ module _ (book : Bytes) (N L : ℕ) (s : Stores) where
     is_short : code ≡ 0 → length sheet < length pairs → c ≡ decline_code store_too_small → l ≡ 0 → m ≡ 0 → k ≡ 0 → w₂ ≡ w → sheet' ≡ sheet
         → Ends code line steps tb ts w ix cells pairs sheet c l m k w₂ sheet'
     is_empty : code ≡ 0 → length pairs ≡ 0 → c ≡ 0 → l ≡ 0 → m ≡ 0 → k ≡ 0 → w₂ ≡ w → sheet' ≡ sheet → Ends code line steps tb ts w ix cells pairs sheet c l m k w₂ sheet'
-    is_compared : (w₁ : List ℕ) → code ≡ 0 → length pairs ≤ length sheet → PairsPost tb ts w L line cells pairs sheet (length pairs) w₁ sheet' → length w₁ ≡ length w
-        → w₂ ≡ cleared (work_units * L) w₁ → c ≡ 0 → l ≡ 0 → m ≡ 0 → k ≡ counted (length pairs) → Ends code line steps tb ts w ix cells pairs sheet c l m k w₂ sheet'
+    is_compared : (w₁ : List ℕ) (n : ℕ) → code ≡ 0 → length pairs ≤ length sheet → n ≡ length pairs → PairsPost tb ts w L line cells pairs sheet n w₁ sheet' → length w₁ ≡ length w
+        → w₂ ≡ cleared (work_units * L) w₁ → c ≡ 0 → l ≡ 0 → m ≡ 0 → k ≡ counted n → Ends code line steps tb ts w ix cells pairs sheet c l m k w₂ sheet'
 
   none_counted : {n : ℕ} → n ≡ 0 → 0 ≡ counted n
   unfolding counted
@@ -85,6 +111,8 @@ module _ (book : Bytes) (N L : ℕ) (s : Stores) where
   sheet_compared d (is_short a h e f g z q u) = rw q (sheet_declined d a h e f g z u)
   sheet_compared d (is_empty a h e f g z q u) =
       rw (q, u) (sheet_marked d a (omega arith) e f g (z ∙ none_counted h) (λ i b. absurd (omega arith)) refl)
-  sheet_compared d (is_compared w₁ a h P long q e f g z) =
+  sheet_compared {cells = cells} {pairs} {sheet} {sheet' = sheet'} d (is_compared w₁ n a h all P long q e f g z) =
       rw (q ∙ work_cleared aut68 book N L s d a w₁ long P.rest_kept)
-      (sheet_marked d a h e f g z (P.means _ (lines_held aut68 book N L s d a) (sym (last_line aut68 book N L s d a))) P.places_kept)
+      (sheet_marked d a h e f g (z ∙ ap counted all)
+      (subst (λ (i : ℕ). MarkedUpTo i (recorded_at ending).recorded L cells pairs sheet') all (P.means _ (lines_held aut68 book N L s d a) (sym (last_line aut68 book N L s d a))))
+      (subst (λ (i : ℕ). drop i sheet' ≡ drop i sheet) all P.places_kept))

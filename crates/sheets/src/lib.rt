@@ -5,7 +5,7 @@
 ghost use Rattle.aut68.specs.Stores.{stores};
 ghost use Rattle.pairs.specs.Sheet.{ComparesSheet, counted};
 ghost use Rattle.outcomes.specs.Answers.{code_of_answer, line_of_answer, steps_of_answer, length_of_answer};
-ghost use Rattle.std.specs.Prelude.{◌≡◌};
+ghost use Rattle.std.specs.Prelude.{◌≡◌, ◌≤◌, ◌<◌};
 
 use books::admit;
 use constants::{Cause, Cell, WORK_UNITS};
@@ -21,6 +21,16 @@ fn count(pairs: usize) -> u32
         Ok(n) => n,
         Err(_) => u32::MAX,
     }
+}
+
+// How many pairs of a list are compared: all, or none where the sheet has fewer places.
+fn compared(pairs: usize, places: usize) -> usize
+    ensures { (places < pairs → result ≡ 0) × (pairs ≤ places → result ≡ pairs) }
+{
+    if places < pairs {
+        return 0; // and not those that fit
+    }
+    pairs
 }
 
 // Compares pairs of strings over the lines of a book, by the first comparison, each on its own budget, and puts the outcome of each into
@@ -41,32 +51,23 @@ pub fn compare_sheet(
     ensures { ComparesSheet book.now budget limit (stores table.old terms.old work.old index.old) cells.now pairs.now sheet.old (code_of_answer result) (line_of_answer result) (steps_of_answer result) (length_of_answer result) (stores table.new terms.new work.new index.new) sheet.new }
 {
     let a = admit(book, budget, limit, table, terms, work, index)?;
-    if sheet.len() < pairs.len() {
+    let n = compared(pairs.len(), sheet.len());
+    compare_pairs(table, terms, work, limit, a.lines, cells, pairs, sheet, n);
+    if n < pairs.len() {
         return Err(Unanswered::Declined {
             cause: Cause::StoreTooSmall,
             steps: 0,
         });
     }
-    if pairs.is_empty() {
+    if n == 0 {
         return Ok(Given {
             steps: 0,
             length: 0,
         });
     }
-    compare_pairs(
-        table,
-        terms,
-        work,
-        limit,
-        a.lines,
-        cells,
-        pairs,
-        sheet,
-        pairs.len(),
-    );
     clear(work, WORK_UNITS * limit as usize);
     Ok(Given {
         steps: 0,
-        length: count(pairs.len()),
+        length: count(n),
     })
 }

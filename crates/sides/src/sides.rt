@@ -8,7 +8,7 @@ use cells::{extent, kids};
 use constants::{Cell, Reason};
 use copies::{move_cells, same_cells};
 use heads::{Head, HeadStep, head_of};
-use reduction::step;
+use reduction::take_step;
 
 // The next head step of two sides: the side that it is in, and where.
 #[derive(Clone, Copy, Debug, PartialEq, Eq)]
@@ -155,12 +155,12 @@ pub fn turn(
     }
     match next {
         NextStep::Left(head) => {
-            let left = step(table, terms, w, limit, head).ok_or(Reason::TooLarge)?;
+            let left = take_step(table, terms, w, limit, head).ok_or(Reason::TooLarge)?;
             *budget -= 1;
             Ok(Progress::Stepped(Sizes { left, ..sizes }))
         }
         NextStep::Right(head) => {
-            let right = step(table, terms, w, limit, head).ok_or(Reason::TooLarge)?;
+            let right = take_step(table, terms, w, limit, head).ok_or(Reason::TooLarge)?;
             *budget -= 1;
             Ok(Progress::Stepped(Sizes { right, ..sizes }))
         }

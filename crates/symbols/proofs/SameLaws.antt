@@ -1,7 +1,7 @@
 -- Equal bytes: one at once, and four at once as a number.
 use mathlib.Core.Path.{◌≡◌, refl, sym, ap, ap₂, ◌∙◌, subst}
 use mathlib.Core.Logic.{◌≢◌}
-use mathlib.Core.Bool.{Bool, true, false, ◌&&◌}
+use mathlib.Core.Bool.{Bool, true, false}
 use mathlib.Core.List.{[], ◌∷◌}
 use Prim.Native.Nat.{ℕ, zero, suc, ◌+◌, ◌-◌, ◌*◌, ◌≤◌, ◌<◌}
 use native.Mathlib.Omega.{arith}
@@ -10,7 +10,6 @@ use lib.ListN.{length, get_or, drop, get_or-eq_default}
 use borrow.Author.Tests.{eq-eqb, ne_eqb, eqb-true, eqb-false, leb-true, leb-false}
 use Rattle.aut68.specs.Bytes.{Bytes, same_bytes}
 use Rattle.lookup.specs.SameBytes.{same_true}
-use lib.Pointwise.{pointwise}
 use Rattle.symbols.specs.Symbols.{four_at}
 use Rattle.symbols.proofs.SymbolLaws.{step, ended}
 
@@ -149,20 +148,3 @@ lengths_differ (x ∷ xs) (y ∷ ys) n = split (eqb x y) (lengths_differ xs ys (
     split : (t : Bool) → same_bytes xs ys ≡ false → elim t as (λ _. Bool) [ true ↦ same_bytes xs ys | false ↦ false ] ≡ false
     split true e = e
     split false e = refl
-
--- ---- `==` of slices
-
-pub same_pointwise : (a b : Bytes) → pointwise eqb a b ≡ same_bytes a b
-unfolding same_bytes
-same_pointwise [] [] = refl
-same_pointwise [] (y ∷ ys) = refl
-same_pointwise (x ∷ xs) [] = refl
-same_pointwise (x ∷ xs) (y ∷ ys) = split (eqb x y) (same_pointwise xs ys)
-  where
-    split : (t : Bool) → pointwise eqb xs ys ≡ same_bytes xs ys → (t && pointwise eqb xs ys) ≡ elim t as (λ _. Bool) [ true ↦ same_bytes xs ys | false ↦ false ]
-    split true e = e
-    split false e = refl
-
--- a word beside a fixed one
-pub same_word : (a : Bytes) {b w : Bytes} {t : Bool} → t ≡ pointwise eqb a b → b ≡ w → t ≡ same_bytes a w
-same_word a {b} e f = e ∙ same_pointwise a b ∙ ap (same_bytes a) f

@@ -7,9 +7,16 @@ use native.Mathlib.Numerals.{add-one}
 use native.Mathlib.Omega.{arith}
 use lib.ListN.{length, get_or, take, drop, drop_of_length-le}
 use lib.Seq.{drop-cons, take-suc, drop-append-le, slice, length-take-le, take-nil}
-use borrow.Author.Tests.{eq-eqb, ne_eqb, ltb-true, ltb-false}
-use mathlib.Core.Bool.{true, false}
-use lib.Dec.{ltb}
+use borrow.Author.Tests.{eq-eqb, ne_eqb, eqb-true, ltb-true, ltb-false}
+use mathlib.Core.Bool.{Bool, true, false, not}
+use lib.Dec.{eqb, ltb}
+use Rattle.std.specs.Prelude.{Option, Some, None, cond, position}
+use Rattle.std.specs.List.{position_or_len}
+use Rattle.std.specs.Option.{unwrap_or}
+use Rattle.std.proofs.Common.{drop-drop}
+use Rattle.std.proofs.lemmas.Bool.{eqb-false}
+use Rattle.std.proofs.lemmas.List.{length-drop, take_all}
+use Rattle.std.proofs.lemmas.List.Sums.{prefix_len-le-length}
 use Rattle.std.proofs.lemmas.List.{get_or_default}
 use Rattle.aut68.specs.Bytes.{Bytes}
 use Rattle.aut68.specs.Procedure.Answer.{done, stop, malformed}
@@ -90,6 +97,48 @@ module _ {s : Bytes} {at i : ℕ} (h : SpacesSoFar s at i) where
         within = w;
         rest = sym (h.rest ∙ ap spaces (ended s i l) ∙ no_spaces ∙ sym (ended s r e));
       }
+
+-- the first byte that is no space
+skipped : (s : Bytes) → drop (position_or_len (λ b. not (eqb b 32)) s) s ≡ spaces s
+skipped [] = sym no_spaces
+skipped (b ∷ bs) = at (eqb b 32) refl (skipped bs)
+  where
+    suc_is : (n : ℕ) → 1 + n ≡ suc n
+    suc_is n = omega arith
+
+    at : (t : Bool) → eqb b 32 ≡ t → drop (position_or_len (λ c. not (eqb c 32)) bs) bs ≡ spaces bs
+        → drop (cond (not (not t)) (1 + position_or_len (λ c. not (eqb c 32)) bs) 0) (b ∷ bs) ≡ spaces (b ∷ bs)
+    at true e h = rw (suc_is (position_or_len (λ c. not (eqb c 32)) bs)) (h ∙ sym (cons_space b bs (eqb-true b 32 e)))
+    at false e h = sym (cons_other b bs (eqb-false b 32 e))
+
+pub spaces_found : {s rest : Bytes} {at : ℕ} {o : Option ℕ} → at ≤ length s → rest ≡ drop at s → o ≡ position (λ b. not (eqb b 32)) rest
+    → PastSpaces s at (at + unwrap_or o (length rest))
+spaces_found {s} {rest} {at} {o} l d e = split (ltb n (length rest)) refl e
+  where
+    n : ℕ
+    n = position_or_len (λ b. not (eqb b 32)) rest
+
+    small : n ≤ length rest
+    small = prefix_len-le-length (λ b. not (not (eqb b 32))) rest
+
+    long : length rest ≡ length s - at
+    long = ap length d ∙ length-drop at s
+
+    found : {r : ℕ} → r ≡ n → PastSpaces s at (at + r)
+    found k =
+        rw k record {
+          from = omega arith;
+          within = λ b. omega (arith, small, long);
+          rest = sym (drop-drop n at s) ∙ ap (drop n) (sym d) ∙ skipped rest ∙ ap spaces d;
+        }
+
+    split : (t : Bool) → ltb n (length rest) ≡ t → o ≡ cond t (Some n) None → PastSpaces s at (at + unwrap_or o (length rest))
+    split true g h = found (ap (λ (q : Option ℕ). unwrap_or q (length rest)) h)
+    split false g h = found (ap (λ (q : Option ℕ). unwrap_or q (length rest)) h ∙ omega (arith, ltb-false n (length rest) g, small))
+
+-- what is lent from a place on
+pub lent_rest : (s : Bytes) (at : ℕ) → take (length s - at) (drop at s) ≡ drop at s
+lent_rest s at = take_all (length s - at) (drop at s) (omega (arith, length-drop at s))
 
 -- ---- kinds
 

@@ -1,5 +1,5 @@
 -- A name where it is used, with the paragraph's name and a point before it, if any.
-use mathlib.Core.Path.{◌≡◌, refl, sym, ap, ◌∙◌, subst}
+use mathlib.Core.Path.{◌≡◌, refl, sym, ap, ◌∙◌}
 use mathlib.Core.Logic.{◌≢◌}
 use mathlib.Core.Bool.{Bool, true, false}
 use mathlib.Core.List.{[], ◌∷◌}
@@ -15,10 +15,8 @@ use Rattle.aut68.specs.Bytes.{Bytes, name_byte}
 use Rattle.aut68.specs.Source.{plain, inside}
 use Rattle.aut68.specs.Procedure.Answer.{done, stop, malformed, and_then, Refusal}
 use Rattle.aut68.specs.Procedure.Parse.{symbol, a_name, point_if_any, a_used}
-use Rattle.std.specs.Prelude.{Option, None}
 use Rattle.kinds.specs.Kinds.{KindsTable, kind_of, place_or0}
-use Rattle.symbols.specs.Symbols.{PastSymbol, NameAt, used_in, used_by, UsedAt, UsedFound}
-use Rattle.symbols.specs.declared.UsedName.{UsedName}
+use Rattle.symbols.specs.Symbols.{PastSymbol, NameAt, used_in, used_by, UsedAt}
 use Rattle.symbols.proofs.NextLaws.{after_stop, after_done, symbol_starts, symbol_starts_not}
 
 module _ (s : Bytes) (title size start len : ℕ) where
@@ -76,9 +74,6 @@ no_used f =
       read = λ t b n. absurd (n refl);
       missing = λ t b e. f t b;
     }
-
-pub used_none : {ks s : Bytes} {at : ℕ} {r : Option UsedName} → r ≡ None → UsedAt ks s at 0 0 at 0 → UsedFound ks s at r
-used_none {ks} {s} {at} e u = subst (UsedFound ks s at) (sym e) u
 
 pub used_missing : {ks s : Bytes} {at start : ℕ} → NameAt ks s at start 0 → UsedAt ks s at 0 0 at 0
 unfolding a_used

@@ -1,5 +1,5 @@
 -- Symbols and words of a line s. A place is an index; what is left to read at it is `drop at s`.
-use Rattle.std.specs.Prelude.{◌≡◌, ◌≢◌, true, false, [], ◌∷◌, ℕ, ◌+◌, ◌*◌, ◌≤◌, ◌<◌, eqb, length, get_or, drop, Option, Some, None, IfSome}
+use Rattle.std.specs.Prelude.{◌≡◌, ◌≢◌, true, false, [], ◌∷◌, ℕ, ◌+◌, ◌*◌, ◌≤◌, ◌<◌, eqb, length, get_or, drop, Option, Some, None, Result, Ok, Err, IfSome}
 use Rattle.std.proofs.Math.Seq.{slice}
 use Rattle.aut68.specs.Language.{aut68}
 use Rattle.aut68.specs.Bytes.{Bytes}
@@ -58,10 +58,10 @@ pub record NameAt (ks s : Bytes) (at start len : ℕ) : Type 0 where
   pub read : KindsTable ks → at ≤ length s → len ≢ 0 → a_name aut68 (drop at s) ≡ done (slice start (start + len) s) (drop (start + len) s)
   pub missing : KindsTable ks → at ≤ length s → len ≡ 0 → a_name aut68 (drop at s) ≡ stop malformed (drop at s)
 
--- the name that stands next, if one does
-abbrev pub NameFound : Bytes → Bytes → ℕ → Option Name → Type 0
-NameFound ks s at (Some n) = (n.len ≢ 0) × NameAt ks s at n.start n.len
-NameFound ks s at None = (start : ℕ) × NameAt ks s at start 0
+-- the name that stands next, or the place where none does
+abbrev pub NameFound : Bytes → Bytes → ℕ → Result Name ℕ → Type 0
+NameFound ks s at (Ok n) = (n.len ≢ 0) × NameAt ks s at n.start n.len
+NameFound ks s at (Err start) = NameAt ks s at start 0
 
 -- a name where it is used: the len bytes from `start` on, and ahead of the point the size bytes from `title` on, if size is not 0
 unfoldable pub used_in : Bytes → ℕ → ℕ → ℕ → ℕ → Used

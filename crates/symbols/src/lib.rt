@@ -1,31 +1,38 @@
 // Symbols and words: what stands at a place of a line. specs/Symbols has the contracts.
 #![tactic(auto)]
 
-ghost use Rattle.std.specs.Prelude.{◌≡◌, ◌+◌, ◌≤◌, ◌<◌, length, get_or, IfSome};
+ghost use Rattle.std.specs.Prelude.{◌≡◌, ◌+◌, ◌≤◌, ◌<◌, eqb, length, get_or, not, position, IfSome};
 ghost use Rattle.aut68.specs.Language.{aut68};
 ghost use Rattle.aut68.specs.Bytes.{same_bytes, reserved};
-ghost use Rattle.kinds.specs.Numbers.{number, numbers};
+ghost use Rattle.kinds.specs.Numbers.{number};
 ghost use Rattle.symbols.specs.Symbols.{PastSpaces, KindAt, PastSymbol, past_in, WordEnd, four_at, NameFound, UsedFound};
 
 use kinds::Kind;
+
+// The first of these bytes that is no space.
+#[inline(always)]
+fn first_other(part: &[u8]) -> Option<usize>
+    ensures { result ≡ position (λ b. not (eqb b 32)) part.now }
+{
+    part.iter().position(|&b| b != b' ')
+}
 
 // The first byte from `at` on that is no space; the line's length where there is none (spaces).
 #[inline(always)]
 pub fn spaces(line: &[u8], at: usize) -> usize
     ensures { PastSpaces line.now at result }
 {
-    for i in at..line.len() {
-        if line[i] != b' ' {
-            return i;
-        }
+    if at >= line.len() {
+        return at;
     }
-    at.max(line.len())
+    let rest = &line[at..];
+    at + first_other(rest).unwrap_or(rest.len())
 }
 
 // The kind of the byte at `at`; Other behind the line's end.
 #[inline(always)]
-pub fn kind_at(line: &[u8], kinds: &[Kind; 256], at: usize) -> Kind
-    ensures { KindAt (numbers kinds.now) line.now at (number result) }
+pub fn kind_at(line: &[u8], kinds: &[u8; 256], at: usize) -> Kind
+    ensures { KindAt kinds.now line.now at (number result) }
 {
     match line.get(at) {
         Some(&b) => kinds::kind_of(kinds, b),
@@ -35,8 +42,8 @@ pub fn kind_at(line: &[u8], kinds: &[Kind; 256], at: usize) -> Kind
 
 // Past the symbol of one byte of kind k that stands next, after spaces (symbol); None where another stands.
 #[inline(always)]
-pub fn symbol(line: &[u8], kinds: &[Kind; 256], at: usize, k: Kind) -> Option<usize>
-    ensures past { PastSymbol (numbers kinds.now) line.now at (number k) (past_in line.now result) }
+pub fn symbol(line: &[u8], kinds: &[u8; 256], at: usize, k: Kind) -> Option<usize>
+    ensures past { PastSymbol kinds.now line.now at (number k) (past_in line.now result) }
     ensures inside { IfSome result (λ r. r ≤ length line.now) }
 {
     let i = spaces(line, at);
@@ -52,8 +59,8 @@ pub fn symbol(line: &[u8], kinds: &[Kind; 256], at: usize, k: Kind) -> Option<us
 
 // The end of the longest run of name bytes from `at` on (word_of, after_word).
 #[inline(always)]
-pub fn word_end(line: &[u8], kinds: &[Kind; 256], at: usize) -> usize
-    ensures { WordEnd (numbers kinds.now) line.now at result }
+pub fn word_end(line: &[u8], kinds: &[u8; 256], at: usize) -> usize
+    ensures { WordEnd kinds.now line.now at result }
 {
     for i in at..line.len() {
         if kinds::kind_of(kinds, line[i]) != Kind::Name {
@@ -115,12 +122,28 @@ pub fn same_bytes(a: &[u8], b: &[u8]) -> bool
     four(a, last) == four(b, last)
 }
 
+// The same byte by byte, for a word beside one of the three fixed words.
+#[inline(always)]
+pub fn same_word(word: &[u8], fixed: &[u8]) -> bool
+    ensures { result ≡ same_bytes word.now fixed.now }
+{
+    if word.len() != fixed.len() {
+        return false;
+    }
+    for i in 0..word.len() {
+        if word[i] != fixed[i] {
+            return false;
+        }
+    }
+    true
+}
+
 // Is the word one of type, PN and EB (reserved)?
 #[inline(always)]
 pub fn is_reserved(word: &[u8]) -> bool
     ensures { result ≡ reserved aut68 word.now }
 {
-    word == b"type".as_slice() || word == b"PN".as_slice() || word == b"EB".as_slice()
+    same_word(word, b"type") || same_word(word, b"PN") || same_word(word, b"EB")
 }
 
 // A name in the line.
@@ -130,24 +153,21 @@ pub struct Name {
     pub len: usize,
 }
 
-// The name that stands next, after spaces (a_name): 1 to 32 name bytes and none of the three words.
+// The name that stands next, after spaces (a_name): 1 to 32 name bytes and none of the three words; else the place where none does.
 #[inline(always)]
-pub fn name_at(line: &[u8], kinds: &[Kind; 256], at: usize) -> Option<Name>
-    ensures { NameFound (numbers kinds.now) line.now at result }
+pub fn name_at(line: &[u8], kinds: &[u8; 256], at: usize) -> Result<Name, usize>
+    ensures { NameFound kinds.now line.now at result }
 {
     if at > line.len() {
-        return None;
+        return Err(at);
     }
     let start = spaces(line, at);
     let end = word_end(line, kinds, start);
     let len = end - start;
-    if len == 0 || len > constants::NAME_LIMIT {
-        return None;
+    if len == 0 || len > constants::NAME_LIMIT || is_reserved(&line[start..end]) {
+        return Err(start);
     }
-    if is_reserved(&line[start..end]) {
-        return None;
-    }
-    Some(Name { start, len })
+    Ok(Name { start, len })
 }
 
 // A name where it is used, and the paragraph's name before the point; None: there is no point.
@@ -159,17 +179,21 @@ pub struct UsedName {
 
 // The name that stands next, with the paragraph's name and the point before it, if any (a_used).
 #[inline(always)]
-pub fn used_at(line: &[u8], kinds: &[Kind; 256], at: usize) -> Option<UsedName>
-    ensures { UsedFound (numbers kinds.now) line.now at result }
+pub fn used_at(line: &[u8], kinds: &[u8; 256], at: usize) -> Option<UsedName>
+    ensures { UsedFound kinds.now line.now at result }
 {
-    let first = name_at(line, kinds, at)?;
+    let Ok(first) = name_at(line, kinds, at) else {
+        return None;
+    };
     let Some(point) = symbol(line, kinds, first.start + first.len, Kind::Point) else {
         return Some(UsedName {
             paragraph: None,
             name: first,
         });
     };
-    let name = name_at(line, kinds, point)?;
+    let Ok(name) = name_at(line, kinds, point) else {
+        return None;
+    };
     Some(UsedName {
         paragraph: Some(first),
         name,

@@ -4,3 +4,4 @@ pub mod Turns
 pub mod LeafLaws
 pub mod VariableLaws
 pub mod Whole
+pub mod ChangeLaws

@@ -3,4 +3,5 @@ pub mod Made
 pub mod MadeLaws
 pub mod Starts
 pub mod Grafts
+pub mod Numbered
 pub mod Kinds

@@ -7,8 +7,10 @@
 
 mod leaves;
 mod made;
+mod numbered;
 mod walk;
 
 pub use leaves::{Change, Leaf};
 pub use made::{raise, substitute};
-pub use walk::{Ends, graft};
+pub use numbered::graft;
+pub use walk::{Ends, graft as graft_by};

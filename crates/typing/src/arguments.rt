@@ -1,9 +1,10 @@
 // An argument of a constant: its category against the wanted one.
-ghost use Rattle.std.specs.Prelude.{ℕ, ◌+◌, ◌<◌};
+ghost use Rattle.std.specs.Prelude.{◌≡◌, ℕ, ◌+◌, ◌<◌, IfOk};
 ghost use Rattle.aut68.specs.Lines.{row_cell};
 ghost use Rattle.aut68.specs.Sizes.{at_category, at_end};
 ghost use Rattle.cells.specs.Layout.{levels};
 ghost use Rattle.constants.specs.Refusals.{code_in};
+ghost use Rattle.levels.specs.Finds.{found_size, found_extent};
 ghost use Rattle.terms.specs.Made.{InstancePost};
 ghost use Rattle.typing.specs.FittingPosts.{WantedPost, StoredFitsPost, ArgumentFitsPost};
 
@@ -11,7 +12,7 @@ use crate::comparisons::compare_units;
 use cells::{field, level_at};
 use constants::{CATEGORY_END, CATEGORY_START, Cell, Reason};
 use instances::instantiate;
-use levels::stored;
+use levels::{Found, stored};
 use matching::is_instance;
 
 // The wanted category of an argument: that of the context variable on a line, with the arguments before put in, `count` of them, which
@@ -85,7 +86,8 @@ fn compare_wanted(
     compare_units(table, terms, w, limit, budget, level + 1, level + 2)
 }
 
-// An argument of a constant whose category is stored on line v: that category and the wanted one, compared.
+// An argument of a constant whose category is stored on line v: that category and the wanted one, compared. Returns how many cells the
+// argument has: one.
 pub fn stored_fits(
     table: &[u32],
     terms: &[Cell],
@@ -95,39 +97,45 @@ pub fn stored_fits(
     level: usize,
     v: usize,
     wanted: Wanted,
-) -> Result<(), Reason>
+) -> Result<usize, Reason>
     requires { level + 2 < levels }
     ensures { StoredFitsPost table.now terms.now w.old limit budget.old level v
-        wanted.entry.line wanted.entry.base wanted.entry.count wanted.entry.starts.now w.new (code_in result) budget.new }
+        wanted.entry.line wanted.entry.base wanted.entry.count wanted.entry.starts.now w.new (code_in result) budget.new
+        × IfOk result (λ extent. extent ≡ 1) }
 {
     let at = field(table, v, CATEGORY_START);
     let end = field(table, v, CATEGORY_END);
     if end >= at && end - at <= limit && wanted.seen_at(table, terms, w, terms, at, end - at) {
-        return Ok(());
+        return Ok(1);
     }
     stored(table, terms, w, limit, level + 1, v)?;
-    compare_wanted(table, terms, w, limit, budget, level, wanted)
+    compare_wanted(table, terms, w, limit, budget, level, wanted)?;
+    Ok(1)
 }
 
-// An argument of a constant whose category, of `size` cells, was found at the next level: that category and the wanted one, compared.
+// An argument of a constant whose category was found at the next level: that category and the wanted one, compared; or the refusal of
+// the search. Returns how many cells the argument has.
 pub fn argument_fits(
     table: &[u32],
     terms: &[Cell],
     w: &mut [Cell],
     limit: usize,
     budget: &mut u32,
-    size: usize,
+    found: Result<Found, Reason>,
     level: usize,
     wanted: Wanted,
-) -> Result<(), Reason>
+) -> Result<usize, Reason>
     requires { level + 2 < levels }
-    ensures { ArgumentFitsPost table.now terms.now w.old limit 0 size budget.old level
+    ensures { ArgumentFitsPost table.now terms.now w.old limit (code_in found) (found_size found) budget.old level
         wanted.entry.line wanted.entry.base wanted.entry.count wanted.entry.starts.now
-        w.new (code_in result) budget.new }
+        w.new (code_in result) budget.new
+        × IfOk result (λ extent. extent ≡ found_extent found) }
 {
+    let Found { size, extent } = found?;
     let at = level_at(limit, level + 1);
     if wanted.seen_at(table, terms, w, w, at, size) {
-        return Ok(());
+        return Ok(extent);
     }
-    compare_wanted(table, terms, w, limit, budget, level, wanted)
+    compare_wanted(table, terms, w, limit, budget, level, wanted)?;
+    Ok(extent)
 }

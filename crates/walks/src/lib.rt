@@ -5,21 +5,19 @@
 ghost use Rattle.std.specs.Prelude.{◌≡◌, ◌+◌, ◌^◌, ◌<◌};
 ghost use Rattle.aut68.specs.Bytes.{same_bytes};
 ghost use Rattle.kinds.specs.Kinds.{KindsTable};
-ghost use Rattle.kinds.specs.Numbers.{numbers};
 ghost use Rattle.names.specs.Search.{Gives};
 ghost use Rattle.walks.specs.Walk.{title_of};
 ghost use Rattle.walks.specs.Posts.{StepPassed, Walked};
 
 use constants::CELL_VALUES;
 use headings::{Sign, line_end, sign_line, sign_of};
-use kinds::Kind;
 use symbols::same_bytes;
 
 // Is the word the name of the paragraph that the line opens (title_of)?
-fn titled(line: &[u8], kinds: &[Kind; 256], word: &[u8]) -> bool
-    ensures { KindsTable (numbers kinds.now) → result ≡ same_bytes word.now (title_of line.now) }
+fn titled(line: &[u8], kinds: &[u8; 256], word: &[u8]) -> bool
+    ensures { KindsTable kinds.now → result ≡ same_bytes word.now (title_of line.now) }
 {
-    match sign_line(line, kinds, Sign::Opens) {
+    match sign_line(line, kinds, Sign::Opens.into()) {
         Some(name) => same_bytes(word, &line[name.start..name.start + name.len]),
         None => word.is_empty(),
     }
@@ -34,9 +32,9 @@ enum Step {
 }
 
 // One line further.
-fn pass(line: &[u8], kinds: &[Kind; 256], word: &[u8], deep: usize, count: usize) -> Step
+fn pass(line: &[u8], kinds: &[u8; 256], word: &[u8], deep: usize, count: usize) -> Step
     requires { (deep + 1 < 2 ^ 64) × (count + 1 < 2 ^ 64) }
-    ensures { StepPassed (numbers kinds.now) line.now word.now deep count result }
+    ensures { StepPassed kinds.now line.now word.now deep count result }
 {
     match sign_of(line, kinds) {
         Some(Sign::Opens) => {
@@ -60,13 +58,13 @@ fn pass(line: &[u8], kinds: &[Kind; 256], word: &[u8], deep: usize, count: usize
 // having been opened before them.
 pub fn walk(
     book: &[u8],
-    kinds: &[Kind; 256],
+    kinds: &[u8; 256],
     from: usize,
     to: usize,
     q: usize,
     word: &[u8],
 ) -> Option<usize>
-    ensures { Gives (Walked (numbers kinds.now) book.now from to q word.now) result }
+    ensures { Gives (Walked kinds.now book.now from to q word.now) result }
 {
     if q >= CELL_VALUES {
         return None;

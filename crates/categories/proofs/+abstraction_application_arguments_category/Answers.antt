@@ -9,7 +9,6 @@ use Rattle.levels.proofs.Instances.{constant_refused}
 use Rattle.levels.proofs.Functions.{function_refused}
 use Rattle.levels.proofs.Types.{type_refused}
 use Rattle.levels.proofs.Bindings.{over_refused}
-use Rattle.typing.proofs.Fitting.{fits_refused}
 use Rattle.typing.proofs.Applications.{applied_refused}
 use Rattle.categories.proofs.KindLaws.{category_deep, category_empty, by_variable_lem, by_bound_lem, by_alone, by_constant_lem, by_application_lem, by_abstraction_lem, by_nothing}
 use Rattle.categories.proofs.ArgumentLaws.{argument_none, argument_stored, argument_other}
@@ -19,7 +18,7 @@ use Rattle.categories.proofs.Strings.{ArgumentPost}
 use Rattle.categories.proofs.Turns.{turns_start, turns_more, turns_stop, turns_end}
 use Prim.Native.Nat.{ℕ}
 use Rattle.categories.proofs.+abstraction_application_arguments_category.Goals as goal
-use Rattle.categories.proofs.+abstraction_application_arguments_category.Goals.{arguments-Joined-is_stored, arguments-then-is_stored+in_ok-stored_fits, arguments-else-is_stored+in_ok-found+in_ok-argument_fits}
+use Rattle.categories.proofs.+abstraction_application_arguments_category.Goals.{arguments-Joined-is_stored, arguments-then-is_stored+in_ok-n, arguments-else-is_stored+in_ok-n-2}
 
 -- the argument at hand, by whichever way
 arguments-fitted : (t : ℕ) (c : arguments-Joined-is_stored t)
@@ -31,12 +30,12 @@ arguments-fitted : (t : ℕ) (c : arguments-Joined-is_stored t)
     × (length c.if-is_stored.w ≡ length g.w))
 arguments-fitted t c = (
   elim c.if-is_stored.branch [
-    | arguments-then-is_stored+in_ok-stored_fits w ↦
-        rw (w.w-is, w.n-is, w.budget-is) (argument_stored w.in_ok-stored_fits.ensures
+    | arguments-then-is_stored+in_ok-n w ↦
+        rw (w.w-is, w.n-is, w.in_ok-n.ensures.1, w.budget-is) (argument_stored w.in_ok-n.ensures.0
         (omega (arith, part_length c.args.s.now c.loop-i.at, c.in-Some.ensures.lookup.3.0))
         (c.in-Some.ensures.lookup.3.1 0 ∙ sym (part_first c.args.s.now c.loop-i.at)) refl c.is_stored.ensures w.if-is_stored.true)
-    | arguments-else-is_stored+in_ok-found+in_ok-argument_fits w ↦
-        rw (w.w-is, w.n-is, w.budget-is) (argument_other w.in_ok-found.ensures w.in_ok-argument_fits.ensures)
+    | arguments-else-is_stored+in_ok-n-2 w ↦
+        rw (w.w-is, w.n-is, w.in_ok-n-2.ensures.1, w.budget-is) (argument_other w.category-found.ensures w.in_ok-n-2.ensures.0)
   ],
   c.if-is_stored.auto.w,
 )
@@ -87,24 +86,18 @@ arguments-returns-in_default t c =
     c.context_variable-line.ensures (λ h. c.level_at-base.ensures h (omega (arith, c.requires)))
     (argument_none (omega (arith, part_length c.args.s.now c.loop-i.at, c.in_default.ensures.lookup.3))) (code_nonzero _)
 
-pub arguments-returns-in_err-stored_fits : goal.arguments-returns-in_err-stored_fits
-arguments-returns-in_err-stored_fits t c =
+pub arguments-returns-in_err-n : goal.arguments-returns-in_err-n
+arguments-returns-in_err-n t c =
     rw (passed_on _ _ c.from_residual.ensures.1) (turns_stop c.requires.1 c.loop-i.invariant.1 c.field-count.ensures.0 c.loop-i-test.true c.context_of.ensures
     c.context_variable-line.ensures (λ h. c.level_at-base.ensures h (omega (arith, c.requires)))
-    (argument_stored c.in_err-stored_fits.ensures (omega (arith, part_length c.args.s.now c.loop-i.at, c.in-Some.ensures.lookup.3.0))
+    (argument_stored c.in_err-n.ensures.0 (omega (arith, part_length c.args.s.now c.loop-i.at, c.in-Some.ensures.lookup.3.0))
     (c.in-Some.ensures.lookup.3.1 0 ∙ sym (part_first c.args.s.now c.loop-i.at)) refl c.is_stored.ensures c.if-is_stored.true) (refusal_nonzero _))
 
-pub arguments-returns-in_err-found : goal.arguments-returns-in_err-found
-arguments-returns-in_err-found t c =
-    rw (passed_on _ _ c.from_residual-in_err-found.ensures.1) (turns_stop c.requires.1 c.loop-i.invariant.1 c.field-count.ensures.0 c.loop-i-test.true c.context_of.ensures
+pub arguments-returns-in_err-n-2 : goal.arguments-returns-in_err-n-2
+arguments-returns-in_err-n-2 t c =
+    rw (passed_on _ _ c.from_residual-in_err-n-2.ensures.1) (turns_stop c.requires.1 c.loop-i.invariant.1 c.field-count.ensures.0 c.loop-i-test.true c.context_of.ensures
     c.context_variable-line.ensures (λ h. c.level_at-base.ensures h (omega (arith, c.requires)))
-    (argument_other c.in_err-found.ensures (fits_refused (refusal_nonzero _))) (refusal_nonzero _))
-
-pub arguments-returns-in_err-argument_fits : goal.arguments-returns-in_err-argument_fits
-arguments-returns-in_err-argument_fits t c =
-    rw (passed_on _ _ c.from_residual-in_err-argument_fits.ensures.1) (turns_stop c.requires.1 c.loop-i.invariant.1 c.field-count.ensures.0 c.loop-i-test.true c.context_of.ensures
-    c.context_variable-line.ensures (λ h. c.level_at-base.ensures h (omega (arith, c.requires)))
-    (argument_other c.in_ok-found.ensures c.in_err-argument_fits.ensures) (refusal_nonzero _))
+    (argument_other c.category-found.ensures c.in_err-n-2.ensures.0) (refusal_nonzero _))
 
 pub arguments-loop-i-preserved : goal.arguments-loop-i-preserved
 arguments-loop-i-preserved t c = (

@@ -1,24 +1,23 @@
 use mathlib.Core.Path.{sym, ◌∙◌}
 use Rattle.aut68.specs.Bytes.{word_type, word_pn, word_eb}
-use Rattle.symbols.proofs.SameLaws.{same_word}
 use Rattle.symbols.proofs.WordLaws.{reserved_type, reserved_pn, reserved_eb}
 use Rattle.symbols.proofs.is_reserved.Goals as goal
-use Rattle.symbols.proofs.is_reserved.Goals.{then-eq, else-eq}
+use Rattle.symbols.proofs.is_reserved.Goals.{then-same_word, else-same_word}
 
-pub returns-then-eq-2 : goal.returns-then-eq-2
+pub returns-then-same_word-2 : goal.returns-then-same_word-2
 unfolding word_type word_pn word_eb
-returns-then-eq-2 c =
-    elim c.if-eq.branch [
-      | then-eq w ↦ c.if-eq-2.true ∙ sym (reserved_type _ (sym (same_word _ c.eq.ensures c.as_slice.ensures) ∙ w.if-eq.true))
-      | else-eq w ↦ c.if-eq-2.true
-          ∙ sym (reserved_pn _ (sym (same_word _ c.eq.ensures c.as_slice.ensures) ∙ w.if-eq.false) (sym (same_word _ w.eq-else-eq.ensures w.as_slice-else-eq.ensures) ∙ sym w.value-is ∙ c.if-eq-2.true))
+returns-then-same_word-2 c =
+    elim c.if-same_word.branch [
+      | then-same_word w ↦ c.if-same_word-2.true ∙ sym (reserved_type _ (sym c.same_word.ensures ∙ w.if-same_word.true))
+      | else-same_word w ↦ c.if-same_word-2.true
+          ∙ sym (reserved_pn _ (sym c.same_word.ensures ∙ w.if-same_word.false) (sym w.same_word-else-same_word.ensures ∙ sym w.value-is ∙ c.if-same_word-2.true))
     ]
 
-pub returns-else-eq-2 : goal.returns-else-eq-2
+pub returns-else-same_word-2 : goal.returns-else-same_word-2
 unfolding word_type word_pn word_eb
-returns-else-eq-2 c =
-    elim c.if-eq.branch [
-      | then-eq w ↦ absurd (cc (sym w.value-is ∙ c.if-eq-2.false))
-      | else-eq w ↦ same_word _ c.eq-else-eq-2.ensures c.as_slice-else-eq-2.ensures
-          ∙ sym (reserved_eb _ (sym (same_word _ c.eq.ensures c.as_slice.ensures) ∙ w.if-eq.false) (sym (same_word _ w.eq-else-eq.ensures w.as_slice-else-eq.ensures) ∙ sym w.value-is ∙ c.if-eq-2.false))
+returns-else-same_word-2 c =
+    elim c.if-same_word.branch [
+      | then-same_word w ↦ absurd (cc (sym w.value-is ∙ c.if-same_word-2.false))
+      | else-same_word w ↦ c.same_word-else-same_word-2.ensures
+          ∙ sym (reserved_eb _ (sym c.same_word.ensures ∙ w.if-same_word.false) (sym w.same_word-else-same_word.ensures ∙ sym w.value-is ∙ c.if-same_word-2.false))
     ]

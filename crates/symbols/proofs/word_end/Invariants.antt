@@ -1,6 +1,5 @@
-use Rattle.kinds.specs.Numbers.{numbers}
 use Rattle.symbols.proofs.WordLaws.{WordSoFar}
 use Rattle.symbols.proofs.word_end.Given as goal
 
 abbrev pub invariant-loop-i : goal.invariant-loop-i
-invariant-loop-i l = WordSoFar (numbers l.kinds) l.line l.at l.i
+invariant-loop-i l = WordSoFar l.kinds l.line l.at l.i

@@ -4,7 +4,11 @@ use Rattle.walks.proofs.LineLaws.{title_read, title_missing}
 use Rattle.walks.proofs.titled.Goals as goal
 
 pub returns-in-Some : goal.returns-in-Some
-returns-in-Some c = λ t. c.same_bytes.ensures ∙ ap (same_bytes _) (title_read c.in-Some.ensures.1 t)
+returns-in-Some c = λ t.
+    let s = rw c.into.ensures at c.in-Some.ensures.1 in
+    c.same_bytes.ensures ∙ ap (same_bytes _) (title_read s t)
 
 pub returns-in-None : goal.returns-in-None
-returns-in-None c = λ t. c.is_empty.ensures ∙ title_missing c.in-None.ensures t _
+returns-in-None c = λ t.
+    let s = rw c.into.ensures at c.in-None.ensures in
+    c.is_empty.ensures ∙ title_missing s t _

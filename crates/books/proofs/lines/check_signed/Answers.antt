@@ -12,4 +12,4 @@ pub slice_bounds-paragraph_line-end-2 : goal.slice_bounds-paragraph_line-end-2
 slice_bounds-paragraph_line-end-2 c = sym (length-take-le _ _ (omega arith))
 
 pub returns : goal.returns
-returns c = λ enough. moved_part c.paragraph_line.new.w _ (length-take-le _ _ enough) c.paragraph_line.ensures
+returns c = λ enough. moved_part c.paragraph_line.new.w _ (length-take-le _ _ enough) (rw c.into.ensures at c.paragraph_line.ensures)

@@ -23,14 +23,14 @@ pub abstraction-returns-in_default-name_at : goal.abstraction-returns-in_default
 abstraction-returns-in_default-name_at t c =
     refused_here _
     (abstraction_unnamed c.requires.0 c.requires.1 c.requires.2 c.in-Some.ensures.past c.in-Some.ensures.inside
-    c.in_default-name_at.ensures.1 refl (stopped _ _ _))
+    c.in_default-name_at.ensures refl (stopped _ _ _))
     (sym code_malformed) c.requires.1
 
 pub abstraction-returns-in_default-symbol : goal.abstraction-returns-in_default-symbol
 abstraction-returns-in_default-symbol t c =
     refused_here _
     (abstraction_no_comma c.requires.0 c.requires.1 c.requires.2 c.in-Some.ensures.past c.in-Some.ensures.inside
-    c.in-Some-name_at.ensures.1 c.in-Some-name_at.ensures.0 c.in_default-symbol.ensures.past (omega arith) (stopped _ _ _))
+    c.in-Ok.ensures.1 c.in-Ok.ensures.0 c.in_default-symbol.ensures.past (omega arith) (stopped _ _ _))
     (sym code_malformed) c.requires.1
 
 pub abstraction-returns-in_err-a : goal.abstraction-returns-in_err-a
@@ -39,7 +39,7 @@ abstraction-returns-in_err-a t c =
     rw (p.1, p.2)
     (refused_here _
     (abstraction_first_refused c.requires.0 c.requires.1 c.requires.2 c.in-Some.ensures.past c.in-Some.ensures.inside
-    c.in-Some-name_at.ensures.1 c.in-Some-name_at.ensures.0 c.in-Some-symbol.ensures.past c.in-Some-symbol.ensures.inside c.put-cell.ensures
+    c.in-Ok.ensures.1 c.in-Ok.ensures.0 c.in-Some-symbol.ensures.past c.in-Some-symbol.ensures.inside c.put-cell.ensures
     c.nest-level.ensures c.in_err-a.ensures (code_nonzero _))
     refl c.requires.1)
 
@@ -47,7 +47,7 @@ pub abstraction-returns-in_default-symbol-2 : goal.abstraction-returns-in_defaul
 abstraction-returns-in_default-symbol-2 t c =
     refused_here _
     (abstraction_unclosed c.requires.0 c.requires.1 c.requires.2 c.in-Some.ensures.past c.in-Some.ensures.inside
-    c.in-Some-name_at.ensures.1 c.in-Some-name_at.ensures.0 c.in-Some-symbol.ensures.past c.in-Some-symbol.ensures.inside c.put-cell.ensures
+    c.in-Ok.ensures.1 c.in-Ok.ensures.0 c.in-Some-symbol.ensures.past c.in-Some-symbol.ensures.inside c.put-cell.ensures
     c.nest-level.ensures c.in_ok-a.ensures refl c.in_default-symbol-2.ensures.past
     (omega arith) (stopped _ _ _))
     (sym code_malformed) c.requires.1
@@ -56,7 +56,7 @@ pub abstraction-returns : goal.abstraction-returns
 abstraction-returns t c =
     walked_here _ _ c.expression-2.result
     (abstraction_read c.requires.0 c.requires.1 c.requires.2 c.in-Some.ensures.past c.in-Some.ensures.inside
-    c.in-Some-name_at.ensures.1 c.in-Some-name_at.ensures.0 c.in-Some-symbol.ensures.past c.in-Some-symbol.ensures.inside c.put-cell.ensures
+    c.in-Ok.ensures.1 c.in-Ok.ensures.0 c.in-Some-symbol.ensures.past c.in-Some-symbol.ensures.inside c.put-cell.ensures
     c.nest-level.ensures c.in_ok-a.ensures refl c.in-Some-symbol-2.ensures.past c.in-Some-symbol-2.ensures.inside
     c.bind-inner.ensures c.expression-2.ensures)
     c.requires.1

@@ -1,7 +1,6 @@
 use Rattle.aut68.specs.Sizes.{nesting}
 use Prim.Native.Nat.{◌+◌, ◌*◌, ◌-◌}
 use lib.ListN.{length}
-use Rattle.kinds.specs.Numbers.{numbers}
 use Rattle.expressions.specs.Walk.{fault_in}
 use Rattle.expressions.specs.Posts.{go_on}
 use Rattle.expressions.proofs.ArgumentLaws.{ArgumentsSoFar}
@@ -23,7 +22,7 @@ abbrev pub decreases-named : goal.decreases-named
 decreases-named l = 3 * (nesting + 1 - l.scope.depth) - 1
 
 abbrev pub invariant-arguments-loop-a : goal.invariant-arguments-loop-a
-invariant-arguments-loop-a l = ArgumentsSoFar (numbers l.around.kinds.now) l.line l.inner l.around.book.now l.around.table.now l.around.lines l.around.indicator l.initial.w l.w (go_on l.from l.to (fault_in l.fn.fault)) l.at l.cell (fault_in l.found) l.count
+invariant-arguments-loop-a l = ArgumentsSoFar l.around.kinds.now l.line l.inner l.around.book.now l.around.table.now l.around.lines l.around.indicator l.initial.w l.w (go_on l.from l.to (fault_in l.fn.fault)) l.at l.cell (fault_in l.found) l.count
 
 abbrev pub decreases-arguments-loop-a : goal.decreases-arguments-loop-a
 decreases-arguments-loop-a l = length l.line - l.at

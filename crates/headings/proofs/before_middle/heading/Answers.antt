@@ -12,25 +12,24 @@ pub returns-in_err-star : goal.returns-in_err-star
 returns-in_err-star c =
     head_none _ c.from_residual-in_err-star.ensures (heading_no_star c.in_ok-prefix.ensures c.in_err-star.ensures.past (omega arith))
 
-pub returns-in_err-identifier : goal.returns-in_err-identifier
-returns-in_err-identifier c =
-    head_none _ c.from_residual-in_err-identifier.ensures
-    (heading_no_name c.in_ok-prefix.ensures c.in_ok-star.ensures.past c.in_ok-star.ensures.inside c.in_err-identifier.ensures.1 refl)
+pub returns-in_default : goal.returns-in_default
+returns-in_default c =
+    heading_no_name c.in_ok-prefix.ensures c.in_ok-star.ensures.past c.in_ok-star.ensures.inside c.in_default.ensures refl
 
 pub returns-in_err-colon : goal.returns-in_err-colon
 returns-in_err-colon c =
-    let (m, n) = c.in_ok-identifier.ensures in
+    let (m, n) = c.in-Ok.ensures in
     head_none _ c.from_residual-in_err-colon.ensures
     (heading_no_colon c.in_ok-prefix.ensures c.in_ok-star.ensures.past c.in_ok-star.ensures.inside n m c.in_err-colon.ensures.past (omega arith))
 
 pub returns-then-ne : goal.returns-then-ne
 returns-then-ne c =
-    let (m, n) = c.in_ok-identifier.ensures in
+    let (m, n) = c.in-Ok.ensures in
     heading_no_equals c.in_ok-prefix.ensures c.in_ok-star.ensures.past c.in_ok-star.ensures.inside n m
     c.in_ok-colon.ensures.past c.in_ok-colon.ensures.inside c.kind_at.ensures (unequal_number _ Equals (sym c.if-ne.ensures))
 
 pub returns : goal.returns
 returns c =
-    let (m, n) = c.in_ok-identifier.ensures in
+    let (m, n) = c.in-Ok.ensures in
     heading_read c.in_ok-prefix.ensures c.in_ok-star.ensures.past c.in_ok-star.ensures.inside n m
     c.in_ok-colon.ensures.past c.in_ok-colon.ensures.inside c.kind_at.ensures (equal_number _ Equals (sym c.if-ne.ensures))

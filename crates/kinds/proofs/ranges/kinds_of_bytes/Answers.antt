@@ -27,5 +27,5 @@ fill-requires-3 c = (rw (c.fill-2.ensures, c.fill.ensures) refl, omega arith)
 pub returns : goal.returns
 unfolding kind_of place_or0 name_byte
 returns c =
-    rw (c.fill-3.ensures, c.fill-2.ensures, c.fill.ensures)
+    rw (c.fill-3.ensures, c.fill-2.ensures, c.fill.ensures, c.into-kinds.ensures, c.into.ensures, c.into-2.ensures, c.into-3.ensures, c.into-4.ensures, c.into-5.ensures, c.into-6.ensures, c.into-7.ensures, c.into-8.ensures, c.into-9.ensures, c.into-10.ensures, c.into-11.ensures, c.into-12.ensures, c.into-13.ensures, c.into-14.ensures, c.into-15.ensures, c.into-16.ensures)
     (tested _ tt (lib.Dec.lit≤ tt))
