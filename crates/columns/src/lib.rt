@@ -9,6 +9,19 @@ use std::fmt;
 // The bytes of a row with its end.
 pub const ROW: usize = 25;
 
+// Numbers side by side, each laid out as the placeholder of them all says.
+#[derive(Clone, Copy)]
+struct Columns<const N: usize>([usize; N]);
+
+impl<const N: usize> fmt::Display for Columns<N> {
+    fn fmt<W: fmt::Write>(&self, f: &mut fmt::Formatter<W>) -> fmt::Result {
+        for number in &self.0 {
+            fmt::Display::fmt(number, f)?;
+        }
+        Ok(())
+    }
+}
+
 // The row of a recorded line: line, kind, context length, cells of the middle.
 #[derive(Clone, Copy)]
 pub struct LineRow {
@@ -40,7 +53,7 @@ impl fmt::Display for LineRow {
             context,
             middle,
         } = *self;
-        write!(f, "{line:>6}{kind:>6}{context:>6}{middle:>6}")
+        write!(f, "{:>6}", Columns([line, kind, context, middle]))
     }
 }
 

@@ -5,11 +5,29 @@ use columns::{LineRow, OutcomeRow, ROW};
 use constants::{Cell, OUT_OF_SPACE, ROW_WIDTH, WORK_UNITS};
 use outcomes::{Numbers, recorded};
 use programs::{BUDGET, BYTES, INDEX, LIMIT, LINES, TERMS, fail, read_book, write_first};
-use std::io;
-use std::io::{Cursor, Read, Write};
+use std::fmt::Write as _;
+use std::io::{Read, Write};
+use std::{fmt, io};
+
+// Rows from the start of a store on, `length` bytes so far. A text that it has no room for is refused whole.
+#[derive(Drop)]
+struct Rows<'a> {
+    store: &'a mut [u8],
+    length: usize,
+}
+
+impl fmt::Write for Rows<'_> {
+    fn write_str(&mut self, text: &str) -> fmt::Result {
+        let rest = self.store.get_mut(self.length..).ok_or(fmt::Error)?;
+        let place = rest.get_mut(..text.len()).ok_or(fmt::Error)?;
+        place.copy_from_slice(text.as_bytes());
+        self.length += text.len();
+        Ok(())
+    }
+}
 
 // Writes the listing of a book.
-fn write_listing<W: Write>(to: &mut W, book: &[u8]) -> io::Result<()> {
+fn write_listing(to: &mut Rows<'_>, book: &[u8]) -> fmt::Result {
     if book.len() > BYTES {
         let r = Numbers {
             code: OUT_OF_SPACE,
@@ -46,8 +64,11 @@ pub fn list_book<E: Eprint, R: Read, W: Write>(rt: &E, from: &mut R, to: &mut W)
         Err(cut) => return fail(rt, "reading the book", cut.error),
     };
     let mut rows = [0u8; ROW * (LINES + 1)];
-    let mut listing = Cursor::new(&mut rows[..]);
+    let mut listing = Rows {
+        store: &mut rows,
+        length: 0,
+    };
     write_listing(&mut listing, &book[..n])?;
-    let length = listing.position() as usize;
+    let length = listing.length;
     write_first(to, &rows, length)
 }
