@@ -9,11 +9,11 @@ use std::fmt;
 // The bytes of a row with its end.
 pub const ROW: usize = 25;
 
-// Numbers side by side, each laid out as the placeholder of them all says.
+// The numbers of a row, each laid out as the placeholder of them all says: its options are set once a row.
 #[derive(Clone, Copy)]
-struct Columns<const N: usize>([usize; N]);
+struct Columns([usize; 4]);
 
-impl<const N: usize> fmt::Display for Columns<N> {
+impl fmt::Display for Columns {
     fn fmt<W: fmt::Write>(&self, f: &mut fmt::Formatter<W>) -> fmt::Result {
         for number in &self.0 {
             fmt::Display::fmt(number, f)?;
@@ -47,13 +47,8 @@ impl LineRow {
 
 impl fmt::Display for LineRow {
     fn fmt<W: fmt::Write>(&self, f: &mut fmt::Formatter<W>) -> fmt::Result {
-        let LineRow {
-            line,
-            kind,
-            context,
-            middle,
-        } = *self;
-        write!(f, "{:>6}", Columns([line, kind, context, middle]))
+        let numbers = [self.line, self.kind, self.context, self.middle];
+        write!(f, "{:>6}", Columns(numbers))
     }
 }
 
